@@ -1,0 +1,4 @@
+-- The laws of sums, tests and tables.
+pub mod Sum
+pub mod Any
+pub mod Tab

@@ -1,0 +1,34 @@
+-- The laws of tables: length, entries, and when a list is one. Assumes nothing.
+use mathlib.Core.Path.{_≡_, refl, sym, ap₂, _∙_}
+use mathlib.Core.List.{List, [], _∷_}
+use Prim.Native.Nat.{ℕ, zero, suc, _<_}
+use native.Mathlib.Omega.{arith}
+use native.Mathlib.Decide.{ℕ-discrete}
+use lib.ListN.{length, length-append, List·getD-append}
+use lib.Seq.{getD-at}
+use Rattle.bounded.specs.Bounded.{at, tab}
+
+pub length-tab : (n : ℕ) (f : ℕ → ℕ) → length (tab n f) ≡ n
+unfolding tab
+length-tab zero f = refl
+length-tab (suc n) f = simp (length-append, length-tab n f) (omega arith)
+
+pub tab-at : (n : ℕ) (f : ℕ → ℕ) (i : ℕ) → i < n → at (tab n f) i ≡ f i
+unfolding tab
+tab-at zero f i l = absurd (omega arith)
+tab-at (suc n) f i l = elim (ℕ-discrete i n) [
+  | yes e ↦ rw e (getD-at (tab n f) (f n) [] 0 n (length-tab n f))
+  | no e ↦ List·getD-append (tab n f) _ 0 i (omega (arith, length-tab n f)) ∙ tab-at n f i (omega arith)
+]
+
+-- two lists of one length with the same bytes are one
+pub list-eq : (v w : List ℕ) → length v ≡ length w → ((i : ℕ) → i < length v → at v i ≡ at w i) → v ≡ w
+list-eq [] [] e h = refl
+list-eq [] (b ∷ w) e h = absurd (omega arith)
+list-eq (a ∷ v) [] e h = absurd (omega arith)
+list-eq (a ∷ v) (b ∷ w) e h = ap₂ _∷_ (h 0 (omega arith)) (list-eq v w (omega arith) λ i l. h (suc i) (omega arith))
+
+-- a list of n bytes that are those of f is the table of f
+pub tab-is : (n : ℕ) (f : ℕ → ℕ) (l : List ℕ) → length l ≡ n → ((i : ℕ) → i < n → at l i ≡ f i) → l ≡ tab n f
+tab-is n f l e h = list-eq l (tab n f) (e ∙ sym (length-tab n f)) λ i m.
+    let k : i < n = omega arith in h i k ∙ sym (tab-at n f i k)

@@ -1,0 +1,91 @@
+-- A prime modulus has no divisors of zero (Euclid's lemma, by descent), its residues are cancelled and have one inverse each; the test says what is prime. Assumes nothing.
+use mathlib.Core.Logic.{_≢_}
+use mathlib.Core.Path.{_≡_, refl, sym, ap, _∙_}
+use mathlib.Core.Bool.{Bool, true, false, not, _&&_, true≢false, false≢true}
+use Prim.Native.Nat.{ℕ, zero, suc, _+_, _*_, _-_, _/_, _%_, _≤_, _<_}
+use native.Mathlib.Omega.{arith}
+use native.Mathlib.Nat.{div-add-mod, mod-lt, mod-eq-of-lt, zero-mod, mul-le-mul, mul-le-mul-left, mul-mod-left}
+use native.Mathlib.Decide.{ℕ-discrete, decLe}
+use lib.Dec.{eqb, leb}
+use borrow.Author.Tests.{eq-eqb, eqb-false, ne-eqb, le-leb, leb-true, lt-leb}
+use Rattle.bounded.specs.Bounded.{any}
+use Rattle.bounded.proofs.Any.{any-none, none-any}
+use Rattle.field.specs.Congruence.{Cong}
+use Rattle.field.specs.Prime.{divided, isPrime, Prime, Inverse}
+use Rattle.field.proofs.Congruence.{same, ~sym, _⨾_, ~add, ~mul, ~mul-right, less, rest, remainder, below-eq, difference, to-mod, of-mod, nonzero}
+
+-- no number from 2 below m divides p
+abbrev pub Alone : (p m : ℕ) → Type 0
+Alone p m = (a : ℕ) → 2 ≤ a → a < m → p % a ≢ 0
+
+-- a divisor from the root on has a partner below it
+pub below-root : (p s : ℕ) → p < s * s → Alone p s → Alone p p
+below-root p s h d a i l z = elim (decLe s a) [
+  | no k ↦ d a i (omega arith) z
+  | yes k ↦ elim (decLe s (p / a)) [
+    | yes m ↦ omega (arith, mul-le-mul k m, div-add-mod p a)
+    | no m ↦ elim (decLe 2 (p / a)) [
+      | yes o ↦ d (p / a) o (omega arith) (ap (λ t. t % (p / a)) e ∙ mul-mod-left a (p / a))
+      | no o ↦ omega (arith, mul-le-mul-left {m = p / a} {n = 1} a (omega arith), e)
+    ]
+  ]
+]
+  where
+    e : p ≡ a * (p / a)
+    e = omega (arith, div-add-mod p a)
+
+-- the test and the facts
+pub is-prime : (p : ℕ) → isPrime p ≡ true → Prime p
+unfolding isPrime
+is-prime p e = go (leb 2 p) (divided p (p - 2)) refl refl e
+  where
+    go : (a b : Bool) → leb 2 p ≡ a → divided p (p - 2) ≡ b → a && not b ≡ true → Prime p
+    go true false h n e = record {
+      least = leb-true _ _ h;
+      alone = λ a l m z.
+          let q : 2 + (a - 2) ≡ a = omega arith in
+          eqb-false _ _ (any-none (p - 2) (λ i. eqb (p % (2 + i)) 0) n (a - 2) (omega arith)) (ap (λ t. p % t) q ∙ z);
+    }
+    go true true h n e = absurd (false≢true e)
+    go false b h n e = absurd (false≢true e)
+
+pub prime-is : (p : ℕ) → Prime p → isPrime p ≡ true
+unfolding isPrime
+prime-is p r = rw (le-leb 2 p (r .least), none-any (p - 2) (λ i. eqb (p % (2 + i)) 0) λ i l. ne-eqb _ _ (r .alone (2 + i) (omega arith) (omega (arith, r .least))))
+
+module _ {q : ℕ} (prime : Prime (suc q)) where
+  euclid : (f a b : ℕ) → a ≤ f → 0 < a → a < suc q → Cong q (a * b) 0 → Cong q b 0
+  euclid zero a b h i l z = absurd (omega arith)
+  euclid (suc f) a b h i l z = elim (ℕ-discrete a 1) [
+    | yes e ↦ same (omega (arith, ap (λ t. t * b) e)) ⨾ z
+    | no e ↦ euclid f (suc q % a) b (omega (arith, mod-lt (suc q) i)) (omega (arith, prime .alone a (omega arith) l)) (omega (arith, mod-lt (suc q) i))
+        (rest {a = suc q * b} {b = suc q / a * (a * b)} (same (omega (arith, ap (λ t. t * b) (div-add-mod (suc q) a)))) (less b (omega arith)) (~mul (suc q / a) z ⨾ same (omega arith)))
+  ]
+
+  -- Euclid's lemma
+  pub divide-out : (a b : ℕ) → ¬ (Cong q b 0) → Cong q (a * b) 0 → Cong q a 0
+  divide-out a b nz z = elim (ℕ-discrete (b % suc q) 0) [
+    | yes e ↦ absurd (nz (~sym (remainder b) ⨾ same e))
+    | no e ↦ euclid (suc q) (b % suc q) a (omega (arith, mod-lt b {m = suc q} (omega arith))) (omega arith) (mod-lt b (omega arith)) (same (omega arith) ⨾ ~mul a (remainder b) ⨾ z)
+  ]
+
+  pub no-zero-divisors : (a b : ℕ) → ¬ (Cong q a 0) → ¬ (Cong q b 0) → ¬ (Cong q (a * b) 0)
+  no-zero-divisors a b na nb z = na (divide-out a b nb z)
+
+  -- a common factor is cancelled
+  pub cancel-factor : (a b c : ℕ) → ¬ (Cong q c 0) → Cong q (a * c) (b * c) → Cong q a b
+  cancel-factor a b c nz h = difference a b (divide-out (a + q * b) c nz (same (omega arith) ⨾ ~add h (same {a = q * (b * c)} refl) ⨾ less (b * c) (omega arith)))
+
+  -- the difference of two unlike residues is no divisor of zero
+  pub apart : (a b m : ℕ) → a < suc q → b < suc q → a ≢ b → Cong q ((a + q * b) * m) 0 → Cong q m 0
+  apart a b m i l n z = divide-out m (a + q * b) (λ k. n (below-eq i l (difference a b k))) (same (omega arith) ⨾ z)
+
+  -- an inverse is the only one
+  pub inverse-one : {a r s : ℕ} → Inverse (suc q) a r → Inverse (suc q) a s → r ≡ s
+  inverse-one {a} {r} {s} i j = below-eq (i .below) (j .below) (cancel-factor r s a nz (of-mod (r * a) (s * a) (i .one ∙ sym (j .one))))
+    where
+      nz : ¬ (Cong q a 0)
+      nz z = false-one (to-mod (~mul r z))
+        where
+          false-one : r * a % suc q ≡ r * 0 % suc q → ⊥
+          false-one e = let z : r * 0 ≡ 0 = omega arith in omega (arith, i .one, e, ap (λ t. t % suc q) z, zero-mod (suc q))

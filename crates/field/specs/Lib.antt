@@ -1,0 +1,3 @@
+-- Numbers modulo a prime.
+pub mod Congruence
+pub mod Prime

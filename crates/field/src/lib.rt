@@ -1,0 +1,1 @@
+// Numbers modulo a prime.
