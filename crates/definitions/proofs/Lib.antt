@@ -1,0 +1,2 @@
+-- What follows from the definitions of document 01.
+pub mod Cases

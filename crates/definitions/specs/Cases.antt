@@ -1,0 +1,122 @@
+-- Cases a to l of the table "Edges", as rows of one list.
+--
+--   call ⟹ reading leaving bytes    a call, what it returns, and what its last buffer then holds
+--   outcome                          the same by the definitions
+--
+-- What this file is for: the definitions are held against the document's own examples; proofs/Cases.antt computes both sides.
+use mathlib.Core.List.{List, [], _∷_, _++_}
+use Prim.Native.Nat.{ℕ}
+use lib.IntN.{pos}
+use lib.ListN.{replicate, drop}
+use Rattle.bounded.specs.Bounded.{any, tab}
+use Rattle.field.specs.Prime.{isPrime}
+use Rattle.definitions.specs.declared.Reading.{Reading}
+use Rattle.definitions.specs.Refusals.{first}
+use Rattle.definitions.specs.Plan.{checkNumber, planRows}
+use Rattle.definitions.specs.Code.{Code, strip, square, valueX, valueXY, mark}
+use Rattle.definitions.specs.Cost.{margin}
+use Rattle.definitions.specs.Search.{search, firstOf}
+use Rattle.definitions.specs.Calls.{refused, photoRows, readingOf, writeRows, writeNumber, writeBuffer, measureRows, measureNumber, measureReading, within, nearest, readNumber, readReading, readBuffer}
+
+pub data Call : Type 0 where
+  check : (P : List ℕ) → Call
+  write : (C : Code) (P F B : List ℕ) → Call
+  measure : (C : Code) (P s u F : List ℕ) → Call
+  read : (C : Code) (P s u B : List ℕ) → Call
+
+infix 10 _leaving_
+pub data Outcome : Type 0 where
+  _leaving_ : Reading → List ℕ → Outcome
+
+infix 5 _⟹_
+pub data Case : Type 0 where
+  _⟹_ : Call → Outcome → Case
+
+-- whoever unfolds this computes with all that it names
+unfoldable pub outcome : Call → Outcome
+unfolding any tab first isPrime checkNumber planRows valueX valueXY mark margin search firstOf photoRows readingOf
+    writeRows writeNumber writeBuffer measureRows measureNumber measureReading within nearest readNumber readReading readBuffer
+outcome (check P) = refused (checkNumber P) leaving []
+outcome (write C P F B) = refused (writeNumber C P F B) leaving writeBuffer C P F B
+outcome (measure C P s u F) = measureReading C P s u F leaving F
+outcome (read C P s u B) = readReading C P s u B leaving readBuffer C P s u B
+
+abbrev pub call : Case → Call
+call (c ⟹ o) = c
+
+abbrev pub said : Case → Outcome
+said (c ⟹ o) = o
+
+-- D, margin, changed and class of a record
+abbrev gives : ℕ → ℕ → ℕ → ℕ → Reading
+gives D m n k = record { number = 0; cost = D; margin = pos m; changed = n; class = k }
+
+-- a plan of season 12: p, n, d and the first three point bytes
+abbrev plan : ℕ → ℕ → ℕ → ℕ → ℕ → ℕ → List ℕ
+plan p n d x y z = 0 ∷ 12 ∷ p ∷ n ∷ d ∷ x ∷ y ∷ z ∷ replicate 16 0
+
+abbrev pub planA : List ℕ
+planA = plan 7 3 1 1 2 4
+
+abbrev planH : List ℕ
+planH = plan 2 1 0 0 0 0
+
+abbrev planJ : List ℕ
+planJ = plan 2 2 1 0 1 0
+
+-- 3 + X + 2Y, its mark, and the photographs of cases c and d
+abbrev record₁ : List ℕ
+record₁ = 3 ∷ 1 ∷ 2 ∷ []
+
+abbrev pub mark₁ : List ℕ
+mark₁ = 6 ∷ 1 ∷ 5 ∷ 0 ∷ 2 ∷ 6 ∷ 2 ∷ 4 ∷ 1 ∷ []
+
+abbrev pub photoC : List ℕ
+photoC = 0 ∷ 1 ∷ 5 ∷ 0 ∷ 2 ∷ 6 ∷ 2 ∷ 4 ∷ 0 ∷ []
+
+abbrev photoD : List ℕ
+photoD = 0 ∷ 0 ∷ 0 ∷ drop 3 mark₁
+
+-- doubts 0; the mark with its first k cells unread, and its doubts; a buffer of 9s, so that "unchanged" is seen
+abbrev pub sure : ℕ → List ℕ
+sure n = replicate n 0
+
+abbrev hidden : ℕ → List ℕ
+hidden k = replicate k 255 ++ drop k mark₁
+
+abbrev doubts : ℕ → List ℕ
+doubts k = replicate k 100 ++ drop k (sure 9)
+
+abbrev nines : ℕ → List ℕ
+nines n = replicate n 9
+
+abbrev pub cases : List Case
+cases =
+    (write square planA record₁ (nines 9) ⟹ refused 0 leaving mark₁)  -- a
+    ∷ (read square planA mark₁ (sure 9) (nines 3) ⟹ gives 0 600 0 0 leaving record₁)  -- b
+    ∷ (read square planA photoC (sure 9) (nines 3) ⟹ gives 400 200 2 1 leaving record₁)  -- c
+    ∷ (read square planA photoD (sure 9) (nines 3) ⟹ refused 10 leaving nines 3)  -- d
+    ∷ (read square planA photoD (1 ∷ 1 ∷ 1 ∷ sure 6) (nines 3) ⟹ gives 597 3 3 1 leaving record₁)  -- e
+    ∷ (read square planA (hidden 5) (doubts 5) (nines 3) ⟹ gives 500 100 5 2 leaving record₁)  -- f
+    ∷ (read square planA (hidden 6) (doubts 6) (nines 3) ⟹ refused 10 leaving nines 3)  -- g
+    ∷ (read square planH (1 ∷ []) (99 ∷ []) (nines 1) ⟹ gives 99 1 0 0 leaving 1 ∷ [])  -- h
+    ∷ (read square planH (1 ∷ []) (100 ∷ []) (nines 1) ⟹ refused 10 leaving nines 1)  -- i
+    ∷ (read square planJ (1 ∷ sure 3) (sure 4) (nines 3) ⟹ refused 10 leaving nines 3)  -- j
+    ∷ (measure square planJ (1 ∷ sure 3) (sure 4) (0 ∷ 0 ∷ 0 ∷ []) ⟹ gives 200 0 1 1 leaving 0 ∷ 0 ∷ 0 ∷ [])
+    ∷ (measure square planJ (1 ∷ sure 3) (sure 4) (1 ∷ 1 ∷ 0 ∷ []) ⟹ gives 200 0 1 1 leaving 1 ∷ 1 ∷ 0 ∷ [])
+    ∷ (measure square planA photoD (sure 9) record₁ ⟹ gives 600 0 3 1 leaving record₁)  -- k
+    ∷ (check (plan 9 3 1 1 2 4) ⟹ refused 2 leaving [])  -- l
+    ∷ (check (plan 7 3 3 1 2 4) ⟹ refused 4 leaving [])
+    ∷ (check (plan 7 3 1 1 1 4) ⟹ refused 5 leaving [])
+    ∷ []
+
+-- not of the table: a strip written and read, a plan with several faults at once, a record of total degree 2 at the corners
+abbrev pub moreCases : List Case
+moreCases =
+    (write strip planA (3 ∷ 1 ∷ []) (nines 3) ⟹ refused 0 leaving 4 ∷ 5 ∷ 0 ∷ [])
+    ∷ (read strip planA (4 ∷ 5 ∷ 255 ∷ []) (0 ∷ 0 ∷ 100 ∷ []) (nines 2) ⟹ gives 100 100 1 1 leaving 3 ∷ 1 ∷ [])
+    ∷ (check (plan 9 0 3 1 1 4) ⟹ refused 2 leaving [])
+    ∷ (write square planA (3 ∷ 1 ∷ 7 ∷ []) (nines 8) ⟹ refused 6 leaving nines 8)
+    ∷ (write square planA (3 ∷ 1 ∷ 7 ∷ []) (nines 9) ⟹ refused 9 leaving nines 9)
+    ∷ (write square (plan 5 3 2 0 1 2) (1 ∷ 0 ∷ 0 ∷ 2 ∷ 3 ∷ 4 ∷ []) (nines 9) ⟹ refused 0 leaving 1 ∷ 0 ∷ 2 ∷ 3 ∷ 0 ∷ 0 ∷ 4 ∷ 4 ∷ 2 ∷ [])
+    ∷ []

@@ -1,0 +1,24 @@
+-- Refusals in order.
+--
+--   k when b          a row of document 01's table "What is returned": the number k and the test when it applies
+--   first rows        the number of the first row whose test holds, and 0 where none does
+--   accepted k a b    what a call with the number k does: a where k is 0, else b
+--
+-- What this file is for: every call's number is `first` of the rows that concern the call, in the table's order. A number whose
+-- condition has several tests has a row for each.
+use mathlib.Core.Bool.{Bool, true, false}
+use mathlib.Core.List.{List, [], _∷_}
+use Prim.Native.Nat.{ℕ, zero, suc}
+
+infix 20 _when_
+pub data Row : Type 0 where
+  _when_ : ℕ → Bool → Row
+
+unfoldable pub first : List Row → ℕ
+first [] = 0
+first ((k when true) ∷ rows) = k
+first ((k when false) ∷ rows) = first rows
+
+abbrev pub accepted {ℓ} : {A : Type ℓ} → ℕ → A → A → A
+accepted zero a b = a
+accepted (suc k) a b = b

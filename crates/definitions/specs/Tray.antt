@@ -1,0 +1,32 @@
+-- What the program `trayread` reads from its standard input: a plan, then symbols, then doubts, nothing after.
+--
+--   planOf, symbolsOf, doubtsOf   the parts of the input
+--   trayReading, trayRecord       the reading of the mark, and the record that is printed
+--
+-- What this file is for: fewer than 24 bytes are refusal 1, since the plan is short; a wrong count after a sound plan is 6, since
+-- the symbols or the doubts have not their length.
+use mathlib.Core.List.{List}
+use Prim.Native.Nat.{ℕ, _+_}
+use lib.ListN.{take, drop, replicate}
+use Rattle.definitions.specs.declared.Reading.{Reading}
+use Rattle.definitions.specs.Code.{square, size, cells}
+use Rattle.definitions.specs.Calls.{readReading, readBuffer}
+
+abbrev pub planOf : List ℕ → List ℕ
+planOf input = take 24 input
+
+abbrev pub symbolsOf : List ℕ → List ℕ
+symbolsOf input = take (cells square (planOf input)) (drop 24 input)
+
+abbrev pub doubtsOf : List ℕ → List ℕ
+doubtsOf input = drop (24 + cells square (planOf input)) input
+
+-- a buffer of the record's size
+abbrev pub bufferOf : List ℕ → List ℕ
+bufferOf input = replicate (size square (planOf input)) 0
+
+unfoldable pub trayReading : List ℕ → Reading
+trayReading input = readReading square (planOf input) (symbolsOf input) (doubtsOf input) (bufferOf input)
+
+unfoldable pub trayRecord : List ℕ → List ℕ
+trayRecord input = readBuffer square (planOf input) (symbolsOf input) (doubtsOf input) (bufferOf input)
