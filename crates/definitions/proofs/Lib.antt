@@ -1,2 +1,7 @@
 -- What follows from the definitions of document 01.
 pub mod Cases
+pub mod Refusals
+pub mod Search
+pub mod Sound
+pub mod Nearest
+pub mod Finder

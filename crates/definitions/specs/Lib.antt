@@ -1,4 +1,4 @@
--- Document 01 as definitions, in its own order. Nothing is proved here; laws are in proofs/.
+-- Document 01 as definitions, in its own order; then the words in which their laws are stated. Nothing is proved here.
 pub mod Refusals
 pub mod Plan
 pub mod Code
@@ -8,3 +8,6 @@ pub mod Calls
 pub mod Finder
 pub mod Tray
 pub mod Cases
+pub mod Word
+pub mod Sound
+pub mod Reads

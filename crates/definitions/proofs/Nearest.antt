@@ -1,0 +1,51 @@
+-- When a reading is right: a refusal of 1 to 8; 10 where no record is within the radius; the record within it where there is at
+-- most one. Assumes nothing.
+use mathlib.Core.Path.{_≡_, refl, sym, ap₂, _∙_}
+use mathlib.Core.Bool.{true, false}
+use mathlib.Core.List.{List, [], _∷_}
+use mathlib.Core.Option.{Option, some, none}
+use Prim.Native.Nat.{ℕ, suc}
+use Rattle.definitions.specs.Refusals.{Row, _when_, first, accepted}
+use Rattle.definitions.specs.Plan.{modulus, planRows}
+use Rattle.definitions.specs.Code.{Code, size}
+use Rattle.definitions.specs.Calls.{photoRows, refused, readingOf, within, nearest, missing, the, readNumber, readReading, readBuffer}
+use Rattle.definitions.specs.Word.{IsRecord}
+use Rattle.definitions.specs.Reads.{Reads}
+use Rattle.definitions.proofs.Refusals.{first-append}
+use Rattle.definitions.proofs.Search.{search-none, search-the}
+
+module _ (C : Code) (P s u B : List ℕ) where
+  -- from the number and what the search finds
+  reads : {k : ℕ} {o : Option (List ℕ)} → readNumber C P s u B ≡ k → nearest C P s u ≡ o →
+      Reads C P s u B (accepted k (readingOf C P s u (the o)) (refused k)) (accepted k (the o) B)
+  unfolding readReading readBuffer
+  reads n m = record {
+    reading = sym (ap₂ (λ k o. accepted k (readingOf C P s u (the o)) (refused k)) n m);
+    buffer = sym (ap₂ (λ k o. accepted k (the o) B) n m);
+  }
+
+  abbrev last : Option (List ℕ) → List Row
+  last o = (10 when missing o) ∷ []
+
+  number : {k : ℕ} {o : Option (List ℕ)} → first (photoRows C P s u B) ≡ k → nearest C P s u ≡ o → readNumber C P s u B ≡ accepted k (first (last o)) k
+  unfolding first planRows photoRows readNumber
+  number e m = first-append (photoRows C P s u B) (last (nearest C P s u)) tt ∙ ap₂ (λ k o. accepted k (first (last o)) k) e m
+
+  pub reads-refused : (k : ℕ) → first (photoRows C P s u B) ≡ suc k → Reads C P s u B (refused (suc k)) B
+  reads-refused k e = reads (number e refl) refl
+
+  module _ (e : first (photoRows C P s u B) ≡ 0) where
+    pub reads-none : ((F : List ℕ) → IsRecord C P F → within C P s u F ≡ false) → Reads C P s u B (refused 10) B
+    unfolding first nearest
+    reads-none h = reads (number e m) m
+      where
+        m : nearest C P s u ≡ none
+        m = search-none (modulus P) (size C P) (within C P s u) h
+
+    pub reads-the : ((F G : List ℕ) → IsRecord C P F → IsRecord C P G → within C P s u F ≡ true → within C P s u G ≡ true → F ≡ G) →
+        (F : List ℕ) → IsRecord C P F → within C P s u F ≡ true → Reads C P s u B (readingOf C P s u F) F
+    unfolding first nearest
+    reads-the one F x t = reads (number e m) m
+      where
+        m : nearest C P s u ≡ some F
+        m = search-the (modulus P) (size C P) (within C P s u) one F x t

@@ -1,0 +1,11 @@
+-- What a reader has to hand back: the reading and the bytes of its record buffer.
+use mathlib.Core.Path.{_≡_}
+use mathlib.Core.List.{List}
+use Prim.Native.Nat.{ℕ}
+use Rattle.definitions.specs.declared.Reading.{Reading}
+use Rattle.definitions.specs.Code.{Code}
+use Rattle.definitions.specs.Calls.{readReading, readBuffer}
+
+pub record Reads (C : Code) (P s u B : List ℕ) (r : Reading) (b : List ℕ) : Type 0 where
+  pub reading : r ≡ readReading C P s u B
+  pub buffer : b ≡ readBuffer C P s u B

@@ -1,0 +1,19 @@
+-- A sound plan as facts: what the table "The season plan" says of it.
+use mathlib.Core.Path.{_≡_}
+use mathlib.Core.List.{List}
+use mathlib.Core.Logic.{_≢_}
+use Prim.Native.Nat.{_+_, _≤_, _<_, ℕ}
+use lib.ListN.{length}
+use Rattle.field.specs.Prime.{Prime}
+use Rattle.definitions.specs.Plan.{modulus, side, degree, point}
+
+pub record Sound (P : List ℕ) : Type 0 where
+  pub whole : length P ≡ 24
+  pub prime : Prime (modulus P)
+  pub small : modulus P ≤ 251
+  pub some : side P ≢ 0
+  pub most : side P ≤ 16
+  pub room : side P ≤ modulus P
+  pub low : degree P < side P
+  pub below : (i : ℕ) → i < side P → point P i < modulus P
+  pub rising : (i : ℕ) → i + 1 < side P → point P i < point P (i + 1)
