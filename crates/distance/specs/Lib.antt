@@ -1,0 +1,2 @@
+-- The weighted distance of a word from symbols with doubts.
+pub mod Level

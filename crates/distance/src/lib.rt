@@ -1,0 +1,1 @@
+// The weighted distance of a word from symbols with doubts.
