@@ -1,0 +1,5 @@
+-- The laws of polynomials.
+pub mod Lead
+pub mod Roots
+pub mod Eval
+pub mod Record
