@@ -1,3 +1,6 @@
 -- The laws of numbers modulo a prime.
 pub mod Congruence
 pub mod Prime
+pub mod Loop
+pub mod Reciprocal
+pub mod Row

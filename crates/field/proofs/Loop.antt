@@ -1,0 +1,34 @@
+-- The laws of the loop over an array: its start, one element more, an element set anew, and fewer elements. Assumes nothing.
+use mathlib.Core.Path.{_≡_, _∙_}
+use mathlib.Core.List.{List}
+use Prim.Native.Nat.{ℕ, _+_, _≤_, _<_}
+use native.Mathlib.Omega.{arith}
+use native.Mathlib.Decide.{ℕ-discrete}
+use lib.ListN.{length, set, length-set}
+use lib.Seq.{getD-set-same, getD-set-other}
+use Rattle.field.specs.Loop.{Upto}
+
+module _ {A : Type 0} {n : ℕ} {z : A} {T : ℕ → A → Type 0} where
+  pub upto-start : {l : List A} → length l ≡ n → Upto n z T l 0
+  upto-start e = record { size = e; done = λ j k. absurd (omega arith) }
+
+  pub upto-step : {l : List A} {i : ℕ} (v : A) → i < n → T i v → Upto n z T l i → Upto n z T (set l i v) (i + 1)
+  upto-step {l} {i} v b t p = record {
+    size = length-set l i v ∙ p .size;
+    done = λ j k. elim (ℕ-discrete j i) [
+      | yes e ↦ let h : i < length l = omega (arith, p .size) in rw (e, getD-set-same l i v z h) t
+      | no e ↦ rw (getD-set-other l i j v z e) (p .done j (omega arith))
+    ];
+  }
+
+  pub upto-put : {l : List A} {i m : ℕ} (v : A) → i < n → T i v → Upto n z T l m → Upto n z T (set l i v) m
+  upto-put {l} {i} v b t p = record {
+    size = length-set l i v ∙ p .size;
+    done = λ j k. elim (ℕ-discrete j i) [
+      | yes e ↦ let h : i < length l = omega (arith, p .size) in rw (e, getD-set-same l i v z h) t
+      | no e ↦ rw (getD-set-other l i j v z e) (p .done j k)
+    ];
+  }
+
+  pub upto-less : {l : List A} {i m : ℕ} → m ≤ i → Upto n z T l i → Upto n z T l m
+  upto-less h p = record { size = p .size; done = λ j k. p .done j (omega arith) }

@@ -1,0 +1,27 @@
+-- The quotient of t < 65536 by the reciprocal, t * m / 65536, is t / p or 1 less, so that one subtraction is left. Assumes nothing.
+use mathlib.Core.Path.{_≡_, sym, ap, _∙_}
+use Prim.Native.Nat.{ℕ, _+_, _*_, _/_, _%_, _≤_, _<_}
+use native.Mathlib.Omega.{arith}
+use native.Mathlib.Nat.{mod-lt, mod-eq-of-lt, div-add-mod, mul-le-mul, mul-le-mul-left, mul-le-mul-right, add-mul-mod-self-right}
+use Rattle.field.specs.Row.{Reciprocal}
+
+module _ (t p m : ℕ) (r : Reciprocal p m) where
+  pub quotient-low : t * m / 65536 * p ≤ t
+  quotient-low = omega (arith, mul-le-mul-right p fits, mul-le-mul-left t (r .low))
+    where
+      fits : t * m / 65536 * 65536 ≤ t * m
+      fits = omega (arith, div-add-mod (t * m) 65536)
+
+  pub quotient-high : t < 65536 → t < t * m / 65536 * p + p + p
+  quotient-high b = omega (arith, mul-le-mul-right p over, mul-le-mul-left t (r .high), mul-le-mul-right p b, r .least)
+    where
+      over : t * m < t * m / 65536 * 65536 + 65536
+      over = omega (arith, div-add-mod (t * m) 65536, mod-lt (t * m) {m = 65536} (omega arith))
+
+-- what is left below p is the remainder
+pub remainder-is : (t p q r : ℕ) → r < p → t ≡ q * p + r → r ≡ t % p
+remainder-is t p q r h e = sym (ap (λ x. x % p) (e ∙ omega arith) ∙ add-mul-mod-self-right r q p ∙ mod-eq-of-lt h)
+
+-- a product of two residues, and of one with the modulus itself, fits 16 bits with a residue added
+pub product-fits : {p x y : ℕ} → p ≤ 251 → x ≤ p → y < p → x * y ≤ 62750
+product-fits {p} {x} {y} h a b = mul-le-mul {n₁ = x} {m₁ = y} {n₂ = 251} {m₂ = 250} (omega arith) (omega arith)

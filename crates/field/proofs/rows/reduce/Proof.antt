@@ -1,0 +1,33 @@
+-- `field::rows::reduce` meets its contract: the quotient is right, or 1 too small where one more p is taken off. Assumes nothing.
+use Prim.Native.Nat.{_+_, _*_, _/_}
+use native.Mathlib.Omega.{arith}
+use native.Mathlib.Nat.{mul-le-mul}
+use Rattle.field.proofs.Reciprocal.{quotient-low, quotient-high, remainder-is}
+use Rattle.field.proofs.rows.reduce.Statement.{statement}
+use Rattle.field.proofs.rows.reduce.Tie as tie
+
+mul-q : tie.Need-mul-q
+mul-q c = omega (arith, mul-le-mul {n₁ = c .args .t} {m₁ = c .args .m} {n₂ = 65535} {m₂ = 65535} (omega arith) (omega arith))
+
+cast-q : tie.Need-cast-q
+cast-q c = omega (arith, mul-le-mul {n₁ = c .args .t} {m₁ = c .args .m} {n₂ = 65535} {m₂ = 65535} (omega arith) (omega arith))
+
+mul-r : tie.Need-mul-r
+mul-r c = omega (arith, quotient-low (c .args .t) (c .args .p) (c .args .m) (c .pre))
+
+sub-r : tie.Need-sub-r
+sub-r c = omega (arith, quotient-low (c .args .t) (c .args .p) (c .args .m) (c .pre))
+
+returns : tie.Need-returns
+returns c =
+    let low = quotient-low (c .before .args .t) (c .before .args .p) (c .before .args .m) (c .before .pre) in
+    let high = quotient-high (c .before .args .t) (c .before .args .p) (c .before .args .m) (c .before .pre) (omega arith) in
+    (remainder-is (c .before .args .t) (c .before .args .p) (c .before .args .t * c .before .args .m / 65536 + 1) _ (omega (arith, low, high)) (omega (arith, low, high)), omega (arith, low, high))
+
+returns-2 : tie.Need-returns-2
+returns-2 c =
+    let low = quotient-low (c .before .args .t) (c .before .args .p) (c .before .args .m) (c .before .pre) in
+    (remainder-is (c .before .args .t) (c .before .args .p) (c .before .args .t * c .before .args .m / 65536) _ (omega (arith, low)) (omega (arith, low)), omega (arith, low))
+
+pub reduce-spec : {M : Type 1} → statement M
+reduce-spec = tie.close (tie.spec mul-q cast-q mul-r sub-r returns returns-2)
