@@ -1,0 +1,2 @@
+-- The strip decoder: Reed-Solomon codes with doubts.
+pub mod Strip

@@ -1,0 +1,1 @@
+// The strip decoder: Reed-Solomon codes with doubts.
