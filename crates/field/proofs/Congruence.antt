@@ -1,8 +1,8 @@
 -- The laws of congruence: it is an equality, sums and products keep it, and remainders are what it compares. Assumes nothing.
 use mathlib.Core.Path.{_≡_, refl, sym, ap, _∙_}
-use Prim.Native.Nat.{ℕ, zero, suc, _+_, _*_, _/_, _%_, _<_}
+use Prim.Native.Nat.{ℕ, suc, _+_, _*_, _-_, _/_, _%_, _<_}
 use native.Mathlib.Omega.{arith}
-use native.Mathlib.Nat.{add-mul-mod-self-left, div-add-mod, mod-lt, mod-eq-of-lt, zero-mod}
+use native.Mathlib.Nat.{add-mul-mod-self-left, div-add-mod, mod-eq-of-lt, zero-mod}
 use Rattle.field.specs.Congruence.{Cong}
 
 module _ {q : ℕ} where
@@ -57,3 +57,14 @@ module _ {q : ℕ} where
 
   pub nonzero : (c : ℕ) → c < suc q → (c ≡ 0 → ⊥) → ¬ (Cong q c 0)
   nonzero c h z k = z (sym (mod-eq-of-lt h) ∙ to-mod k ∙ zero-mod (suc q))
+
+-- the same at the modulus p of the code, where p - 1 stands for minus one
+module _ {p : ℕ} (pos : 0 < p) where
+  whole : suc (p - 1) ≡ p
+  whole = omega arith
+
+  pub mod-cong : (a : ℕ) → Cong (p - 1) (a % p) a
+  mod-cong a = rw whole at (remainder {q = p - 1} a)
+
+  pub cong-mod : {a b : ℕ} → Cong (p - 1) a b → a % p ≡ b % p
+  cong-mod h = rw whole at (to-mod h)

@@ -1,22 +1,28 @@
 -- A prime modulus has no divisors of zero (Euclid's lemma, by descent), its residues are cancelled and have one inverse each; the test says what is prime. Assumes nothing.
 use mathlib.Core.Logic.{_≢_}
 use mathlib.Core.Path.{_≡_, refl, sym, ap, _∙_}
-use mathlib.Core.Bool.{Bool, true, false, not, _&&_, true≢false, false≢true}
+use mathlib.Core.Bool.{Bool, true, false, not, _&&_, false≢true}
 use Prim.Native.Nat.{ℕ, zero, suc, _+_, _*_, _-_, _/_, _%_, _≤_, _<_}
 use native.Mathlib.Omega.{arith}
-use native.Mathlib.Nat.{div-add-mod, mod-lt, mod-eq-of-lt, zero-mod, mul-le-mul, mul-le-mul-left, mul-mod-left}
+use native.Mathlib.Nat.{div-add-mod, mod-lt, zero-mod, mul-le-mul, mul-le-mul-left, mul-mod-left, div-le-self, sub-add-cancel}
 use native.Mathlib.Decide.{ℕ-discrete, decLe}
 use lib.Dec.{eqb, leb}
-use borrow.Author.Tests.{eq-eqb, eqb-false, ne-eqb, le-leb, leb-true, lt-leb}
-use Rattle.bounded.specs.Bounded.{any}
+use borrow.Author.Tests.{eqb-false, ne-eqb, le-leb, leb-true}
 use Rattle.bounded.proofs.Any.{any-none, none-any}
 use Rattle.field.specs.Congruence.{Cong}
 use Rattle.field.specs.Prime.{divided, isPrime, Prime, Inverse}
-use Rattle.field.proofs.Congruence.{same, ~sym, _⨾_, ~add, ~mul, ~mul-right, less, rest, remainder, below-eq, difference, to-mod, of-mod, nonzero}
+use Rattle.field.proofs.Congruence.{same, ~sym, _⨾_, ~add, ~mul, ~mul-right, less, rest, remainder, below-eq, difference, to-mod, of-mod, mod-cong}
 
 -- no number from 2 below m divides p
 abbrev pub Alone : (p m : ℕ) → Type 0
 Alone p m = (a : ℕ) → 2 ≤ a → a < m → p % a ≢ 0
+
+pub alone-more : (p m : ℕ) → Alone p m → p % m ≢ 0 → Alone p (m + 1)
+alone-more p m h n a i l = elim (ℕ-discrete a m) [ yes e ↦ rw e n | no e ↦ h a i (omega arith) ]
+
+-- the root of a number of 16 bits has 8
+pub root-small : (d : ℕ) → d * d < 65536 → d < 256
+root-small d h = elim (decLe 256 d) [ yes l ↦ absurd (omega (arith, mul-le-mul l l)) | no l ↦ omega arith ]
 
 -- a divisor from the root on has a partner below it
 pub below-root : (p s : ℕ) → p < s * s → Alone p s → Alone p p
@@ -52,6 +58,31 @@ is-prime p e = go (leb 2 p) (divided p (p - 2)) refl refl e
 pub prime-is : (p : ℕ) → Prime p → isPrime p ≡ true
 unfolding isPrime
 prime-is p r = rw (le-leb 2 p (r .least), none-any (p - 2) (λ i. eqb (p % (2 + i)) 0) λ i l. ne-eqb _ _ (r .alone (2 + i) (omega arith) (omega (arith, r .least))))
+
+pub not-prime : (p : ℕ) → ¬ (Prime p) → isPrime p ≡ false
+not-prime p n = go (isPrime p) refl
+  where
+    go : (b : Bool) → isPrime p ≡ b → isPrime p ≡ false
+    go true e = absurd (n (is-prime p e))
+    go false e = e
+
+-- trial division up to the root
+pub root-prime : (p s : ℕ) → 2 ≤ p → p < s * s → Alone p s → isPrime p ≡ true
+root-prime p s h l d = prime-is p (record { least = h; alone = below-root p s l d })
+
+-- an inverse by division: p = k b + r makes minus k over r the inverse of b
+pub inverse-step : {p b : ℕ} (s a : ℕ) → 0 < p → Cong (p - 1) (s * a) b → Cong (p - 1) (s * (p - p / b) % p * a) (p % b)
+inverse-step {p} {b} s a z h =
+    ~mul-right a (mod-cong z (s * d)) ⨾ same {a = s * d * a} (omega arith) ⨾ ~mul d h ⨾ record { k = 1; l = b; eq = rw whole down }
+  where
+    d : ℕ
+    d = p - p / b
+
+    whole : suc (p - 1) ≡ p
+    whole = omega arith
+
+    down : d * b + p * 1 ≡ p % b + p * b
+    down = omega (arith, ap (λ t. t * b) (sub-add-cancel (div-le-self p b)), div-add-mod p b)
 
 module _ {q : ℕ} (prime : Prime (suc q)) where
   euclid : (f a b : ℕ) → a ≤ f → 0 < a → a < suc q → Cong q (a * b) 0 → Cong q b 0

@@ -1,17 +1,17 @@
 -- The laws of rows: the number at a place, rows of remainders and what they stand for, and the row that a loop has set. Assumes nothing.
-use mathlib.Core.Path.{_≡_, refl, _∙_}
+use mathlib.Core.Path.{_≡_, refl}
 use mathlib.Core.List.{List, [], _∷_}
 use Prim.Native.Nat.{ℕ, zero, suc, _-_, _%_, _≤_, _<_}
 use native.Mathlib.Omega.{arith}
 use native.Mathlib.Nat.{mod-lt}
 use native.Mathlib.Decide.{decLt}
 use lib.ListN.{length}
-use Rattle.bounded.specs.Bounded.{at, tab}
+use Rattle.bounded.specs.Bounded.{at}
 use Rattle.bounded.proofs.Tab.{length-tab, tab-at, tab-is}
 use Rattle.field.specs.Congruence.{Cong}
 use Rattle.field.specs.Loop.{Upto}
 use Rattle.field.specs.Row.{row, Row}
-use Rattle.field.proofs.Congruence.{same, remainder, _⨾_}
+use Rattle.field.proofs.Congruence.{same, mod-cong, _⨾_}
 
 pub row-at : (f : ℕ → ℕ) (j : ℕ) → j < 16 → at (row f) j ≡ f j
 row-at f j l = tab-at 16 f j l
@@ -35,8 +35,7 @@ row-reduced {p} f z = row-of z (length-tab 16 _) λ j k. rw (row-at (λ j. f j %
 
 -- which stands for the numbers themselves
 pub row-cong : {p : ℕ} (f : ℕ → ℕ) → 0 < p → (j : ℕ) → j < 16 → Cong (p - 1) (at (row λ j. f j % p) j) (f j)
-row-cong {p} f z j k = let s : suc (p - 1) ≡ p = omega arith in
-    same (row-at (λ j. f j % p) j k) ⨾ (rw s at (remainder {q = p - 1} (f j)))
+row-cong {p} f z j k = same (row-at (λ j. f j % p) j k) ⨾ mod-cong z (f j)
 
 -- the row that a loop has set
 pub upto-row : {f : ℕ → ℕ} {l : List ℕ} → Upto 16 0 (λ j v. v ≡ f j) l 16 → l ≡ row f

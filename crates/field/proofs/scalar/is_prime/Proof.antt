@@ -1,0 +1,64 @@
+-- `field::scalar::is_prime` meets its contract: no number from 2 below d divides p, and where d is past the root, none does. Assumes nothing.
+use mathlib.Core.Path.{sym}
+use Prim.Native.Nat.{_-_, _≤_}
+use native.Mathlib.Omega.{arith}
+use native.Mathlib.Nat.{mul-le-mul, mul-le-mul-left}
+use Rattle.field.proofs.Prime.{Alone, alone-more, root-small, root-prime, not-prime}
+use borrow.Author.Needs.{needs}
+use Rattle.field.proofs.scalar.is_prime.Statement.{statement}
+use Rattle.field.proofs.scalar.is_prime.Tie as tie
+
+abbrev Inv-loop : tie.InvT-loop
+Inv-loop p n d₀ d = (2 ≤ p) × (2 ≤ d) × (d ≤ 256) × Alone p d
+
+abbrev μ-loop : tie.MeasureT-loop
+μ-loop p n d₀ d = 256 - d
+
+returns : tie.Need-returns Inv-loop μ-loop
+returns c = sym (not-prime _ λ r. omega (arith, r .least))
+
+loop-holds : tie.Need-loop-holds Inv-loop μ-loop
+loop-holds c = (omega arith, omega arith, omega arith, λ a h l. absurd (omega arith))
+
+mul-loop : tie.Need-mul-loop Inv-loop μ-loop
+mul-loop c =
+    let b = c .loop .inv .2 in
+    omega (arith, mul-le-mul b b)
+
+rem-if2 : tie.Need-rem-if2 Inv-loop μ-loop
+rem-if2 c = search needs
+
+returns-2 : tie.Need-returns-2 Inv-loop μ-loop
+returns-2 c =
+    let d = c .before .before .loop .d in
+    sym (not-prime _ λ r. r .alone d (omega arith) (omega (arith, mul-le-mul-left d (c .before .before .loop .inv .1))) (omega arith))
+
+add-d : tie.Need-add-d Inv-loop μ-loop
+add-d c = search needs
+
+loop-less : tie.Need-loop-less Inv-loop μ-loop
+loop-less c = omega (arith, root-small (c .before .before .loop .d) (omega arith))
+
+loop-again : tie.Need-loop-again Inv-loop μ-loop
+loop-again c =
+    let small = root-small (c .before .before .loop .d) (omega arith) in
+    (omega arith, omega arith, omega arith, alone-more _ _ (c .before .before .loop .inv .3) (λ h. omega arith))
+
+returns-3 : tie.Need-returns-3 Inv-loop μ-loop
+returns-3 c = sym (root-prime _ (c .before .loop .d) (c .before .loop .inv .0) (omega arith) (c .before .loop .inv .3))
+
+pub is-prime-spec : {M : Type 1} → statement M
+is-prime-spec =
+    tie.close
+    (tie.spec
+    Inv-loop
+    μ-loop
+    returns
+    loop-holds
+    mul-loop
+    rem-if2
+    returns-2
+    add-d
+    loop-less
+    loop-again
+    returns-3)
