@@ -46,7 +46,7 @@ pub fn add_multiple(a: [u16; 16], c: u16, b: [u16; 16], p: u16, m: u16) -> [u16;
 // a b, place by place.
 pub fn multiply(a: [u16; 16], b: [u16; 16], p: u16, m: u16) -> [u16; 16]
     requires { ⌜ Reciprocal p m × Row p a × Row p b ⌝ }
-    ensures { λ r. ⌜ r ≡ row (λ j. (at a j * at b j) % p) ⌝ }
+    ensures { λ r. ⌜ r ≡ row (λ j. at a j * at b j % p) ⌝ }
 {
     let mut out = a;
     let mut j = 0;
@@ -60,7 +60,7 @@ pub fn multiply(a: [u16; 16], b: [u16; 16], p: u16, m: u16) -> [u16; 16]
 // c a.
 pub fn scale(c: u16, a: [u16; 16], p: u16, m: u16) -> [u16; 16]
     requires { ⌜ Reciprocal p m × Row p a × (c ≤ p) ⌝ }
-    ensures { λ r. ⌜ r ≡ row (λ j. (c * at a j) % p) ⌝ }
+    ensures { λ r. ⌜ r ≡ row (λ j. c * at a j % p) ⌝ }
 {
     let mut out = a;
     let mut j = 0;

@@ -33,10 +33,14 @@ array-read-reduce-2 : tie.Need-array-read-reduce-2 Inv-loop μ-loop
 array-read-reduce-2 c = search needs
 
 mul-reduce-3 : tie.Need-mul-reduce-3 Inv-loop μ-loop
-mul-reduce-3 c = omega (arith, product-fits (c .before .before .pre .0 .most) (c .before .before .pre .3) (c .before .before .pre .2 .small (c .before .loop .j)))
+mul-reduce-3 c =
+    let b = c .before .before .pre in
+    omega (arith, product-fits (b .0 .most) (b .3) (b .2 .small (c .before .loop .j)))
 
 add-reduce : tie.Need-add-reduce Inv-loop μ-loop
-add-reduce c = omega (arith, product-fits (c .before .before .pre .0 .most) (c .before .before .pre .3) (c .before .before .pre .2 .small (c .before .loop .j)), c .before .before .pre .1 .small (c .before .loop .j), c .before .before .pre .0 .most)
+add-reduce c =
+    let b = c .before .before .pre in
+    omega (arith, product-fits (b .0 .most) (b .3) (b .2 .small (c .before .loop .j)), b .1 .small (c .before .loop .j), b .0 .most)
 
 reduce-requires : tie.Need-reduce-requires Inv-loop μ-loop
 reduce-requires c κs = c .before .before .pre .0

@@ -13,7 +13,7 @@ use Rattle.field.proofs.rows.multiply.Statement.{statement}
 use Rattle.field.proofs.rows.multiply.Tie as tie
 
 abbrev Inv-loop : tie.InvT-loop
-Inv-loop p m a b out₀ j₀ out j = (j ≤ 16) × Upto 16 0 (λ k v. v ≡ (at a k * at b k) % p) out j
+Inv-loop p m a b out₀ j₀ out j = (j ≤ 16) × Upto 16 0 (λ k v. v ≡ at a k * at b k % p) out j
 
 abbrev μ-loop : tie.MeasureT-loop
 μ-loop p m a b out₀ j₀ out j = 16 - j
@@ -34,7 +34,9 @@ array-read-reduce-2 : tie.Need-array-read-reduce-2 Inv-loop μ-loop
 array-read-reduce-2 c = search needs
 
 mul-reduce-3 : tie.Need-mul-reduce-3 Inv-loop μ-loop
-mul-reduce-3 c = omega (arith, product-fits (c .before .before .pre .0 .most) (le-of-lt (c .before .before .pre .1 .small (c .before .loop .j))) (c .before .before .pre .2 .small (c .before .loop .j)))
+mul-reduce-3 c =
+    let b = c .before .before .pre in
+    omega (arith, product-fits (b .0 .most) (le-of-lt (b .1 .small (c .before .loop .j))) (b .2 .small (c .before .loop .j)))
 
 reduce-requires : tie.Need-reduce-requires Inv-loop μ-loop
 reduce-requires c κs = c .before .before .pre .0

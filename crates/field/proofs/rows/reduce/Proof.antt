@@ -20,14 +20,16 @@ sub-r c = omega (arith, quotient-low (c .args .t) (c .args .p) (c .args .m) (c .
 
 returns : tie.Need-returns
 returns c =
-    let low = quotient-low (c .before .args .t) (c .before .args .p) (c .before .args .m) (c .before .pre) in
-    let high = quotient-high (c .before .args .t) (c .before .args .p) (c .before .args .m) (c .before .pre) (omega arith) in
-    (remainder-is (c .before .args .t) (c .before .args .p) (c .before .args .t * c .before .args .m / 65536 + 1) _ (omega (arith, low, high)) (omega (arith, low, high)), omega (arith, low, high))
+    let a = c .before .args in
+    let low = quotient-low (a .t) (a .p) (a .m) (c .before .pre) in
+    let high = quotient-high (a .t) (a .p) (a .m) (c .before .pre) (omega arith) in
+    (remainder-is (a .t) (a .p) (a .t * a .m / 65536 + 1) _ (omega (arith, low, high)) (omega (arith, low, high)), omega (arith, low, high))
 
 returns-2 : tie.Need-returns-2
 returns-2 c =
-    let low = quotient-low (c .before .args .t) (c .before .args .p) (c .before .args .m) (c .before .pre) in
-    (remainder-is (c .before .args .t) (c .before .args .p) (c .before .args .t * c .before .args .m / 65536) _ (omega (arith, low)) (omega (arith, low)), omega (arith, low))
+    let a = c .before .args in
+    let low = quotient-low (a .t) (a .p) (a .m) (c .before .pre) in
+    (remainder-is (a .t) (a .p) (a .t * a .m / 65536) _ (c .if1 .left) (omega (arith, low)), c .if1 .left)
 
 pub reduce-spec : {M : Type 1} → statement M
 reduce-spec = tie.close (tie.spec mul-q cast-q mul-r sub-r returns returns-2)

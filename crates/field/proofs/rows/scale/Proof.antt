@@ -12,7 +12,7 @@ use Rattle.field.proofs.rows.scale.Statement.{statement}
 use Rattle.field.proofs.rows.scale.Tie as tie
 
 abbrev Inv-loop : tie.InvT-loop
-Inv-loop c p m a out₀ j₀ out j = (j ≤ 16) × Upto 16 0 (λ k v. v ≡ (c * at a k) % p) out j
+Inv-loop c p m a out₀ j₀ out j = (j ≤ 16) × Upto 16 0 (λ k v. v ≡ c * at a k % p) out j
 
 abbrev μ-loop : tie.MeasureT-loop
 μ-loop c p m a out₀ j₀ out j = 16 - j
@@ -27,7 +27,9 @@ array-read-reduce : tie.Need-array-read-reduce Inv-loop μ-loop
 array-read-reduce c = search needs
 
 mul-reduce-2 : tie.Need-mul-reduce-2 Inv-loop μ-loop
-mul-reduce-2 c = omega (arith, product-fits (c .before .before .pre .0 .most) (c .before .before .pre .2) (c .before .before .pre .1 .small (c .before .loop .j)))
+mul-reduce-2 c =
+    let b = c .before .before .pre in
+    omega (arith, product-fits (b .0 .most) (b .2) (b .1 .small (c .before .loop .j)))
 
 reduce-requires : tie.Need-reduce-requires Inv-loop μ-loop
 reduce-requires c κs = c .before .before .pre .0

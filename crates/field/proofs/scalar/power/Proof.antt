@@ -35,10 +35,10 @@ loop-less c = search needs
 
 loop-again : tie.Need-loop-again Inv-loop μ-loop
 loop-again c =
-    let z : 0 < c .before .before .before .args .p = omega arith in
+    let a = c .before .before .before .args in
+    let z : 0 < a .p = omega arith in
     let e = c .mul .ensures in
-    let step = power-step z (c .before .before .before .args .a) (c .before .before .loop .i) in
-    (omega arith, rw e (mod-lt _ z), e ∙ ap (λ t. t * c .before .before .before .args .a % c .before .before .before .args .p) (c .before .before .loop .inv .2) ∙ step)
+    (omega arith, rw e (mod-lt _ z), e ∙ ap (λ t. t * a .a % a .p) (c .before .before .loop .inv .2) ∙ power-step z (a .a) (c .before .before .loop .i))
 
 returns : tie.Need-returns Inv-loop μ-loop
 returns c =
