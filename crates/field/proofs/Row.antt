@@ -8,7 +8,7 @@ use native.Mathlib.Decide.{decLt}
 use lib.ListN.{length}
 use Rattle.bounded.specs.Bounded.{at}
 use Rattle.bounded.proofs.Tab.{length-tab, tab-at, tab-is}
-use Rattle.field.specs.Congruence.{Cong}
+use Rattle.field.specs.Congruence.{Cong, Agree}
 use Rattle.field.specs.Loop.{Upto}
 use Rattle.field.specs.Row.{row, Row}
 use Rattle.field.proofs.Congruence.{same, mod-cong, _⨾_}
@@ -36,6 +36,14 @@ row-reduced {p} f z = row-of z (length-tab 16 _) λ j k. rw (row-at (λ j. f j %
 -- which stands for the numbers themselves
 pub row-cong : {p : ℕ} (f : ℕ → ℕ) → 0 < p → (j : ℕ) → j < 16 → Cong (p - 1) (at (row λ j. f j % p) j) (f j)
 row-cong {p} f z j k = same (row-at (λ j. f j % p) j k) ⨾ mod-cong z (f j)
+
+-- the same of what a function on rows returns; a call's `_` for f is found from the equation
+module _ {p : ℕ} {l : List ℕ} (f : ℕ → ℕ) (z : 0 < p) (e : l ≡ row λ j. f j % p) where
+  pub result-row : Row p l
+  result-row = rw e (row-reduced f z)
+
+  pub result-cong : Agree (p - 1) 16 (at l) f
+  result-cong j k = rw e (row-cong f z j k)
 
 -- the row that a loop has set
 pub upto-row : {f : ℕ → ℕ} {l : List ℕ} → Upto 16 0 (λ j v. v ≡ f j) l 16 → l ≡ row f
