@@ -3,5 +3,6 @@ pub mod Cases
 pub mod Refusals
 pub mod Search
 pub mod Sound
+pub mod Photograph
 pub mod Nearest
 pub mod Finder

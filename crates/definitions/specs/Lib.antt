@@ -10,4 +10,5 @@ pub mod Tray
 pub mod Cases
 pub mod Word
 pub mod Sound
+pub mod Photograph
 pub mod Reads

@@ -1,0 +1,86 @@
+-- Refusals 1 to 8 do not apply exactly to the photographs of a sound plan with a record buffer of the right length. Assumes nothing.
+use mathlib.Core.Path.{_≡_, refl, sym, ap, _∙_}
+use mathlib.Core.Logic.{_⊎_, inl, inr}
+use mathlib.Core.Bool.{Bool, true, false, not, _&&_, true≢false}
+use mathlib.Core.List.{List, [], _∷_, _++_}
+use Prim.Native.Nat.{ℕ, zero, suc, _≤_, _<_}
+use native.Mathlib.Omega.{arith}
+use lib.Dec.{eqb, ltb, leb}
+use lib.ListN.{length}
+use borrow.Author.Tests.{eqb-true, eqb-false, ltb-false, leb-false, eq-eqb, le-ltb, lt-leb}
+use Rattle.bounded.specs.Bounded.{at}
+use Rattle.bounded.proofs.Any.{any-none, none-any}
+use Rattle.definitions.specs.Refusals.{Row, _when_, first, accepted}
+use Rattle.definitions.specs.Plan.{modulus, planRows, checkNumber}
+use Rattle.definitions.specs.Code.{Code, cells, size}
+use Rattle.definitions.specs.Cost.{full, unread}
+use Rattle.definitions.specs.Calls.{lengthRow, strange, excessive, halfRead, photoRows}
+use Rattle.definitions.specs.Photograph.{Photograph}
+use Rattle.definitions.proofs.Refusals.{Numbered, first-append, first-at, first-clear, testAt, equal}
+
+module _ (C : Code) (P s u B : List ℕ) where
+  -- the rows after the plan's
+  abbrev rest : List Row
+  rest = lengthRow s (cells C P) ∷ lengthRow u (cells C P) ∷ lengthRow B (size C P) ∷ (7 when strange P s (cells C P))
+      ∷ (8 when excessive u (cells C P)) ∷ (8 when halfRead s u (cells C P)) ∷ []
+
+  split : first (photoRows C P s u B) ≡ accepted (checkNumber P) (first rest) (checkNumber P)
+  unfolding photoRows checkNumber planRows
+  split = first-append (planRows P) rest tt
+
+  both-false : (a b : Bool) → (a ≡ true → b ≡ false) → a && b ≡ false
+  both-false true b h = h refl
+  both-false false b h = refl
+
+  not-both : (a b : Bool) → a && b ≡ false → a ≡ true → b ≡ false
+  not-both true b e h = e
+  not-both false b e h = absurd (true≢false (sym h))
+
+  pub photo-accepted : Photograph C P s u → length B ≡ size C P → first (photoRows C P s u B) ≡ 0
+  photo-accepted h l = split ∙ ap (λ k. accepted k (first rest) k) (h .sound) ∙ sym (first-at rest 6
+      (equal _ _ (h .symbols), (equal _ _ (h .doubts), (equal _ _ l, (symbol, (doubt, (erased, tt)))))))
+    where
+      symbol : strange P s (cells C P) ≡ false
+      symbol = none-any _ _ λ c m. one c (h .symbol c m)
+        where
+          one : (c : ℕ) → (at s c < modulus P) ⊎ (at s c ≡ unread) → leb (modulus P) (at s c) && not (eqb (at s c) unread) ≡ false
+          one c (inl k) = both-false (leb (modulus P) (at s c)) (not (eqb (at s c) unread)) λ t. absurd (true≢false (sym t ∙ lt-leb _ _ k))
+          one c (inr k) = both-false (leb (modulus P) (at s c)) (not (eqb (at s c) unread)) λ t. equal (at s c) unread k
+
+      doubt : excessive u (cells C P) ≡ false
+      doubt = none-any _ _ λ c m. le-ltb _ _ (h .doubt c m)
+
+      erased : halfRead s u (cells C P) ≡ false
+      erased = none-any _ _ λ c m. both-false _ _ λ t. equal _ _ (h .erased c m (eqb-true _ _ t))
+
+  module _ (e : first (photoRows C P s u B) ≡ 0) where
+    sound : checkNumber P ≡ 0
+    sound = go (checkNumber P) (sym split ∙ e)
+      where
+        go : (k : ℕ) → accepted k (first rest) k ≡ 0 → k ≡ 0
+        go zero h = refl
+        go (suc k) h = h
+
+    clear : (i : ℕ) → testAt rest i ≡ false
+    clear = first-clear rest tt (sym (split ∙ ap (λ k. accepted k (first rest) k) sound) ∙ e)
+
+    not-not : (b : Bool) → not b ≡ false → b ≡ true
+    not-not true h = refl
+    not-not false h = absurd (true≢false h)
+
+    pub accepted-photo : Photograph C P s u
+    accepted-photo = record {
+      sound = sound;
+      symbols = eqb-true _ _ (not-not _ (clear 0));
+      doubts = eqb-true _ _ (not-not _ (clear 1));
+      symbol = λ c m. one c (leb (modulus P) (at s c)) refl (any-none _ _ (clear 3) c m);
+      doubt = λ c m. ltb-false _ _ (any-none _ _ (clear 4) c m);
+      erased = λ c m k. eqb-true _ _ (not-not _ (not-both _ _ (any-none _ _ (clear 5) c m) (eq-eqb _ _ k)));
+    }
+      where
+        one : (c : ℕ) (b : Bool) → leb (modulus P) (at s c) ≡ b → b && not (eqb (at s c) unread) ≡ false → (at s c < modulus P) ⊎ (at s c ≡ unread)
+        one c true t h = inr (eqb-true _ _ (not-not _ h))
+        one c false t h = inl (leb-false _ _ t)
+
+    pub accepted-buffer : length B ≡ size C P
+    accepted-buffer = eqb-true _ _ (not-not _ (clear 2))
