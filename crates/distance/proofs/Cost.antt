@@ -1,0 +1,74 @@
+-- The laws of cost, for any full doubt F: of two words at most one is under F times the cells in which they differ; the doubts are a
+-- lower bound; a cell of full doubt costs the same whatever its symbol; a term subtracted from symbol and value. Assumes nothing.
+use mathlib.Core.Path.{_≡_, refl, sym, _∙_}
+use mathlib.Core.Bool.{Bool, true, false, cond}
+use Prim.Native.Nat.{ℕ, suc, _+_, _*_, _-_, _%_, _≤_, _<_}
+use native.Mathlib.Omega.{arith}
+use native.Mathlib.Nat.{mul-le-mul-left, mod-eq-of-lt}
+use lib.Dec.{eqb}
+use borrow.Author.Tests.{eqb-true, eqb-false}
+use Rattle.bounded.specs.Bounded.{sum}
+use Rattle.bounded.proofs.Sum.{sum-le, sum-add, sum-mul}
+use Rattle.field.specs.Congruence.{Cong}
+use Rattle.field.proofs.Congruence.{same, of-mod, to-mod, ~sym, _⨾_, ~add, cancel}
+use Rattle.definitions.specs.Cost.{cell, cost, changed}
+use Rattle.distance.specs.Level.{differ}
+
+-- two values of one cell
+pub cell-two-values : (F s u v w : ℕ) → u ≤ F → 2 * F * differ v w ≤ cell F s u v + cell F s u w
+cell-two-values F s u v w h = go (eqb s v) (eqb s w) (eqb v w) refl refl refl
+  where
+    go : (a b c : Bool) → eqb s v ≡ a → eqb s w ≡ b → eqb v w ≡ c → 2 * F * cond c 0 1 ≤ cond a u (2 * F - u) + cond b u (2 * F - u)
+    go a b true i j k = omega arith
+    go true true false i j k = absurd (eqb-false v w k (sym (eqb-true s v i) ∙ eqb-true s w j))
+    go true false false i j k = omega arith
+    go false true false i j k = omega arith
+    go false false false i j k = omega arith
+
+-- two words
+pub cost-two-words : (F n : ℕ) (s u v w : ℕ → ℕ) → ((i : ℕ) → i < n → u i ≤ F) → 2 * F * changed n v w ≤ cost F n s u v + cost F n s u w
+cost-two-words F n s u v w h = omega (
+  arith,
+  sum-mul n (2 * F) (λ i. differ (v i) (w i)),
+  sum-add n (λ i. cell F (s i) (u i) (v i)) (λ i. cell F (s i) (u i) (w i)),
+  sum-le n λ i l. cell-two-values F (s i) (u i) (v i) (w i) (h i l),
+)
+
+-- where two words differ in D cells and one is under F D, the other is over it
+pub cost-far : (F D n : ℕ) (s u v w : ℕ → ℕ) → ((i : ℕ) → i < n → u i ≤ F) → D ≤ changed n v w → cost F n s u v < F * D → F * D < cost F n s u w
+cost-far F D n s u v w h d c = omega (arith, cost-two-words F n s u v w h, mul-le-mul-left F d)
+
+-- a word costs at least the doubts
+pub cell-doubt : (F s u v : ℕ) → u ≤ F → u ≤ cell F s u v
+cell-doubt F s u v h = go (eqb s v)
+  where
+    go : (b : Bool) → u ≤ cond b u (2 * F - u)
+    go true = omega arith
+    go false = omega arith
+
+pub doubts-cost : (F n : ℕ) (s u v : ℕ → ℕ) → ((i : ℕ) → i < n → u i ≤ F) → sum n u ≤ cost F n s u v
+doubts-cost F n s u v h = sum-le n λ i l. cell-doubt F (s i) (u i) (v i) (h i l)
+
+-- a cell of full doubt, as an unread one
+pub cell-full : (F s v : ℕ) → cell F s F v ≡ F
+cell-full F s v = go (eqb s v)
+  where
+    go : (b : Bool) → cond b F (2 * F - F) ≡ F
+    go true = refl
+    go false = omega arith
+
+-- a cell from which the term e was subtracted costs for the rest a what it cost for the whole
+pub cell-less : {q : ℕ} (F s s′ u a e : ℕ) → s < suc q → s′ < suc q → Cong q (s′ + e) s → cell F s′ u (a % suc q) ≡ cell F s u ((a + e) % suc q)
+cell-less {q} F s s′ u a e l l′ c = go (eqb s′ (a % suc q)) (eqb s ((a + e) % suc q)) refl refl
+  where
+    whole : s′ ≡ a % suc q → s ≡ (a + e) % suc q
+    whole i = sym (mod-eq-of-lt l) ∙ to-mod (~sym c ⨾ ~add (of-mod s′ a (mod-eq-of-lt l′ ∙ i)) (same {a = e} refl))
+
+    part : s ≡ (a + e) % suc q → s′ ≡ a % suc q
+    part j = sym (mod-eq-of-lt l′) ∙ to-mod (cancel (same {a = e} refl) (c ⨾ of-mod s (a + e) (mod-eq-of-lt l ∙ j)))
+
+    go : (b b′ : Bool) → eqb s′ (a % suc q) ≡ b → eqb s ((a + e) % suc q) ≡ b′ → cond b u (2 * F - u) ≡ cond b′ u (2 * F - u)
+    go true true i j = refl
+    go false false i j = refl
+    go true false i j = absurd (eqb-false _ _ j (whole (eqb-true _ _ i)))
+    go false true i j = absurd (eqb-false _ _ i (part (eqb-true _ _ j)))

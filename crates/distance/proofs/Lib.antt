@@ -1,0 +1,2 @@
+-- The laws of the weighted distance.
+pub mod Cost
