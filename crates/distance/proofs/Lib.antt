@@ -1,2 +1,3 @@
 -- The laws of the weighted distance.
 pub mod Cost
+pub mod Level
