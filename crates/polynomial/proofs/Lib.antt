@@ -3,3 +3,6 @@ pub mod Lead
 pub mod Roots
 pub mod Eval
 pub mod Record
+pub mod Points
+pub mod Newton
+pub mod Coefficients
