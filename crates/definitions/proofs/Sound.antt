@@ -1,10 +1,11 @@
 -- A plan whose check gives 0 is sound, as facts; and the check that stops at row i gives that row's number. Assumes nothing.
-use mathlib.Core.Path.{_≡_}
+use mathlib.Core.Path.{_≡_, ap}
 use mathlib.Core.Bool.{true, false}
 use mathlib.Core.List.{List}
-use Prim.Native.Nat.{ℕ, _+_, _-_, _<_}
+use Prim.Native.Nat.{ℕ, _+_, _-_, _≤_, _<_}
 use native.Mathlib.Omega.{arith}
 use borrow.Author.Tests.{leb-false, ltb-false, eqb-true, eqb-false, not-false}
+use Rattle.bounded.specs.Bounded.{at}
 use Rattle.bounded.proofs.Any.{any-none}
 use Rattle.field.proofs.Prime.{is-prime}
 use Rattle.definitions.specs.Plan.{side, planRows, checkNumber}
@@ -23,6 +24,10 @@ sound P e = record {
   low = leb-false _ _ (c 7);
   below = λ i l. leb-false _ _ (any-none _ _ (c 8) i l);
   rising = λ i l. leb-false _ _ (any-none _ _ (c 9) i (before i (side P) l));
+  unused = λ i l m.
+      let e : 5 + side P + (i - side P) ≡ 5 + i = omega arith in
+      let z : at P (5 + side P + (i - side P)) ≤ 0 = ltb-false _ _ (any-none _ _ (c 10) (i - side P) (omega arith)) in
+      omega (arith, ap (at P) e);
 }
   where
     c : (i : ℕ) → testAt (planRows P) i ≡ false

@@ -17,3 +17,4 @@ pub record Sound (P : List ℕ) : Type 0 where
   pub low : degree P < side P
   pub below : (i : ℕ) → i < side P → point P i < modulus P
   pub rising : (i : ℕ) → i + 1 < side P → point P i < point P (i + 1)
+  pub unused : (i : ℕ) → side P ≤ i → i < 16 → point P i ≡ 0
