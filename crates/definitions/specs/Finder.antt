@@ -4,6 +4,7 @@
 --   findNumber        0, or refusal 11 or 12; this is decided
 --   Found             a part is record k of the file, for some k, and has the season
 --   Finding           what finding answers: a decided number, and a part that is empty where the number is not 0
+--   FoundAt, FindingAt   the same with the part's offset in the file in the place of the part, and 0 in that of an empty one
 --
 -- What this file is for: the finder's contract. The season bytes alone are compared; the plan is not checked.
 use mathlib.Core.Path.{_≡_}
@@ -49,3 +50,14 @@ pub record Finding (file : RefT (List ℕ)) (y number : ℕ) (part : RefT (List 
   pub decided : number ≡ findNumber (now file) y
   pub found : number ≡ 0 → Found file y part
   pub empty : number ≢ 0 → now part ≡ []
+
+pub record FoundAt (file : List ℕ) (y offset : ℕ) : Type 0 where
+  pub k : ℕ
+  pub inside : k < length file / 24
+  pub start : offset ≡ k * 24
+  pub same : season (planAt file k) ≡ y
+
+pub record FindingAt (file : List ℕ) (y number offset : ℕ) : Type 0 where
+  pub decided : number ≡ findNumber file y
+  pub found : number ≡ 0 → FoundAt file y offset
+  pub nowhere : number ≢ 0 → offset ≡ 0
