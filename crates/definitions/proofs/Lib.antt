@@ -5,4 +5,5 @@ pub mod Search
 pub mod Sound
 pub mod Photograph
 pub mod Nearest
+pub mod Demands
 pub mod Finder

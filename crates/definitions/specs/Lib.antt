@@ -12,3 +12,4 @@ pub mod Word
 pub mod Sound
 pub mod Photograph
 pub mod Reads
+pub mod Demands

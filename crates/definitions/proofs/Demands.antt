@@ -1,0 +1,68 @@
+-- Demand 3 follows where at most one record is within the radius; so it is left to the distance of the codes. Assumes nothing.
+use mathlib.Core.Path.{_≡_, refl, sym, ap, _∙_}
+use mathlib.Core.Logic.{_≢_}
+use mathlib.Core.Bool.{Bool, true, false}
+use mathlib.Core.List.{List, [], _∷_}
+use mathlib.Core.Option.{Option, some, none}
+use Prim.Native.Nat.{ℕ, zero, suc, _≤_, _<_}
+use native.Mathlib.Omega.{arith}
+use native.Mathlib.Decide.{decLt}
+use lib.Dec.{ltb}
+use lib.ListN.{length}
+use borrow.Author.Tests.{lt-ltb, le-ltb, ltb-false}
+use Rattle.definitions.specs.Refusals.{first, accepted}
+use Rattle.definitions.specs.Code.{Code, size}
+use Rattle.definitions.specs.Cost.{full, radius}
+use Rattle.definitions.specs.Calls as calls
+use Rattle.definitions.specs.Calls.{photoRows, costOf, within, the, readingOf, readReading, readBuffer, readNumber}
+use Rattle.definitions.specs.Word.{IsRecord}
+use Rattle.definitions.specs.Photograph.{Photograph}
+use Rattle.definitions.specs.Demands.{Nearest}
+use Rattle.definitions.proofs.Photograph.{photo-accepted}
+use Rattle.definitions.proofs.Nearest.{reads-none, reads-the}
+
+-- at most one record of the plan is within the radius
+abbrev pub AtMostOne : Code → (P s u : List ℕ) → Type 0
+AtMostOne C P s u = (F G : List ℕ) → IsRecord C P F → IsRecord C P G → within C P s u F ≡ true → within C P s u G ≡ true → F ≡ G
+
+module _ (C : Code) (P s u B : List ℕ) (photo : Photograph C P s u) (buffer : length B ≡ size C P) (one : AtMostOne C P s u) where
+  clear : first (photoRows C P s u B) ≡ 0
+  clear = photo-accepted C P s u B photo buffer
+
+  near : (F : List ℕ) → costOf C P s u F < radius full C P → within C P s u F ≡ true
+  unfolding within
+  near F l = lt-ltb _ _ l
+
+  far : (F : List ℕ) → radius full C P ≤ costOf C P s u F → within C P s u F ≡ false
+  unfolding within
+  far F l = le-ltb _ _ l
+
+  found : (F : List ℕ) → IsRecord C P F → costOf C P s u F < radius full C P → (readReading C P s u B ≡ readingOf C P s u F) × (readBuffer C P s u B ≡ F)
+  found F r l = let h = reads-the C P s u B clear one F r (near F l) in (sym (h .reading), sym (h .buffer))
+
+  -- the number stands in the reading
+  number : readReading C P s u B .number ≡ readNumber C P s u B
+  unfolding readReading readingOf
+  number = go (readNumber C P s u B) (the (calls.nearest C P s u))
+    where
+      go : (k : ℕ) (F : List ℕ) → accepted k (readingOf C P s u F) (calls.refused k) .number ≡ k
+      go zero F = refl
+      go (suc k) F = refl
+
+  accepted-number : (F : List ℕ) → readingOf C P s u F .number ≡ 0
+  unfolding readingOf
+  accepted-number F = refl
+
+  pub nearest : Nearest C P s u B
+  nearest = record {
+    alone = λ F G r q n l. elim (decLt (costOf C P s u G) (radius full C P)) [
+      | yes m ↦ absurd (n (one F G r q (near F l) (near G m)))
+      | no m ↦ omega arith
+    ];
+    returned = found;
+    refuses = λ z. let h = reads-none C P s u B clear (λ F r. far F (z F r)) in (sym (h .reading), sym (h .buffer));
+    refused = λ e F r. elim (decLt (costOf C P s u F) (radius full C P)) [
+      | yes m ↦ absurd (omega (arith, e, number, accepted-number F, ap (λ a. a .number) (found F r m .0)))
+      | no m ↦ omega arith
+    ];
+  }

@@ -1,0 +1,31 @@
+-- The customer's demands as statements over the definitions. That they hold is proved in the crate `traymark`.
+--
+--   Nearest C P s u B     demand 3: at most one record of the plan costs under the limit, the reading is that one with its cost, and
+--                         it is 10 exactly when there is none. The limit is the radius: 100 n (n - d) for a mark, 100 (n - d) for a strip
+--   RoundTrip C P F B     demand 2: reading the mark of F with all doubts 0 gives F at cost 0, and changes nothing else
+--
+-- What this file is for: the two sentences that a user relies on, each as one record whose fields are its parts.
+use mathlib.Core.Path.{_≡_}
+use mathlib.Core.List.{List}
+use mathlib.Core.Logic.{_≢_}
+use Prim.Native.Nat.{ℕ, _≤_, _<_}
+use lib.IntN.{pos}
+use lib.ListN.{replicate}
+use Rattle.definitions.specs.Code.{Code, cells, mark}
+use Rattle.definitions.specs.Cost.{full, radius}
+use Rattle.definitions.specs.Calls as calls
+use Rattle.definitions.specs.Calls.{costOf, readingOf, readNumber, readReading, readBuffer}
+use Rattle.definitions.specs.Word.{IsRecord}
+
+pub record Nearest (C : Code) (P s u B : List ℕ) : Type 0 where
+  -- where a record costs under the limit, every other record of the plan costs the limit or more
+  pub alone : (F G : List ℕ) → IsRecord C P F → IsRecord C P G → F ≢ G → costOf C P s u F < radius full C P → radius full C P ≤ costOf C P s u G
+  -- the reader returns the one under the limit, with its cost
+  pub returned : (F : List ℕ) → IsRecord C P F → costOf C P s u F < radius full C P → (readReading C P s u B ≡ readingOf C P s u F) × (readBuffer C P s u B ≡ F)
+  -- it refuses with 10 exactly when no record costs under the limit; then the lent buffer is as it was
+  pub refuses : ((F : List ℕ) → IsRecord C P F → radius full C P ≤ costOf C P s u F) → (readReading C P s u B ≡ calls.refused 10) × (readBuffer C P s u B ≡ B)
+  pub refused : readNumber C P s u B ≡ 10 → (F : List ℕ) → IsRecord C P F → radius full C P ≤ costOf C P s u F
+
+pub record RoundTrip (C : Code) (P F B : List ℕ) : Type 0 where
+  pub reading : readReading C P (mark C P F) (replicate (cells C P) 0) B ≡ record { number = 0; cost = 0; margin = pos (radius full C P); changed = 0; class = 0 }
+  pub buffer : readBuffer C P (mark C P F) (replicate (cells C P) 0) B ≡ F
