@@ -6,3 +6,4 @@ pub mod Record
 pub mod Points
 pub mod Newton
 pub mod Coefficients
+pub mod Grid

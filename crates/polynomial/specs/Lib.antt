@@ -2,3 +2,4 @@
 pub mod Eval
 pub mod Lead
 pub mod Record
+pub mod Grid
