@@ -1,9 +1,10 @@
--- The laws of tables: length, entries, and when a list is one. Assumes nothing.
+-- The laws of tables: length, entries, when a list is one, equal entries, and a table in two parts. Assumes nothing.
 use mathlib.Core.Path.{_≡_, refl, sym, ap₂, _∙_}
-use mathlib.Core.List.{List, [], _∷_}
-use Prim.Native.Nat.{ℕ, zero, suc, _<_}
+use mathlib.Core.List.{List, [], _∷_, _++_, append-assoc, append-nil}
+use Prim.Native.Nat.{ℕ, zero, suc, _+_, _<_}
 use native.Mathlib.Omega.{arith}
 use native.Mathlib.Decide.{ℕ-discrete}
+use native.Mathlib.Nat.{add-zero, add-suc}
 use lib.ListN.{length, length-append, List·getD-append}
 use lib.Seq.{getD-at}
 use Rattle.bounded.specs.Bounded.{at, tab}
@@ -32,3 +33,15 @@ list-eq (a ∷ v) (b ∷ w) e h = ap₂ _∷_ (h 0 (omega arith)) (list-eq v w (
 pub tab-is : (n : ℕ) (f : ℕ → ℕ) (l : List ℕ) → length l ≡ n → ((i : ℕ) → i < n → at l i ≡ f i) → l ≡ tab n f
 tab-is n f l e h = list-eq l (tab n f) (e ∙ sym (length-tab n f)) λ i m.
     let k : i < n = omega arith in h i k ∙ sym (tab-at n f i k)
+
+-- tables of the same numbers are one
+pub tab-eq : (n : ℕ) {f g : ℕ → ℕ} → ((i : ℕ) → i < n → f i ≡ g i) → tab n f ≡ tab n g
+unfolding tab
+tab-eq zero h = refl
+tab-eq (suc n) h = ap₂ (λ l v. l ++ (v ∷ [])) (tab-eq n λ i l. h i (omega arith)) (h n (omega arith))
+
+-- a table in two parts
+pub tab-append : (a b : ℕ) (f : ℕ → ℕ) → tab (a + b) f ≡ tab a f ++ tab b (λ i. f (a + i))
+unfolding tab
+tab-append a zero f = rw (add-zero a) (sym (append-nil (tab a f)))
+tab-append a (suc b) f = rw (add-suc a b, tab-append a b f) (append-assoc (tab a f) _ _)
