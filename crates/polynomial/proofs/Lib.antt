@@ -7,3 +7,4 @@ pub mod Points
 pub mod Newton
 pub mod Coefficients
 pub mod Grid
+pub mod Powers

@@ -3,3 +3,4 @@ pub mod Eval
 pub mod Lead
 pub mod Record
 pub mod Grid
+pub mod Powers

@@ -1,1 +1,2 @@
-// Polynomials over the field of a prime, in one variable and in two.
+// Polynomials modulo a prime: values at sixteen points at once, in one variable and, of a flat record, in two.
+pub mod evaluation;
