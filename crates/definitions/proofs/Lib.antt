@@ -6,4 +6,5 @@ pub mod Sound
 pub mod Photograph
 pub mod Nearest
 pub mod Demands
+pub mod Own
 pub mod Finder
