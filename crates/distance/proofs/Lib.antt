@@ -1,3 +1,4 @@
 -- The laws of the weighted distance.
 pub mod Cost
 pub mod Level
+pub mod Unique
