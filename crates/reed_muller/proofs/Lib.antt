@@ -1,0 +1,2 @@
+-- The laws of the mark decoder.
+pub mod Line

@@ -1,0 +1,2 @@
+-- The mark decoder: Reed-Muller codes with doubts.
+pub mod Line

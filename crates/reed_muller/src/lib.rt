@@ -1,0 +1,1 @@
+// The mark decoder: Reed-Muller codes with doubts, line by line.
