@@ -1,0 +1,70 @@
+-- `plan::is_large` meets its contract: the first i points are below p. Assumes nothing.
+use mathlib.Core.Path.{_≡_, sym}
+use mathlib.Core.Bool.{false}
+use Prim.Native.Nat.{_-_, _≤_}
+use native.Mathlib.Omega.{arith}
+use borrow.Author.Tests.{le-leb, lt-leb}
+use Rattle.bounded.proofs.Any.{some-any, any-more, any-start}
+use Rattle.definitions.specs.Plan.{side, large}
+use borrow.Author.Needs.{needs}
+use Rattle.plan.proofs.is_large.Statement.{statement}
+use Rattle.plan.proofs.is_large.Tie as tie
+
+abbrev Inv-loop : tie.InvT-loop
+Inv-loop plan n i₀ i = (i ≤ n) × (large plan i ≡ false)
+
+abbrev μ-loop : tie.MeasureT-loop
+μ-loop plan n i₀ i = n - i
+
+shared-slice-read-n : tie.Need-shared-slice-read-n Inv-loop μ-loop
+shared-slice-read-n c = search needs
+
+cast-n : tie.Need-cast-n Inv-loop μ-loop
+cast-n c = search needs
+
+loop-holds : tie.Need-loop-holds Inv-loop μ-loop
+loop-holds c = (search needs, any-start _)
+
+shared-slice-read-if1 : tie.Need-shared-slice-read-if1 Inv-loop μ-loop
+shared-slice-read-if1 c = search needs
+
+add-if1 : tie.Need-add-if1 Inv-loop μ-loop
+add-if1 c = search needs
+
+shared-slice-read-if1-2 : tie.Need-shared-slice-read-if1-2 Inv-loop μ-loop
+shared-slice-read-if1-2 c = search needs
+
+returns : tie.Need-returns Inv-loop μ-loop
+returns c = sym (some-any _ _ (c .before .before .before .before .loop .i) (search needs) (le-leb _ _ (c .if1 .taken)))
+
+add-i : tie.Need-add-i Inv-loop μ-loop
+add-i c = search needs
+
+loop-less : tie.Need-loop-less Inv-loop μ-loop
+loop-less c = search needs
+
+loop-again : tie.Need-loop-again Inv-loop μ-loop
+loop-again c = (search needs, any-more _ _ (c .before .before .before .before .loop .inv .1) (lt-leb _ _ (c .if1 .left)))
+
+returns-2 : tie.Need-returns-2 Inv-loop μ-loop
+returns-2 c =
+    let e : c .before .loop .i ≡ side (c .before .before .before .args .plan .now) = omega arith in
+    sym (rw e at (c .before .loop .inv .1))
+
+pub is-large-spec : {M : Type 1} → statement M
+is-large-spec =
+    tie.close
+    (tie.spec
+    Inv-loop
+    μ-loop
+    shared-slice-read-n
+    cast-n
+    loop-holds
+    shared-slice-read-if1
+    add-if1
+    shared-slice-read-if1-2
+    returns
+    add-i
+    loop-less
+    loop-again
+    returns-2)

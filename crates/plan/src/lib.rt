@@ -1,0 +1,147 @@
+// The season plan, 24 bytes of document 01's first table: checking one, finding one in a plan file, and its points as a row of
+// residues. A plan may be any bytes of any length; what the table asks of it is found out here and nowhere else.
+ghost use mathlib.Core.Path.{_≡_};
+ghost use Prim.Native.Nat.{_+_, _*_, _-_, _≤_, _<_};
+ghost use lib.ListN.{length};
+ghost use Rattle.field.specs.Row.{row};
+ghost use Rattle.definitions.specs.Plan.{filled, large, unordered, checkNumber, side, point};
+ghost use Rattle.definitions.specs.Finder.{Finding, FindingAt};
+
+// The number of the first refusal, 1 to 5, that applies to the plan; 0 where it is sound. The tests are the rows of
+// `planRows`, one for one.
+pub fn check(plan: &[u8]) -> u32
+    ensures { λ r. ⌜ r ≡ checkNumber (now (plan .entry)) ⌝ }
+{
+    if plan.len() != 24 {
+        return 1;
+    }
+    if is_filled(plan, 21, 3) {
+        return 1;
+    }
+    let p = plan[2];
+    if !field::scalar::is_prime(p as u16) {
+        return 2;
+    }
+    if 251 < p {
+        return 2;
+    }
+    let n = plan[3];
+    if n == 0 {
+        return 3;
+    }
+    if 16 < n {
+        return 3;
+    }
+    if p < n {
+        return 3;
+    }
+    if n <= plan[4] {
+        return 4;
+    }
+    if is_large(plan) {
+        return 5;
+    }
+    if is_unordered(plan) {
+        return 5;
+    }
+    let m = n as usize;
+    if is_filled(plan, 5 + m, 16 - m) {
+        return 5;
+    }
+    0
+}
+
+// Whether one of the n bytes from byte a on is not 0.
+fn is_filled(plan: &[u8], a: usize, n: usize) -> bool
+    requires { ⌜ a + n ≤ length (now plan) ⌝ }
+    ensures { λ r. ⌜ r ≡ filled (now (plan .entry)) a n ⌝ }
+{
+    for i in 0..n {
+        if 0 < plan[a + i] {
+            return true;
+        }
+    }
+    false
+}
+
+// Whether one of the points is p or more.
+fn is_large(plan: &[u8]) -> bool
+    requires { ⌜ (length (now plan) ≡ 24) × (side (now plan) ≤ 16) ⌝ }
+    ensures { λ r. ⌜ r ≡ large (now (plan .entry)) (side (now (plan .entry))) ⌝ }
+{
+    let n = plan[3] as usize;
+    for i in 0..n {
+        if plan[2] <= plan[5 + i] {
+            return true;
+        }
+    }
+    false
+}
+
+// Whether one of the points is not above the one before it.
+fn is_unordered(plan: &[u8]) -> bool
+    requires { ⌜ (length (now plan) ≡ 24) × (side (now plan) ≤ 16) × (0 < side (now plan)) ⌝ }
+    ensures { λ r. ⌜ r ≡ unordered (now (plan .entry)) (side (now (plan .entry)) - 1) ⌝ }
+{
+    let n = plan[3] as usize - 1;
+    for i in 0..n {
+        if plan[5 + (i + 1)] <= plan[5 + i] {
+            return true;
+        }
+    }
+    false
+}
+
+// The points as a row. The unused bytes of a sound plan are 0, so the row of such a plan holds residues alone (proofs/Residues).
+pub fn points(plan: &[u8]) -> [u16; 16]
+    requires { ⌜ length (now plan) ≡ 24 ⌝ }
+    ensures { λ r. ⌜ r ≡ row (point (now (plan .entry))) ⌝ }
+{
+    let mut out = [0u16; 16];
+    let mut j = 0;
+    while j < 16 {
+        out[j] = plan[5 + j] as u16;
+        j += 1;
+    }
+    out
+}
+
+// Where a record of the season begins in the plan file: answers 0 and sets the offset, a multiple of 24. Of several it is the
+// first, which nobody may count on. Refusals: 11 for a file of broken records, 12 where no record has the season; then the
+// offset is 0. Only the season bytes are compared; the plan is not checked.
+pub fn locate(file: &[u8], season: u16, offset: &mut usize) -> u32
+    ensures { λ r. ⌜ FindingAt (now (file .entry)) season r (now (offset .exit)) ⌝ }
+{
+    *offset = 0;
+    if file.len() % 24 != 0 {
+        return 11;
+    }
+    let n = file.len() / 24;
+    for k in 0..n {
+        let at = k * 24;
+        if season_of(file[at], file[at + 1]) == season {
+            *offset = at;
+            return 0;
+        }
+    }
+    12
+}
+
+// A season's two bytes, the high one first.
+fn season_of(high: u8, low: u8) -> u16
+    ensures { λ r. ⌜ r ≡ high * 256 + low ⌝ }
+{
+    high as u16 * 256 + low as u16
+}
+
+// The same, as the record itself: 24 bytes of the lent file and no copy, or an empty part of it where the number is not 0.
+pub fn find<'a>(file: &'a [u8], season: u16, number: &mut u32) -> &'a [u8]
+    ensures { λ r. ⌜ Finding (file .entry) season (now (number .exit)) r ⌝ }
+{
+    let mut at = 0;
+    *number = locate(file, season, &mut at);
+    if *number != 0 {
+        return &file[0..0];
+    }
+    &file[at..at + 24]
+}
