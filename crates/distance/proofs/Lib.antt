@@ -2,3 +2,4 @@
 pub mod Cost
 pub mod Level
 pub mod Unique
+pub mod Margin

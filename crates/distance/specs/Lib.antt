@@ -1,2 +1,3 @@
 -- The weighted distance of a word from symbols with doubts.
 pub mod Level
+pub mod Doubts

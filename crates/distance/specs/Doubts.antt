@@ -1,0 +1,9 @@
+-- Doubts of a photograph.
+--
+--   Doubts f n u    none of the n doubts is above the full doubt f
+--
+-- What this file is for: the cost of a word is a sum without subtraction below 0 where its doubts are such.
+use Prim.Native.Nat.{ℕ, _≤_, _<_}
+
+abbrev pub Doubts : (f n : ℕ) (u : ℕ → ℕ) → Type 0
+Doubts f n u = (i : ℕ) → i < n → u i ≤ f

@@ -1,0 +1,62 @@
+// The cost of a word of at most sixteen cells, for any full doubt: document 01, "Photographed mark and cost".
+ghost use mathlib.Core.Path.{_≡_};
+ghost use Prim.Native.Nat.{_*_, _≤_, _<_};
+ghost use Rattle.bounded.specs.Bounded.{at};
+ghost use Rattle.definitions.specs.Cost.{cell, cost, changed};
+ghost use Rattle.distance.specs.Doubts.{Doubts};
+ghost use Rattle.distance.specs.Level.{differ};
+
+// What one cell costs: its doubt where its symbol is the value, else twice the full doubt less its doubt.
+pub fn cell_cost(symbol: u16, doubt: u32, value: u16, full: u32) -> u32
+    requires { ⌜ (doubt ≤ full) × (full < 65536) ⌝ }
+    ensures { λ r. ⌜ (r ≡ cell full symbol doubt value) × (r ≤ 131072) ⌝ }
+{
+    if symbol == value {
+        return doubt;
+    }
+    2 * full - doubt
+}
+
+// What the n values cost.
+pub fn word_cost(
+    n: usize,
+    symbols: [u16; 16],
+    doubts: [u32; 16],
+    values: [u16; 16],
+    full: u32,
+) -> u32
+    requires { ⌜ (n ≤ 16) × Doubts full n (at doubts) × (full < 65536) ⌝ }
+    ensures { λ r. ⌜ (r ≡ cost full n (at symbols) (at doubts) (at values)) × (r ≤ 131072 * n) ⌝ }
+{
+    let mut sum = 0;
+    let mut i = 0;
+    while i < n {
+        sum += cell_cost(symbols[i], doubts[i], values[i], full);
+        i += 1;
+    }
+    sum
+}
+
+// 1 for a cell whose symbol is not the value.
+fn cell_changed(symbol: u16, value: u16) -> u32
+    ensures { λ r. ⌜ (r ≡ differ symbol value) × (r ≤ 1) ⌝ }
+{
+    if symbol == value {
+        return 0;
+    }
+    1
+}
+
+// How many of the n symbols are not the values.
+pub fn word_changed(n: usize, symbols: [u16; 16], values: [u16; 16]) -> u32
+    requires { ⌜ n ≤ 16 ⌝ }
+    ensures { λ r. ⌜ (r ≡ changed n (at symbols) (at values)) × (r ≤ n) ⌝ }
+{
+    let mut count = 0;
+    let mut i = 0;
+    while i < n {
+        count += cell_changed(symbols[i], values[i]);
+        i += 1;
+    }
+    count
+}
