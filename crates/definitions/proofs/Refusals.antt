@@ -1,5 +1,5 @@
 -- The laws of refusals in order: which row decides, what an accepted call knows of each row, and rows after rows. Assumes nothing.
-use mathlib.Core.Path.{_≡_, refl, sym, _∙_}
+use mathlib.Core.Path.{_≡_, refl, sym, ap, _∙_}
 use mathlib.Core.Bool.{Bool, true, false, not}
 use mathlib.Core.List.{List, [], _∷_, _++_}
 use Prim.Native.Nat.{ℕ, zero, suc}
@@ -61,6 +61,9 @@ unequal a b e = rw (ne-eqb a b e)
 
 pub answered : {r b t : Bool} → r ≡ b → r ≡ t → b ≡ t
 answered e h = sym e ∙ h
+
+pub answered-not : {r b t : Bool} → r ≡ b → not r ≡ t → not b ≡ t
+answered-not e h = sym (ap not e) ∙ h
 
 pub not-true : {b : Bool} → b ≡ true → not b ≡ false
 not-true e = rw e
