@@ -1,30 +1,25 @@
 -- `plan::check` meets its contract: at each return the tests before it failed, and its own holds. Assumes nothing.
-use mathlib.Core.Path.{_≡_, sym, _∙_, ap}
-use mathlib.Core.Bool.{Bool, not}
 use native.Mathlib.Omega.{arith}
 use borrow.Author.Tests.{lt-ltb, le-ltb, le-leb, lt-leb, eq-eqb, ne-eqb}
 use Rattle.definitions.specs.Plan.{planRows}
-use Rattle.definitions.proofs.Refusals.{equal, unequal, answered}
+use Rattle.definitions.proofs.Refusals.{equal, unequal, answered, answered-not}
 use Rattle.definitions.proofs.Sound.{check-at}
 use borrow.Author.Needs.{needs}
 use Rattle.plan.proofs.check.Statement.{statement}
 use Rattle.plan.proofs.check.Tie as tie
 
-answered-not : {r b t : Bool} → r ≡ b → not r ≡ t → not b ≡ t
-answered-not e h = sym (ap not e) ∙ h
-
 ruleset tests = (answered, answered-not, equal, unequal, lt-ltb, le-ltb, le-leb, lt-leb, ne-eqb, eq-eqb)
 
 returns : tie.Need-returns
 unfolding planRows
-returns c = check-at _ 0 (search (needs, tests))
+returns c = check-at _ 0 (search tests depth 16)
 
 is-filled-requires : tie.Need-is-filled-requires
 is-filled-requires c κs = search needs
 
 returns-2 : tie.Need-returns-2
 unfolding planRows
-returns-2 c = check-at _ 1 (search (needs, tests))
+returns-2 c = check-at _ 1 (search tests depth 16)
 
 shared-slice-read-p : tie.Need-shared-slice-read-p
 shared-slice-read-p c = search needs
@@ -37,11 +32,11 @@ is-prime-requires c κs = search needs
 
 returns-3 : tie.Need-returns-3
 unfolding planRows
-returns-3 c = check-at _ 2 (search (needs, tests))
+returns-3 c = check-at _ 2 (search tests depth 16)
 
 returns-4 : tie.Need-returns-4
 unfolding planRows
-returns-4 c = check-at _ 3 (search (needs, tests))
+returns-4 c = check-at _ 3 (search tests depth 16)
 
 shared-slice-read-n : tie.Need-shared-slice-read-n
 shared-slice-read-n c = search needs

@@ -1,49 +1,57 @@
+-- `plan::find` meets its contract: the part is the record that was located. Assumes nothing.
+use mathlib.Core.Path.{_≡_, refl}
+use Prim.Native.Nat.{_+_}
+use native.Mathlib.Omega.{arith}
+use native.Mathlib.Nat.{add-sub-cancel-left}
 use borrow.Author.Needs.{needs}
 use Rattle.plan.proofs.find.Statement.{statement}
 use Rattle.plan.proofs.find.Tie as tie
-use Rattle.plan.proofs.find.Reads as reads
-use Rattle.plan.proofs.find.Lts as lts
-use Rattle.plan.proofs.locate.Reads as locate-reads
 
--- src/lib.rt:142:15
 locate-requires : tie.Need-locate-requires
 locate-requires c κs = search needs
 
--- src/lib.rt:144:16
 sub-result : tie.Need-sub-result
 sub-result c = search needs
 
--- src/lib.rt:144:16
 part-result-start : tie.Need-part-result-start
 part-result-start c = search needs
 
--- src/lib.rt:144:16
 part-result-end : tie.Need-part-result-end
 part-result-end c = search needs
 
--- src/lib.rt:144:9
 returns : tie.Need-returns
-returns c = search needs
+returns c =
+    record { decided = c .before .before .before .locate .ensures .decided; found = λ e. absurd (c .before .if1 .taken e); empty = λ e. refl }
 
--- src/lib.rt:146:15
 add-result : tie.Need-add-result
-add-result c = search needs
+add-result c =
+    let f = c .before .before .locate .ensures .found (c .if1 .left) in omega (arith, f .inside, f .start)
 
--- src/lib.rt:146:5
 sub-result-2 : tie.Need-sub-result-2
 sub-result-2 c = search needs
 
--- src/lib.rt:146:5
 part-result-start-2 : tie.Need-part-result-start-2
 part-result-start-2 c = search needs
 
--- src/lib.rt:146:5
 part-result-end-2 : tie.Need-part-result-end-2
-part-result-end-2 c = search needs
+part-result-end-2 c =
+    let f = c .before .before .locate .ensures .found (c .if1 .left) in omega (arith, f .inside, f .start)
 
--- src/lib.rt:138:1
 returns-2 : tie.Need-returns-2
-returns-2 c = search needs
+returns-2 c =
+    let a = c .before .before .before .locate .ensures in
+    let f = a .found (c .before .if1 .left) in
+    record {
+      decided = a .decided;
+      found = λ z. record {
+        k = f .k;
+        inside = f .inside;
+        bytes = rw (add-sub-cancel-left, f .start);
+        address = rw (f .start);
+        same = rw (add-sub-cancel-left, f .start) (f .same);
+      };
+      empty = λ z. absurd (z (c .before .if1 .left));
+    }
 
 pub find-spec : {M : Type 1} → statement M
 find-spec =

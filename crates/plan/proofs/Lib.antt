@@ -1,0 +1,2 @@
+-- What follows from a plan's soundness.
+pub mod Residues
