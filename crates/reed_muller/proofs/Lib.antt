@@ -1,2 +1,3 @@
 -- The laws of the mark decoder.
 pub mod Line
+pub mod Degree

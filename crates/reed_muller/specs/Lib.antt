@@ -1,2 +1,3 @@
 -- The mark decoder: Reed-Muller codes with doubts.
 pub mod Line
+pub mod Degree
