@@ -3,3 +3,4 @@ pub mod Cost
 pub mod Level
 pub mod Unique
 pub mod Margin
+pub mod Loaded

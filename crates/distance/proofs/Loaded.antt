@@ -1,0 +1,18 @@
+-- Loaded cells cost what the cells cost for which they stand. Assumes nothing.
+use mathlib.Core.Logic.{_⊎_, inl, inr}
+use mathlib.Core.Path.{_≡_, sym, _∙_}
+use Prim.Native.Nat.{ℕ, _<_}
+use Rattle.bounded.proofs.Sum.{sum-eq}
+use Rattle.definitions.specs.Cost.{cell, cost}
+use Rattle.distance.specs.Loaded.{Loaded}
+use Rattle.distance.proofs.Cost.{cell-full}
+
+pub cell-loaded : {F s u s′ u′ : ℕ} (v : ℕ) → Loaded F s u s′ u′ → cell F s u v ≡ cell F s′ u′ v
+cell-loaded {F} {s} {u} {s′} v L = rw (L .doubt) (go (L .symbol))
+  where
+    go : (s′ ≡ s) ⊎ (u ≡ F) → cell F s u v ≡ cell F s′ u v
+    go (inl e) = rw e
+    go (inr e) = rw e (cell-full F s v ∙ sym (cell-full F s′ v))
+
+pub cost-loaded : {F n : ℕ} {s u s′ u′ : ℕ → ℕ} (v : ℕ → ℕ) → ((i : ℕ) → i < n → Loaded F (s i) (u i) (s′ i) (u′ i)) → cost F n s u v ≡ cost F n s′ u′ v
+cost-loaded {n} v L = sum-eq n λ i l. cell-loaded (v i) (L i l)
