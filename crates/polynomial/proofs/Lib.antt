@@ -8,3 +8,4 @@ pub mod Newton
 pub mod Coefficients
 pub mod Grid
 pub mod Powers
+pub mod Plan
