@@ -9,3 +9,4 @@ pub mod Coefficients
 pub mod Grid
 pub mod Powers
 pub mod Plan
+pub mod Columns

@@ -28,7 +28,7 @@ pub fn powers(x: [u16; 16], p: u16, m: u16) -> [[u16; 16]; 16]
 // The values at the points, whose powers are given, of the polynomial with the k + 1 coefficients w.
 pub fn values(powers: [[u16; 16]; 16], k: usize, w: [u16; 16], p: u16, m: u16) -> [u16; 16]
     requires { ⌜ Reciprocal p m × Rows p powers × Row p w × (k < 16) ⌝ }
-    ensures { λ r. ⌜ ((x : List ℕ) → Powers p x powers → r ≡ row (λ j. eval (suc k) (at w) (at x j) % p)) ⌝ }
+    ensures { λ r. ⌜ Row p r × ((x : List ℕ) → Powers p x powers → r ≡ row (λ j. eval (suc k) (at w) (at x j) % p)) ⌝ }
 {
     let mut sum = [0; 16];
     let mut i = 0;

@@ -1,2 +1,3 @@
 // Polynomials modulo a prime: values at sixteen points at once, in one variable and, of a flat record, in two.
+pub mod bivariate;
 pub mod evaluation;

@@ -55,7 +55,7 @@ loop-again c =
     (omega arith, result-row _ z (c .add-multiple .ensures), λ x P. values-step (l .i) (b .args .t3) x z (l .inv .2 x P) (P .done (l .i) (omega arith)) (c .add-multiple .ensures))
 
 returns : tie.Need-returns Inv-loop μ-loop
-returns c = let l = c .before .loop in let e : l .i ≡ suc (c .before .before .args .k) = omega arith in λ x P. rw e at (l .inv .2 x P)
+returns c = let l = c .before .loop in let e : l .i ≡ suc (c .before .before .args .k) = omega arith in (l .inv .1, λ x P. rw e at (l .inv .2 x P))
 
 pub values-spec : {M : Type 1} → statement M
 values-spec =

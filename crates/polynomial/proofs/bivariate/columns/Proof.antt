@@ -1,0 +1,77 @@
+-- `polynomial::bivariate::columns` meets its contract: the columns below t are worked out. Assumes nothing.
+use mathlib.Core.Path.{_≡_, refl}
+use mathlib.Core.List.{List, []}
+use Prim.Native.Nat.{ℕ, suc, _+_, _-_, _%_, _≤_, _<_}
+use native.Mathlib.Omega.{arith}
+use Rattle.bounded.specs.Bounded.{at}
+use Rattle.field.specs.Loop.{Upto}
+use Rattle.field.specs.Row.{row}
+use Rattle.field.proofs.Loop.{upto-start, upto-step, upto-put}
+use Rattle.polynomial.specs.Powers.{Rows, Powers}
+use Rattle.polynomial.specs.Record.{coef, column}
+use Rattle.polynomial.proofs.Columns.{zero-rows, coefficients-row, column-values}
+use borrow.Author.Needs.{needs}
+use Rattle.polynomial.proofs.bivariate.columns.Statement.{statement}
+use Rattle.polynomial.proofs.bivariate.columns.Tie as tie
+
+abbrev Inv-loop : tie.InvT-loop
+Inv-loop message powers d p m out₀ t₀ out t =
+    (t ≤ d + 1) × Rows p out × ((x : List ℕ) → Powers p x powers → Upto 16 [] (λ t l. l ≡ row λ r. column d (coef message) t (at x r) % p) out t)
+
+abbrev μ-loop : tie.MeasureT-loop
+μ-loop message powers d p m out₀ t₀ out t = d + 1 - t
+
+loop-holds : tie.Need-loop-holds Inv-loop μ-loop
+loop-holds c = (omega arith, zero-rows (omega (arith, c .before .pre .0 .least)), λ x P. upto-start refl)
+
+coefficient-of-y-requires : tie.Need-coefficient-of-y-requires Inv-loop μ-loop
+coefficient-of-y-requires c κs = search needs
+
+values-requires : tie.Need-values-requires Inv-loop μ-loop
+values-requires c κs =
+    let b = c .before .before .before .before in
+    let t = c .before .before .loop .t in
+    (b .pre .0, b .pre .1, coefficients-row (b .args .d) t (b .args .message .now) (omega (arith, b .pre .0 .least)) (b .pre .3) (omega arith) (c .coefficient-of-y .ensures) (b .pre .2), omega arith)
+
+mul-out : tie.Need-mul-out Inv-loop μ-loop
+mul-out c = search needs
+
+array-set-from-out : tie.Need-array-set-from-out Inv-loop μ-loop
+array-set-from-out c = search needs
+
+add-t : tie.Need-add-t Inv-loop μ-loop
+add-t c = search needs
+
+loop-less : tie.Need-loop-less Inv-loop μ-loop
+loop-less c = search needs
+
+loop-again : tie.Need-loop-again Inv-loop μ-loop
+loop-again c =
+    let b = c .before .before .before .before .before in
+    let l = c .before .before .before .loop in
+    let z : 0 < b .args .p = omega (arith, b .pre .0 .least) in
+    let F = b .args .message .now in
+    let w = c .before .coefficient-of-y .ensures in (
+      omega arith,
+      upto-put _ (omega arith) (c .values .ensures .0) (l .inv .1),
+      λ x P. upto-step _ (omega arith) (column-values (b .args .d) (l .t) F z (b .pre .3) (omega arith) w x (c .values .ensures .1 x P)) (l .inv .2 x P),
+    )
+
+returns : tie.Need-returns Inv-loop μ-loop
+returns c = let l = c .before .loop in let e : l .t ≡ suc (c .before .before .before .args .d) = omega arith in (l .inv .1, λ x P. rw e at (l .inv .2 x P))
+
+pub columns-spec : {M : Type 1} → statement M
+columns-spec =
+    tie.close
+    (tie.spec
+    Inv-loop
+    μ-loop
+    loop-holds
+    coefficient-of-y-requires
+    values-requires
+    mul-out
+    array-set-from-out
+    add-t
+    loop-less
+    loop-again
+    returns)

@@ -1,0 +1,115 @@
+// The polynomial in X and Y that a message, a flat record of document 01, holds, and its values row by row: first X is put in,
+// for all rows at once, which leaves the coefficients of the powers of Y; then Y, a row at a time.
+use crate::evaluation;
+ghost use mathlib.Core.Path.{_≡_};
+ghost use mathlib.Core.Bool.{cond};
+ghost use mathlib.Core.List.{List, []};
+ghost use Prim.Native.Nat.{ℕ, suc, _+_, _≤_, _<_};
+ghost use lib.Dec.{leb};
+ghost use lib.ListN.{length, getD};
+ghost use Rattle.bounded.specs.Bounded.{at};
+ghost use Rattle.field.specs.Row.{row, Reciprocal};
+ghost use Rattle.definitions.specs.Code.{start as startOf, valueXY};
+ghost use Rattle.definitions.specs.Word.{Word};
+ghost use Rattle.polynomial.specs.Record.{coef};
+ghost use Rattle.polynomial.specs.Powers.{Rows, Powers, Columns};
+
+// Where the group of total degree k begins: k (k + 1) / 2. The last entry is the size of a record of degree 15.
+const STARTS: [usize; 17] = [
+    0,
+    1,
+    3,
+    6,
+    10,
+    15,
+    21,
+    28,
+    36,
+    45,
+    55,
+    66,
+    78,
+    91,
+    105,
+    120,
+    136,
+];
+
+pub fn start(k: usize) -> usize
+    requires { ⌜ k ≤ 16 ⌝ }
+    ensures { λ r. ⌜ r ≡ startOf k ⌝ }
+{
+    STARTS[k]
+}
+
+// The coefficient of X^i Y^t, and 0 where i + t is above d.
+fn coefficient(message: &[u8], d: usize, i: usize, t: usize) -> u16
+    requires { ⌜ (length (now message) ≡ startOf (suc d)) × (d < 16) × (i < 16) × (t ≤ d) ⌝ }
+    ensures { λ r. ⌜ r ≡ cond (leb (i + t) d) (coef (now (message .entry)) i t) 0 ⌝ }
+{
+    let k = i + t;
+    if k <= d {
+        let at = start(k) + t;
+        return message[at] as u16;
+    }
+    0
+}
+
+// The coefficient of Y^t, a polynomial in X of degree d - t at most, by its own coefficients.
+fn coefficient_of_y(message: &[u8], d: usize, t: usize) -> [u16; 16]
+    requires { ⌜ (length (now message) ≡ startOf (suc d)) × (d < 16) × (t ≤ d) ⌝ }
+    ensures { λ r. ⌜ r ≡ row (λ i. cond (leb (i + t) d) (coef (now (message .entry)) i t) 0) ⌝ }
+{
+    let mut out = [0u16; 16];
+    let mut i = 0;
+    while i < 16 {
+        out[i] = coefficient(message, d, i, t);
+        i += 1;
+    }
+    out
+}
+
+// Row t has, for each of the row points whose powers are given, the coefficient of Y^t there; the rows above d are 0.
+pub fn columns(message: &[u8], powers: [[u16; 16]; 16], d: usize, p: u16, m: u16) -> [[u16; 16]; 16]
+    requires { ⌜ Reciprocal p m × Rows p powers × Word p (startOf (suc d)) (now message) × (d < 16) ⌝ }
+    ensures { λ r. ⌜ Rows p r × ((x : List ℕ) → Powers p x powers → Columns p d x (now (message .entry)) r) ⌝ }
+{
+    let mut out = [[0u16; 16]; 16];
+    let mut t = 0;
+    while t <= d {
+        let w = coefficient_of_y(message, d, t);
+        out[t] = evaluation::values(powers, d - t, w, p, m);
+        t += 1;
+    }
+    out
+}
+
+// Place r of each row.
+fn place_of_each(rows: [[u16; 16]; 16], r: usize) -> [u16; 16]
+    requires { ⌜ r < 16 ⌝ }
+    ensures { λ l. ⌜ l ≡ row (λ t. at (getD rows t []) r) ⌝ }
+{
+    let mut out = [0u16; 16];
+    let mut t = 0;
+    while t < 16 {
+        out[t] = rows[t][r];
+        t += 1;
+    }
+    out
+}
+
+// The values in row r: a polynomial in Y, whose coefficients are place r of the columns, at the column points, whose powers are given.
+pub fn row_values(
+    columns: [[u16; 16]; 16],
+    powers: [[u16; 16]; 16],
+    r: usize,
+    d: usize,
+    p: u16,
+    m: u16,
+) -> [u16; 16]
+    requires { ⌜ Reciprocal p m × Rows p columns × Rows p powers × (r < 16) × (d < 16) ⌝ }
+    ensures { λ v. ⌜ ((x y F : List ℕ) → Columns p d x F columns → Powers p y powers → v ≡ row (λ j. valueXY p d F (at x r) (at y j))) ⌝ }
+{
+    let w = place_of_each(columns, r);
+    evaluation::values(powers, d, w, p, m)
+}
