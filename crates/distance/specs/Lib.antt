@@ -2,3 +2,4 @@
 pub mod Level
 pub mod Doubts
 pub mod Loaded
+pub mod Summary

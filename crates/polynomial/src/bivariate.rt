@@ -8,7 +8,7 @@ ghost use Prim.Native.Nat.{ℕ, suc, _+_, _≤_, _<_};
 ghost use lib.Dec.{leb};
 ghost use lib.ListN.{length, getD};
 ghost use Rattle.bounded.specs.Bounded.{at};
-ghost use Rattle.field.specs.Row.{row, Reciprocal};
+ghost use Rattle.field.specs.Row.{row, Row, Reciprocal};
 ghost use Rattle.definitions.specs.Code.{start as startOf, valueXY};
 ghost use Rattle.definitions.specs.Word.{Word};
 ghost use Rattle.polynomial.specs.Record.{coef};
@@ -108,7 +108,7 @@ pub fn row_values(
     m: u16,
 ) -> [u16; 16]
     requires { ⌜ Reciprocal p m × Rows p columns × Rows p powers × (r < 16) × (d < 16) ⌝ }
-    ensures { λ v. ⌜ ((x y F : List ℕ) → Columns p d x F columns → Powers p y powers → v ≡ row (λ j. valueXY p d F (at x r) (at y j))) ⌝ }
+    ensures { λ v. ⌜ Row p v × ((x y F : List ℕ) → Columns p d x F columns → Powers p y powers → v ≡ row (λ j. valueXY p d F (at x r) (at y j))) ⌝ }
 {
     let w = place_of_each(columns, r);
     evaluation::values(powers, d, w, p, m)

@@ -16,7 +16,7 @@ values-requires c κs =
 returns : tie.Need-returns
 returns c =
     let b = c .before .before in
-    λ x y F C P. row-values-are (b .args .r) (b .args .columns) (omega (arith, b .pre .0 .least)) (b .pre .3) (c .before .place-of-each .ensures) (b .args .d) x y F (b .pre .4) C (c .values .ensures .1 y P)
+    (c .values .ensures .0, λ x y F C P. row-values-are (b .args .r) (b .args .columns) (omega (arith, b .pre .0 .least)) (b .pre .3) (c .before .place-of-each .ensures) (b .args .d) x y F (b .pre .4) C (c .values .ensures .1 y P))
 
 pub row-values-spec : {M : Type 1} → statement M
 row-values-spec = tie.close (tie.spec place-of-each-requires values-requires returns)
