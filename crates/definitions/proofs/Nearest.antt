@@ -4,15 +4,32 @@ use mathlib.Core.Path.{_≡_, refl, sym, ap₂, _∙_}
 use mathlib.Core.Bool.{true, false}
 use mathlib.Core.List.{List, [], _∷_}
 use mathlib.Core.Option.{Option, some, none}
-use Prim.Native.Nat.{ℕ, suc}
+use Prim.Native.Nat.{ℕ, suc, _<_}
+use native.Mathlib.Omega.{arith}
+use borrow.Author.Tests.{ltb-true, lt-ltb, le-ltb}
 use Rattle.definitions.specs.Refusals.{Row, _when_, first, accepted}
 use Rattle.definitions.specs.Plan.{modulus, planRows}
 use Rattle.definitions.specs.Code.{Code, size}
-use Rattle.definitions.specs.Calls.{photoRows, refused, readingOf, within, nearest, missing, the, readNumber, readReading, readBuffer}
+use Rattle.definitions.specs.Cost.{full, radius}
+use Rattle.definitions.specs.Calls.{photoRows, refused, costOf, readingOf, within, nearest, missing, the, readNumber, readReading, readBuffer}
 use Rattle.definitions.specs.Word.{IsRecord}
 use Rattle.definitions.specs.Reads.{Reads}
 use Rattle.definitions.proofs.Refusals.{first-append}
 use Rattle.definitions.proofs.Search.{search-none, search-the}
+
+-- the test as facts
+module _ (C : Code) (P s u F : List ℕ) where
+  pub within-cost : within C P s u F ≡ true → costOf C P s u F < radius full C P
+  unfolding within
+  within-cost t = ltb-true (costOf C P s u F) (radius full C P) t
+
+  pub cost-within : costOf C P s u F < radius full C P → within C P s u F ≡ true
+  unfolding within
+  cost-within l = lt-ltb (costOf C P s u F) (radius full C P) l
+
+  pub cost-without : (costOf C P s u F < radius full C P → ⊥) → within C P s u F ≡ false
+  unfolding within
+  cost-without h = le-ltb (costOf C P s u F) (radius full C P) (omega arith)
 
 module _ (C : Code) (P s u B : List ℕ) where
   -- from the number and what the search finds
