@@ -1,0 +1,2 @@
+-- The laws of the strip decoder.
+pub mod Plan
