@@ -9,7 +9,6 @@ use native.Mathlib.Decide.{ℕ-discrete, decLe}
 use native.Mathlib.Nat.{mul-le-mul-left, mul-comm}
 use lib.Dec.{eqb}
 use borrow.Author.Tests.{eqb-true, eqb-false, eq-eqb}
-use Rattle.bounded.specs.Bounded.{sum}
 use Rattle.bounded.proofs.Sum.{sum-le, sum-mul}
 use Rattle.field.specs.Congruence.{Cong}
 use Rattle.field.proofs.Congruence.{of-mod, to-mod, ~mul-right, cancel}

@@ -1,5 +1,4 @@
 -- Newton's form: U of degree below k plus c times a monic W of degree k has degree at most k, with c before the power k. Assumes nothing.
-use mathlib.Core.Path.{_≡_, refl}
 use Prim.Native.Nat.{ℕ, _+_, _*_}
 use native.Mathlib.Omega.{arith}
 use Rattle.field.specs.Congruence.{Agree}
