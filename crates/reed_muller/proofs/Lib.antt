@@ -1,3 +1,4 @@
 -- The laws of the mark decoder.
 pub mod Line
 pub mod Degree
+pub mod Unique
