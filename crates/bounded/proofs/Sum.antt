@@ -1,4 +1,4 @@
--- The laws of bounded sums: equal and smaller terms, sums and multiples of terms, exchange, parts, rows, and the pigeonhole. Assumes nothing.
+-- The laws of bounded sums: equal and smaller terms, sums and multiples of terms, exchange, parts, rows, one term changed, and the pigeonhole. Assumes nothing.
 use mathlib.Core.Logic.{_≢_, _⊎_, inl, inr}
 use mathlib.Core.Path.{_≡_, refl, ap, ap₂, _∙_}
 use Prim.Native.Nat.{ℕ, zero, suc, _+_, _*_, _/_, _%_, _≤_, _<_}
@@ -52,6 +52,14 @@ cell-row m r c l = mul-add-div-right (omega arith) r c ∙ rw (div-eq-of-lt l) (
 
 pub cell-column : (m r c : ℕ) → c < m → (r * m + c) % m ≡ c
 cell-column m r c l = mul-add-mod-self-right r m c ∙ mod-eq-of-lt l
+
+-- a sum one of whose terms is another
+pub sum-put : (n r : ℕ) {f g : ℕ → ℕ} → r < n → ((j : ℕ) → j ≢ r → g j ≡ f j) → sum n g + f r ≡ sum n f + g r
+sum-put zero r l h = absurd (omega arith)
+sum-put (suc n) r {f} {g} l h = elim (ℕ-discrete r n) [
+  | yes e ↦ omega (arith, sum-eq n {f = g} {g = f} (λ i m. h i (omega arith)), ap f e, ap g e)
+  | no e ↦ omega (arith, sum-put n r {f = f} {g = g} (omega arith) h, h n (omega arith))
+]
 
 -- the pigeonhole: a sum below n * k has a term below k
 pub sum-some : (n k : ℕ) (f : ℕ → ℕ) → sum n f < n * k → (i : ℕ) × (i < n) × (f i < k)
