@@ -2,3 +2,5 @@
 pub mod Line
 pub mod Degree
 pub mod Unique
+pub mod Loops
+pub mod Groups

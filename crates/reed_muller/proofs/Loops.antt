@@ -1,0 +1,48 @@
+-- The laws of the loops over rows that are changed where they stand, over pairs, and over a stretch: start and step. Assumes nothing.
+use mathlib.Core.Logic.{_≢_}
+use mathlib.Core.Path.{_≡_, refl, _∙_}
+use mathlib.Core.List.{List}
+use Prim.Native.Nat.{ℕ, _+_, _≤_, _<_}
+use native.Mathlib.Omega.{arith}
+use native.Mathlib.Decide.{ℕ-discrete}
+use lib.ListN.{length, set, length-set}
+use lib.Seq.{getD-set-same, getD-set-other}
+use Rattle.reed_muller.specs.Loops.{Passed, Both, Stretch}
+
+module _ {A : Type 0} {n : ℕ} {z : A} {U T : ℕ → A → Type 0} where
+  pub passed-step : {l : List A} {i : ℕ} (v : A) → i < 16 → T i v → Passed n z U T l i → Passed n z U T (set l i v) (i + 1)
+  passed-step {l} {i} v b t p = record {
+    size = length-set l i v ∙ p .size;
+    done = λ j k. elim (ℕ-discrete j i) [
+      | yes e ↦ let h : i < length l = omega (arith, p .size) in rw (e, getD-set-same l i v z h) t
+      | no e ↦ rw (getD-set-other l i j v z e) (p .done j (omega arith))
+    ];
+    todo = λ j k m. let e : j ≢ i = omega arith in rw (getD-set-other l i j v z e) (p .todo j (omega arith) m);
+  }
+
+module _ {A : Type 0} {n : ℕ} {z : A} {U T : ℕ → A → ℕ → Type 0} where
+  pub both-step : {l : List A} {k : List ℕ} {i : ℕ} (v : A) (w : ℕ) → i < 16 → T i v w → Both n z U T l k i → Both n z U T (set l i v) (set k i w) (i + 1)
+  both-step {l} {k} {i} v w b t p = record {
+    size = length-set l i v ∙ p .size;
+    numbers = length-set k i w ∙ p .numbers;
+    done = λ j m. elim (ℕ-discrete j i) [
+      | yes e ↦ let h : i < length l = omega (arith, p .size) in let h′ : i < length k = omega (arith, p .numbers) in
+          rw (e, getD-set-same l i v z h, getD-set-same k i w 0 h′) t
+      | no e ↦ rw (getD-set-other l i j v z e, getD-set-other k i j w 0 e) (p .done j (omega arith))
+    ];
+    todo = λ j m o. let e : j ≢ i = omega arith in rw (getD-set-other l i j v z e, getD-set-other k i j w 0 e) (p .todo j (omega arith) o);
+  }
+
+module _ {n a : ℕ} {f : ℕ → ℕ} {old : List ℕ} where
+  pub stretch-start : length old ≡ n → Stretch n a f old old 0
+  stretch-start e = record { size = e; done = λ i l. absurd (omega arith); kept = λ m l. refl }
+
+  pub stretch-step : {l : List ℕ} {j : ℕ} (v : ℕ) → a + j < n → v ≡ f j → Stretch n a f old l j → Stretch n a f old (set l (a + j) v) (j + 1)
+  stretch-step {l} {j} v b e p = record {
+    size = length-set l (a + j) v ∙ p .size;
+    done = λ i k. elim (ℕ-discrete i j) [
+      | yes z ↦ let h : a + j < length l = omega (arith, p .size) in rw (z, getD-set-same l (a + j) v 0 h) e
+      | no z ↦ let h : a + i ≢ a + j = omega arith in rw (getD-set-other l (a + j) (a + i) v 0 h) (p .done i (omega arith))
+    ];
+    kept = λ m k. let h : m ≢ a + j = omega arith in rw (getD-set-other l (a + j) m v 0 h) (p .kept m k);
+  }

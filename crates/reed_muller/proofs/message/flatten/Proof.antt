@@ -1,0 +1,38 @@
+-- `reed_muller::message::flatten` meets its contract: the groups before k are written. Assumes nothing.
+use mathlib.Core.Path.{_≡_, refl}
+use Prim.Native.Nat.{_+_, _-_, _≤_}
+use native.Mathlib.Omega.{arith}
+use Rattle.reed_muller.specs.Groups.{Flat}
+use Rattle.reed_muller.proofs.Groups.{flat-more}
+use borrow.Author.Needs.{needs}
+use Rattle.reed_muller.proofs.message.flatten.Statement.{statement}
+use Rattle.reed_muller.proofs.message.flatten.Tie as tie
+
+abbrev Inv-loop : tie.InvT-loop
+Inv-loop columns d message₀ k₀ message k = (k ≤ d + 1) × Flat columns k message
+
+abbrev μ-loop : tie.MeasureT-loop
+μ-loop columns d message₀ k₀ message k = d + 1 - k
+
+loop-holds : tie.Need-loop-holds Inv-loop μ-loop
+loop-holds c = (omega arith, record { size = refl; is = λ t i h. absurd (omega arith) })
+
+put-group-requires : tie.Need-put-group-requires Inv-loop μ-loop
+put-group-requires c κs = (c .before .before .loop .inv .1 .size, omega arith)
+
+add-k : tie.Need-add-k Inv-loop μ-loop
+add-k c = search needs
+
+loop-less : tie.Need-loop-less Inv-loop μ-loop
+loop-less c = search needs
+
+loop-again : tie.Need-loop-again Inv-loop μ-loop
+loop-again c = (omega arith, flat-more (omega arith) (c .put-group .ensures) (c .before .before .before .loop .inv .1))
+
+returns : tie.Need-returns Inv-loop μ-loop
+returns c = let l = c .before .loop in let e : l .k ≡ c .before .before .args .d + 1 = omega arith in rw e at (l .inv .1)
+
+pub flatten-spec : {M : Type 1} → statement M
+flatten-spec =
+    tie.close
+    (tie.spec Inv-loop μ-loop loop-holds put-group-requires add-k loop-less loop-again returns)

@@ -1,0 +1,23 @@
+-- The flat record of document 01, made from the columns: row t of them has the coefficients of Y^t, by rising power of X.
+--
+--   Grouped columns k old r   r is old with the group of total degree k written, and whatever there was behind it
+--   Flat columns k r          the groups of total degree below k in r are those of the columns
+--
+-- What this file is for: the decoder finds the coefficients of one power of Y at a time, and a record is by total degree.
+use mathlib.Core.Path.{_≡_}
+use mathlib.Core.List.{List}
+use Prim.Native.Nat.{ℕ, _+_, _-_, _≤_, _<_}
+use lib.ListN.{length}
+use Rattle.bounded.specs.Bounded.{at}
+use Rattle.definitions.specs.Code.{start}
+use Rattle.polynomial.specs.Record.{coef}
+use Rattle.reed_muller.specs.Loops.{cells}
+
+pub record Grouped (columns : List (List ℕ)) (k : ℕ) (old r : List ℕ) : Type 0 where
+  pub size : length r ≡ 136
+  pub group : (j : ℕ) → j ≤ k → at r (start k + j) ≡ cells columns j (k - j)
+  pub kept : (m : ℕ) → m < start k → at r m ≡ at old m
+
+pub record Flat (columns : List (List ℕ)) (k : ℕ) (r : List ℕ) : Type 0 where
+  pub size : length r ≡ 136
+  pub is : (t i : ℕ) → i + t < k → coef r i t ≡ cells columns t i

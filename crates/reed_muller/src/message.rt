@@ -1,0 +1,53 @@
+// The flat record, group by group, from the coefficients of the powers of Y.
+ghost use mathlib.Core.Path.{_≡_};
+ghost use Prim.Native.Nat.{_+_, _<_};
+ghost use lib.ListN.{length};
+ghost use Rattle.reed_muller.specs.Groups.{Grouped, Flat};
+
+// Where the group of each total degree begins ("Record and mark").
+const STARTS: [usize; 17] = [
+    0,
+    1,
+    3,
+    6,
+    10,
+    15,
+    21,
+    28,
+    36,
+    45,
+    55,
+    66,
+    78,
+    91,
+    105,
+    120,
+    136,
+];
+
+// Writes the group of total degree k: by rising power of Y, so X^k first.
+fn put_group(message: &mut [u16; 136], columns: &[[u16; 16]; 16], k: usize)
+    requires { ⌜ (length (now message) ≡ 136) × (k < 16) ⌝ }
+    ensures { λ _. ⌜ Grouped (now (columns .entry)) k (now (message .entry)) (now (message .exit)) ⌝ }
+{
+    let first = STARTS[k];
+    let mut j = 0;
+    while j <= k {
+        message[first + j] = columns[j][k - j];
+        j += 1;
+    }
+}
+
+// The record of degree d whose coefficients of Y^t are row t of the columns.
+pub fn flatten(columns: &[[u16; 16]; 16], d: usize) -> [u16; 136]
+    requires { ⌜ d < 16 ⌝ }
+    ensures { λ r. ⌜ Flat (now (columns .entry)) (d + 1) r ⌝ }
+{
+    let mut message = [0; 136];
+    let mut k = 0;
+    while k <= d {
+        put_group(&mut message, columns, k);
+        k += 1;
+    }
+    message
+}
