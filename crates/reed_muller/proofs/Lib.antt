@@ -4,3 +4,5 @@ pub mod Degree
 pub mod Unique
 pub mod Loops
 pub mod Groups
+pub mod Last
+pub mod Mark
