@@ -37,12 +37,13 @@ module _ {q F a b d D : ℕ} {y : ℕ → ℕ} {u : ℕ → ℕ → ℕ} {Code :
 
     -- what the reader with one coordinate fewer answers: w has the coefficients of Y^t of every message that is under the radius there
     module _ {answered : Bool} {w : ℕ → ℕ}
-        (S : (g : ℕ → ℕ → ℕ) → Code g → cost (F * (b - t)) a e v (λ r. g t r % suc q) < F * (b - t) * E → (answered ≡ true) × ((r : ℕ) → r < a → Cong q (w r) (g t r))) where
+        (S : (g : ℕ → ℕ → ℕ) → Code g → cost (F * (b - t)) a e v (λ r. g t r % suc q) < F * (b - t) * E →
+        (answered ≡ true) × ((r : ℕ) → r < a → Cong q (w r) (g t r))) where
       pub left-none : answered ≡ false → (g : ℕ → ℕ → ℕ) → Near q F a b d D y u Code s g → ⊥
       left-none z g n = false≢true (sym z ∙ S g (n .0) (lower-near g n) .0)
 
-      pub left-next : {left′ found′ : ℕ → ℕ → ℕ} → ((r : ℕ) → r < a → Subtracted q b t y (w r) (left r) (left′ r)) → ((r : ℕ) → r < a → Cong q (found′ t r) (w r)) →
-          ((t′ r : ℕ) → t < t′ → t′ ≤ d → r < a → Cong q (found′ t′ r) (found t′ r)) → Left q F a b d D y u Code t s left′ found′
+      pub left-next : {left′ found′ : ℕ → ℕ → ℕ} → ((r : ℕ) → r < a → Subtracted q b t y (w r) (left r) (left′ r)) →
+          ((r : ℕ) → r < a → Cong q (found′ t r) (w r)) → ((t′ r : ℕ) → t < t′ → t′ ≤ d → r < a → Cong q (found′ t′ r) (found t′ r)) → Left q F a b d D y u Code t s left′ found′
       left-next {left′} {found′} sub new old = record {
         agrees = λ g n t′ r l m i. elim (ℕ-discrete t′ t) [
           | yes z ↦ rw z (new r i ⨾ S g (n .0) (lower-near g n) .1 r i)
@@ -58,7 +59,8 @@ module _ {q F a b d D : ℕ} {y : ℕ → ℕ} {u : ℕ → ℕ → ℕ} {Code :
 
 -- two coordinates: the reader with one coordinate fewer is the reader of strips
 pub bivariate-strip : {q R a : ℕ} (d t : ℕ) {x e v w : ℕ → ℕ} {answered : Bool} {c : ℕ} → Strip q R a (d - t) x e v answered w c →
-    (g : ℕ → ℕ → ℕ) → Bivariate d x g → cost R a e v (λ r. g t r % suc q) < R * (a - (d - t)) → (answered ≡ true) × ((r : ℕ) → r < a → Cong q (eval (suc (d - t)) w (x r)) (g t r))
+    (g : ℕ → ℕ → ℕ) → Bivariate d x g → cost R a e v (λ r. g t r % suc q) < R * (a - (d - t)) →
+    (answered ≡ true) × ((r : ℕ) → r < a → Cong q (eval (suc (d - t)) w (x r)) (g t r))
 bivariate-strip {q} {R} {a} d t {x} {e} {v} S g (h, is) n =
     let column-cost : cost R a e v (λ r. g t r % suc q) ≡ cost R a e v (values q (suc (d - t)) (λ i. h i t) x) = sum-eq a (λ r _. ap (λ z. cell R (e r) (v r) (z % suc q)) (is t r)) in
     let o = S .only (λ i. h i t) (rw column-cost at n) in
@@ -69,7 +71,8 @@ module _ {q F a b d : ℕ} (x : ℕ → ℕ) {y : ℕ → ℕ} {u : ℕ → ℕ 
   grid-start s found = left-start s (lines d x found)
 
   module _ {s left : ℕ → ℕ → ℕ} (found : ℕ → ℕ → ℕ) {t : ℕ} (small : d < min a b) (td : t ≤ d) (L : GridLeft q F a b d x y u (suc t) s left found)
-      {e v : ℕ → ℕ} (cells : (r : ℕ) → r < a → Entered q F b t y (left r) (u r) (e r) (v r)) {answered : Bool} {w : ℕ → ℕ} {c : ℕ} (S : Strip q (F * (b - t)) a (d - t) x e v answered w c) where
+      {e v : ℕ → ℕ} (cells : (r : ℕ) → r < a → Entered q F b t y (left r) (u r) (e r) (v r))
+      {answered : Bool} {w : ℕ → ℕ} {c : ℕ} (S : Strip q (F * (b - t)) a (d - t) x e v answered w c) where
     -- the strip of leading coefficients has no answer: no record is under the radius
     pub grid-none : answered ≡ false → (h : ℕ → ℕ → ℕ) → GridNear q F a b d x y u s h → ⊥
     grid-none z h n = left-none td (a - (d - t)) (radius-split a b d t td small) L cells (bivariate-strip d t S) z (lines d x h) ((h, λ t r. refl), n)

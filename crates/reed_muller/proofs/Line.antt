@@ -44,7 +44,8 @@ module _ {q F n k : ℕ} {y s u : ℕ → ℕ} (ay : Apart q n y) (du : (j : ℕ
   answer-measured w l = record { sound = λ _. (refl, l); only = λ h m. (refl, near-one ay F k s u du w h l m) }
 
   -- the answer of degree k + 1 to the symbols from which its highest term was subtracted
-  pub answer-carried : {s₀ w : ℕ → ℕ} {g : ℕ} (e : ℕ) → Strip q F n (suc k) y s₀ u true w g → Cong q (w (suc k)) e → Subtracted q n (suc k) y e s₀ s → Strip q F n k y s u true w g
+  pub answer-carried : {s₀ w : ℕ → ℕ} {g : ℕ} (e : ℕ) → Strip q F n (suc k) y s₀ u true w g → Cong q (w (suc k)) e →
+      Subtracted q n (suc k) y e s₀ s → Strip q F n k y s u true w g
   answer-carried {s₀} {w} {g} e S c T = rw (S .sound refl .0 ∙ same-cost) (answer-measured w (omega (arith, S .sound refl .0, S .sound refl .1, same-cost, mul-le-mul-left F less)))
     where
       less : n - suc k ≤ n - k

@@ -2,9 +2,9 @@
 -- answer is refusal 10; at most one record is within the radius. Assumes nothing.
 use mathlib.Core.Logic.{inl}
 use mathlib.Core.Path.{_≡_, refl, sym, ap, _∙_}
-use mathlib.Core.Bool.{Bool, true, false, true≢false, false≢true}
+use mathlib.Core.Bool.{Bool, true, false, false≢true}
 use mathlib.Core.List.{List}
-use Prim.Native.Nat.{ℕ, suc, _+_, _*_, _-_, _%_, _^_, _≤_, _<_, min}
+use Prim.Native.Nat.{ℕ, suc, _+_, _*_, _-_, _%_, _^_, _≤_, _<_}
 use native.Mathlib.Omega.{arith}
 use native.Mathlib.Numerals.{add-one}
 use native.Mathlib.Nat.{mul-le-mul-right}
@@ -12,7 +12,6 @@ use lib.ListN.{length}
 use Rattle.bounded.specs.Bounded.{at}
 use Rattle.bounded.proofs.Sum.{sum-eq, sum-rows, cell-row, cell-column}
 use Rattle.field.specs.Congruence.{Cong}
-use Rattle.field.proofs.Congruence.{same}
 use Rattle.definitions.specs.Refusals.{first}
 use Rattle.definitions.specs.Plan.{modulus, side, degree, point}
 use Rattle.definitions.specs.Code.{square, size, start, gridValue}
@@ -27,7 +26,7 @@ use Rattle.definitions.proofs.Sound.{sound}
 use Rattle.definitions.proofs.Photograph.{accepted-photo}
 use Rattle.definitions.proofs.Nearest.{within-cost, cost-within, cost-without, reads-none, reads-the}
 use Rattle.definitions.proofs.Demands.{AtMostOne}
-use Rattle.polynomial.specs.Eval.{eval, values}
+use Rattle.polynomial.specs.Eval.{values}
 use Rattle.polynomial.specs.Record.{coef, row}
 use Rattle.polynomial.specs.Grid.{radius}
 use Rattle.polynomial.proofs.Plan.{plan-modulus, plan-apart}
@@ -39,15 +38,17 @@ use Rattle.reed_muller.specs.Mark.{grid, LoadedGrid, Decoded}
 use Rattle.reed_muller.proofs.Unique.{grid-one}
 
 -- the cost over a flat photograph of any two sizes, row by row
-pub flat-cost : (q F a b d : ℕ) (x y : ℕ → ℕ) (s u R : List ℕ) → cost F (a * b) (at s) (at u) (gridValue (suc q) d b x y R) ≡ gridCost q F a b d x y (grid b u) (grid b s) (coef R)
+pub flat-cost : (q F a b d : ℕ) (x y : ℕ → ℕ) (s u R : List ℕ) →
+    cost F (a * b) (at s) (at u) (gridValue (suc q) d b x y R) ≡ gridCost q F a b d x y (grid b u) (grid b s) (coef R)
 flat-cost q F a b d x y s u R = sum-rows a b _ ∙ sum-eq a λ r _. sum-eq b λ c m. ap (cell F (grid b s r c) (grid b u r c)) (there r c m)
   where
     there : (r c : ℕ) → c < b → gridValue (suc q) d b x y R (r * b + c) ≡ values q (suc d) (row d (coef R) (x r)) y c
     there r c m = rw (cell-row b r c m, cell-column b r c m) (value-rows (suc q) d R (x r) (y c))
 
 -- the cost looks at the points of the grid and at the coefficients alone, and loaded cells stand for their own
-grid-same : (q F a b d : ℕ) {x x′ y y′ : ℕ → ℕ} (s u : List ℕ) {s′ u′ g h : ℕ → ℕ → ℕ} → ((r : ℕ) → r < a → x′ r ≡ x r) → ((c : ℕ) → c < b → y′ c ≡ y c) → LoadedGrid F a b s u s′ u′ →
-    ((t i : ℕ) → i + t ≤ d → g i t ≡ h i t) → gridCost q F a b d x y (grid b u) (grid b s) g ≡ gridCost q F a b d x′ y′ u′ s′ h
+grid-same : (q F a b d : ℕ) {x x′ y y′ : ℕ → ℕ} (s u : List ℕ) {s′ u′ g h : ℕ → ℕ → ℕ} →
+    ((r : ℕ) → r < a → x′ r ≡ x r) → ((c : ℕ) → c < b → y′ c ≡ y c) → LoadedGrid F a b s u s′ u′ → ((t i : ℕ) → i + t ≤ d → g i t ≡ h i t) →
+    gridCost q F a b d x y (grid b u) (grid b s) g ≡ gridCost q F a b d x′ y′ u′ s′ h
 grid-same q F a b d {x} {x′} {y} {y′} s u {s′} {u′} {g} {h} ex ey L e = sum-eq a λ r l. sum-eq b λ c m.
     cell-loaded _ (L r c l m) ∙ ap (λ v. cell F (s′ r c) (u′ r c) (v % suc q))
     (rw (ex r l, ey c m) (sum-eq (suc d) λ t k. ap (λ v. v * y c ^ t) (sum-eq (suc (d - t)) λ i n. ap (λ v. v * x r ^ i) (e t i (omega arith)))))
@@ -57,8 +58,9 @@ radius-of P = omega (arith, ap (λ n. full * n) (radius-square (side P) (degree 
 
 module _ {P : List ℕ} (S : Sound P) where
   -- the cost of a record is that of its polynomial, against the cells as they are loaded; h has the record's coefficients
-  record-cost : (s u : List ℕ) (x : ℕ → ℕ) (s′ u′ : ℕ → ℕ → ℕ) → ((i : ℕ) → i < side P → x i ≡ point P i) → LoadedGrid full (side P) (side P) s u s′ u′ → (F : List ℕ) (h : ℕ → ℕ → ℕ) →
-      ((t i : ℕ) → i + t ≤ degree P → coef F i t ≡ h i t) → costOf square P s u F ≡ gridCost (modulus P - 1) full (side P) (side P) (degree P) x x u′ s′ h
+  record-cost : (s u : List ℕ) (x : ℕ → ℕ) (s′ u′ : ℕ → ℕ → ℕ) → ((i : ℕ) → i < side P → x i ≡ point P i) → LoadedGrid full (side P) (side P) s u s′ u′ →
+      (F : List ℕ) (h : ℕ → ℕ → ℕ) → ((t i : ℕ) → i + t ≤ degree P → coef F i t ≡ h i t) →
+      costOf square P s u F ≡ gridCost (modulus P - 1) full (side P) (side P) (degree P) x x u′ s′ h
   record-cost s u x s′ u′ points loaded F h e =
       ap (λ p. cost full (side P * side P) (at s) (at u) (gridValue p (degree P) (side P) (point P) (point P) F)) (sym (plan-modulus S))
       ∙ flat-cost (modulus P - 1) full (side P) (side P) (degree P) (point P) (point P) s u F
@@ -112,7 +114,8 @@ module _ (P s u B : List ℕ) (clear : first (photoRows square P s u B) ≡ 0) {
   S : Sound P
   S = sound P (photo .sound)
 
-  cost-of : (F : List ℕ) (h : ℕ → ℕ → ℕ) → ((t i : ℕ) → i + t ≤ degree P → coef F i t ≡ h i t) → costOf square P s u F ≡ gridCost (modulus P - 1) full (side P) (side P) (degree P) x x u′ s′ h
+  cost-of : (F : List ℕ) (h : ℕ → ℕ → ℕ) → ((t i : ℕ) → i + t ≤ degree P → coef F i t ≡ h i t) →
+      costOf square P s u F ≡ gridCost (modulus P - 1) full (side P) (side P) (degree P) x x u′ s′ h
   cost-of F h e = record-cost S s u x s′ u′ points loaded F h e
 
   pub mark-none : found ≡ false → Reads square P s u B (refused 10) B

@@ -23,7 +23,8 @@ grid-two q F a b d x y u s g h du = omega (
   sum-le a λ r l. cost-two-words F b (s r) (u r) (values q (suc d) (row d g (x r)) y) (values q (suc d) (row d h (x r)) y) (λ c m. du r c l m),
 )
 
-module _ {q F a b d : ℕ} {x y : ℕ → ℕ} {u : ℕ → ℕ → ℕ} (ax : Apart q a x) (ay : Apart q b y) (small : d < min a b) (du : (r c : ℕ) → r < a → c < b → u r c ≤ F) (s g h : ℕ → ℕ → ℕ) where
+module _ {q F a b d : ℕ} {x y : ℕ → ℕ} {u : ℕ → ℕ → ℕ} (ax : Apart q a x) (ay : Apart q b y) (small : d < min a b)
+    (du : (r c : ℕ) → r < a → c < b → u r c ≤ F) (s g h : ℕ → ℕ → ℕ) where
   -- two polynomials are the same, or where one is under the radius the other is over it
   pub grid-same-or-over : ((t i : ℕ) → i + t ≤ d → Cong q (g i t) (h i t)) ⊎ (GridNear q F a b d x y u s g → F * radius a b d < gridCost q F a b d x y u s h)
   grid-same-or-over = elim (grid-same-or-far ax ay d small g h) [
