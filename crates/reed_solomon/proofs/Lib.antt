@@ -1,2 +1,5 @@
 -- The laws of the strip decoder.
 pub mod Plan
+pub mod Degrees
+pub mod Entry
+pub mod State

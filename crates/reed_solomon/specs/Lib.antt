@@ -1,2 +1,4 @@
 -- The strip decoder: Reed-Solomon codes with doubts.
 pub mod Strip
+pub mod Interpolation
+pub mod Pairs

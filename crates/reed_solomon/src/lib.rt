@@ -1,1 +1,2 @@
 // The strip decoder: Reed-Solomon codes with doubts.
+pub mod interpolation;
