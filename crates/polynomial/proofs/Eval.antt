@@ -29,9 +29,18 @@ pub eval-lead : {q n : ℕ} {x : ℕ → ℕ} (k : ℕ) (a : ℕ → ℕ) → Le
 eval-lead {x} zero a = con λ j l. same (eval-one a (x j))
 eval-lead {x} (suc k) a = up (a 0) (eval-lead k λ i. a (suc i)) λ j l. same (eval-front (suc k) a (x j))
 
-eval-minus : (m k : ℕ) (a b : ℕ → ℕ) (x : ℕ) → eval k (λ i. a i + m * b i) x ≡ eval k a x + m * eval k b x
+-- a sum of one polynomial and a multiple of another, as a difference
+pub eval-minus : (m k : ℕ) (a b : ℕ → ℕ) (x : ℕ) → eval k (λ i. a i + m * b i) x ≡ eval k a x + m * eval k b x
 eval-minus m zero a b x = omega arith
 eval-minus m (suc k) a b x = omega (arith, eval-minus m k a b x)
+
+-- coefficients that are 0 from i on
+pub eval-short : (i k : ℕ) (a : ℕ → ℕ) (x : ℕ) → i ≤ k → ((l : ℕ) → i ≤ l → a l ≡ 0) → eval k a x ≡ eval i a x
+eval-short i zero a x h z = let e : i ≡ zero = omega arith in rw e
+eval-short i (suc k) a x h z = elim (ℕ-discrete i (suc k)) [
+  | yes e ↦ rw e
+  | no e ↦ let b : i ≤ k = omega arith in omega (arith, eval-short i k a x b z, ap (λ t. t * x ^ k) (z k b))
+]
 
 pub eval-cong : {q : ℕ} (k : ℕ) {a b : ℕ → ℕ} (x : ℕ) → ((i : ℕ) → i < k → Cong q (a i) (b i)) → Cong q (eval k a x) (eval k b x)
 eval-cong zero x h = same refl
