@@ -1,0 +1,2 @@
+-- What the calls guarantee.
+pub mod Demands
