@@ -8,3 +8,4 @@ pub mod Nearest
 pub mod Demands
 pub mod Own
 pub mod Finder
+pub mod Accepted

@@ -21,6 +21,21 @@ first-append ((zero when t) ∷ a) b h = absurd h
 first-append ((suc k when true) ∷ a) b h = refl
 first-append ((suc k when false) ∷ a) b h = first-append a b h
 
+-- rows before refuse, or they pass and rows after decide
+pub first-refuses : (a b : List Row) → Numbered a → (k : ℕ) → k ≡ first a → (k ≡ 0 → ⊥) → k ≡ first (a ++ b)
+first-refuses a b h zero e n = absurd (n refl)
+first-refuses a b h (suc k) e n = sym (first-append a b h ∙ rw (← e))
+
+pub first-passes : (a b : List Row) → Numbered a → first a ≡ 0 → first b ≡ first (a ++ b)
+first-passes a b h e = sym (first-append a b h ∙ rw e)
+
+pub first-both : (a b : List Row) → Numbered a → first (a ++ b) ≡ 0 → (first a ≡ 0) × (first b ≡ 0)
+first-both a b h e = go (first a) refl (sym (first-append a b h) ∙ e)
+  where
+    go : (k : ℕ) → first a ≡ k → accepted (first a) (first b) (first a) ≡ 0 → (first a ≡ 0) × (first b ≡ 0)
+    go zero f g = (f, rw f at g)
+    go (suc k) f g = absurd (omega (arith, rw f at g))
+
 -- where the number is 0, no row's test holds
 abbrev pub testAt : List Row → ℕ → Bool
 testAt [] i = false

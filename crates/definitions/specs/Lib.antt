@@ -13,3 +13,4 @@ pub mod Sound
 pub mod Photograph
 pub mod Reads
 pub mod Demands
+pub mod Accepted

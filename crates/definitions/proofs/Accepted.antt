@@ -1,0 +1,110 @@
+-- What a photograph, a measuring and a writing that are not refused know of their arguments; and the number of one that stops at a test.
+-- Assumes nothing.
+use mathlib.Core.Path.{_≡_, refl, sym, _∙_}
+use mathlib.Core.Bool.{Bool, true, false, not, _&&_, true≢false}
+use mathlib.Core.List.{List, [], _∷_}
+use Prim.Native.Nat.{ℕ}
+use lib.ListN.{length}
+use borrow.Author.Tests.{leb-false, ltb-false, eqb-true, eq-eqb, ne-eqb, not-false}
+use Rattle.bounded.proofs.Any.{any-none}
+use Rattle.definitions.specs.Refusals.{Row, _when_, first}
+use Rattle.definitions.specs.Plan.{planRows, checkNumber}
+use Rattle.definitions.specs.Code.{Code, size, cells}
+use Rattle.definitions.specs.Calls.{lengthRow, strange, excessive, halfRead, overflowing, recordRow, photoRows, writeRows, writeNumber, measureRows, measureNumber}
+use Rattle.definitions.specs.Word.{IsRecord}
+use Rattle.definitions.specs.Accepted.{Photo, Writing}
+use Rattle.definitions.proofs.Refusals.{testAt, first-clear, first-both, Stops, numberAt, first-at, first-refuses, first-passes}
+use Rattle.definitions.proofs.Sound.{sound}
+
+-- the two halves of a test that fails
+both-fail : (a b : Bool) → a && not b ≡ false → b ≡ false → a ≡ false
+both-fail false b e h = refl
+both-fail true false e h = absurd (true≢false e)
+both-fail true true e h = absurd (true≢false h)
+
+other-holds : (a b : Bool) → a && not b ≡ false → a ≡ true → b ≡ true
+other-holds false b e h = absurd (true≢false (sym h))
+other-holds true false e h = absurd (true≢false e)
+other-holds true true e h = refl
+
+-- the tests after those of the plan, for n cells and k coefficients
+abbrev pub photoTests : (P s u F : List ℕ) (n k : ℕ) → List Row
+photoTests P s u F n k = lengthRow s n ∷ lengthRow u n ∷ lengthRow F k ∷ (7 when strange P s n) ∷ (8 when excessive u n) ∷ (8 when halfRead s u n) ∷ []
+
+abbrev pub writeTests : (P F B : List ℕ) (n k : ℕ) → List Row
+writeTests P F B n k = lengthRow F k ∷ lengthRow B n ∷ (9 when overflowing P F k) ∷ []
+
+module _ (C : Code) (P : List ℕ) where
+  -- the record of a call that row 9 does not refuse
+  record-is : (F : List ℕ) → length F ≡ size C P → first (recordRow C P F ∷ []) ≡ 0 → IsRecord C P F
+  record-is F e h = record { size = e; below = λ i l. leb-false _ _ (any-none _ _ (first-clear (recordRow C P F ∷ []) tt h 0) i l) }
+
+  pub photo-accepted : (s u F : List ℕ) → first (photoRows C P s u F) ≡ 0 → Photo C P s u F
+  unfolding photoRows planRows checkNumber
+  photo-accepted s u F e = record {
+    sound = sound P (b .0);
+    symbols = eqb-true _ _ (not-false _ (c 0));
+    doubts = eqb-true _ _ (not-false _ (c 1));
+    room = eqb-true _ _ (not-false _ (c 2));
+    known = λ i l h. leb-false _ _ (both-fail _ _ (any-none _ _ (c 3) i l) (ne-eqb _ _ h));
+    doubt = λ i l. ltb-false _ _ (any-none _ _ (c 4) i l);
+    erased = λ i l h. eqb-true _ _ (other-holds _ _ (any-none _ _ (c 5) i l) (eq-eqb _ _ h));
+  }
+    where
+      b : (first (planRows P) ≡ 0) × (first (photoTests P s u F (cells C P) (size C P)) ≡ 0)
+      b = first-both (planRows P) (photoTests P s u F (cells C P) (size C P)) tt e
+
+      c : (i : ℕ) → testAt (photoTests P s u F (cells C P) (size C P)) i ≡ false
+      c = first-clear (photoTests P s u F (cells C P) (size C P)) tt (b .1)
+
+  pub measure-accepted : (s u F : List ℕ) → measureNumber C P s u F ≡ 0 → Photo C P s u F × IsRecord C P F
+  unfolding measureNumber measureRows photoRows planRows
+  measure-accepted s u F e =
+      let b = first-both (photoRows C P s u F) (recordRow C P F ∷ []) tt e in
+      let f = photo-accepted s u F (b .0) in
+      (f, record-is F (f .room) (b .1))
+
+  pub write-accepted : (F B : List ℕ) → writeNumber C P F B ≡ 0 → Writing C P F B
+  unfolding writeNumber writeRows planRows checkNumber first
+  write-accepted F B e = record { sound = sound P (b .0); given = record-is F (eqb-true _ _ (not-false _ (c 0))) (rest (c 2)); room = eqb-true _ _ (not-false _ (c 1)) }
+    where
+      b : (first (planRows P) ≡ 0) × (first (writeTests P F B (cells C P) (size C P)) ≡ 0)
+      b = first-both (planRows P) (writeTests P F B (cells C P) (size C P)) tt e
+
+      c : (i : ℕ) → testAt (writeTests P F B (cells C P) (size C P)) i ≡ false
+      c = first-clear (writeTests P F B (cells C P) (size C P)) tt (b .1)
+
+      rest : testAt (writeTests P F B (cells C P) (size C P)) 2 ≡ false → first (recordRow C P F ∷ []) ≡ 0
+      rest t = rw t
+
+  -- a number that is the plan's, and that of one of the tests after it
+  module _ (s u F : List ℕ) where
+    pub photo-refused : (k : ℕ) → k ≡ checkNumber P → (k ≡ 0 → ⊥) → k ≡ first (photoRows C P s u F)
+    unfolding photoRows planRows checkNumber
+    photo-refused k e h = first-refuses (planRows P) (photoTests P s u F (cells C P) (size C P)) tt k e h
+
+    pub photo-at : {m n k : ℕ} (i : ℕ) → m ≡ checkNumber P → m ≡ 0 → n ≡ cells C P → k ≡ size C P → Stops (photoTests P s u F n k) i →
+        numberAt (photoTests P s u F n k) i ≡ first (photoRows C P s u F)
+    unfolding photoRows planRows checkNumber
+    photo-at {n} {k} i e z f g h = first-at (photoTests P s u F n k) i h ∙ rw (f, g) (first-passes (planRows P) (photoTests P s u F (cells C P) (size C P)) tt (sym e ∙ z))
+
+  module _ (F B : List ℕ) where
+    pub write-refused : (k : ℕ) → k ≡ checkNumber P → (k ≡ 0 → ⊥) → k ≡ writeNumber C P F B
+    unfolding writeNumber writeRows planRows checkNumber
+    write-refused k e h = first-refuses (planRows P) (writeTests P F B (cells C P) (size C P)) tt k e h
+
+    pub write-at : {m n k : ℕ} (i : ℕ) → m ≡ checkNumber P → m ≡ 0 → n ≡ cells C P → k ≡ size C P → Stops (writeTests P F B n k) i →
+        numberAt (writeTests P F B n k) i ≡ writeNumber C P F B
+    unfolding writeNumber writeRows planRows checkNumber
+    write-at {n} {k} i e z f g h = first-at (writeTests P F B n k) i h ∙ rw (f, g) (first-passes (planRows P) (writeTests P F B (cells C P) (size C P)) tt (sym e ∙ z))
+
+  -- measuring: the photograph's number, and the test after it
+  module _ (s u F : List ℕ) where
+    pub measure-refused : (k : ℕ) → k ≡ first (photoRows C P s u F) → (k ≡ 0 → ⊥) → k ≡ measureNumber C P s u F
+    unfolding measureNumber measureRows photoRows planRows
+    measure-refused k e n = first-refuses (photoRows C P s u F) (recordRow C P F ∷ []) tt k e n
+
+    pub measure-at : {m k : ℕ} (i : ℕ) → m ≡ first (photoRows C P s u F) → m ≡ 0 → k ≡ size C P → Stops ((9 when overflowing P F k) ∷ []) i →
+        numberAt ((9 when overflowing P F k) ∷ []) i ≡ measureNumber C P s u F
+    unfolding measureNumber measureRows photoRows planRows
+    measure-at {k} i e z f h = first-at ((9 when overflowing P F k) ∷ []) i h ∙ rw f (first-passes (photoRows C P s u F) (recordRow C P F ∷ []) tt (sym e ∙ z))
