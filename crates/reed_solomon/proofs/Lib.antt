@@ -3,3 +3,5 @@ pub mod Plan
 pub mod Degrees
 pub mod Entry
 pub mod State
+pub mod Near
+pub mod Interpolant

@@ -26,7 +26,7 @@ use Rattle.reed_solomon.proofs.Degrees.{shifted, mixed, degrees-start}
 use Rattle.reed_solomon.proofs.Entry.{kept1, kept2, freed1, freed2}
 
 -- p - a stands for minus a
-minus : {q : ℕ} (m a b : ℕ) → m + a ≡ suc q → Cong q (b + m) (b + q * a)
+pub minus : {q : ℕ} (m a b : ℕ) → m + a ≡ suc q → Cong q (b + m) (b + q * a)
 minus m a b e = record { k = a; l = 1; eq = omega arith }
 
 pub ratio-is : {p b i : ℕ} (m a r : ℕ) → m + a ≡ p → 0 < p → Inverse p b i → (r ≡ m * i % p) → r < p → Ratio p a b r
@@ -69,18 +69,18 @@ module _ {p : ℕ} (z : 0 < p) where
       times-e {f} T = product (f .e) (T .e)
 
 -- the state before any entry
-zeros-at : (n j : ℕ) → at (replicate n 0) j ≡ 0
+pub zeros-at : (n j : ℕ) → at (replicate n 0) j ≡ 0
 zeros-at zero j = refl
 zeros-at (suc n) zero = refl
 zeros-at (suc n) (suc j) = zeros-at n j
 
-ones-at : (j : ℕ) → j < 16 → at (replicate 16 1) j ≡ 1
+pub ones-at : (j : ℕ) → j < 16 → at (replicate 16 1) j ≡ 1
 ones-at j l = getD-replicate {A = ℕ} 16 j 1 0 l
 
-zeros-row : {p : ℕ} → 0 < p → Row p (replicate 16 0)
+pub zeros-row : {p : ℕ} → 0 < p → Row p (replicate 16 0)
 zeros-row {p} z = record { size = refl; small = λ j. rw (zeros-at 16 j) z }
 
-ones-row : {p : ℕ} → 1 < p → Row p (replicate 16 1)
+pub ones-row : {p : ℕ} → 1 < p → Row p (replicate 16 1)
 ones-row l = row-of (omega arith) refl λ j k. rw (ones-at j k) l
 
 pub starts : {p : ℕ} {y d : List ℕ} → 1 < p → d ≡ row (λ j. (p - 1) * at y j % p) →

@@ -2,3 +2,5 @@
 pub mod Strip
 pub mod Interpolation
 pub mod Pairs
+pub mod Near
+pub mod Newton

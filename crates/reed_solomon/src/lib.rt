@@ -1,2 +1,3 @@
 // The strip decoder: Reed-Solomon codes with doubts.
 pub mod interpolation;
+pub mod newton;
