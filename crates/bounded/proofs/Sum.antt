@@ -36,6 +36,14 @@ sum-swap (suc n) m f = omega (arith, sum-swap n m f, sum-add m (λ j. sum n (λ 
 pub sum-more : (n : ℕ) (f : ℕ → ℕ) → sum (n + 1) f ≡ sum n f + f n
 sum-more n f = rw (add-one n)
 
+-- terms that are 0 from i on
+pub sum-short : (i n : ℕ) (f : ℕ → ℕ) → i ≤ n → ((j : ℕ) → i ≤ j → f j ≡ 0) → sum n f ≡ sum i f
+sum-short i zero f h z = let e : i ≡ zero = omega arith in rw e
+sum-short i (suc n) f h z = elim (ℕ-discrete i (suc n)) [
+  | yes e ↦ rw e
+  | no e ↦ let b : i ≤ n = omega arith in omega (arith, sum-short i n f b z, z n b)
+]
+
 -- a sum in two parts
 pub sum-append : (a b : ℕ) (f : ℕ → ℕ) → sum (a + b) f ≡ sum a f + sum b (λ i. f (a + i))
 sum-append a zero f = rw (add-zero a) (omega arith)

@@ -1,16 +1,16 @@
 -- The laws of polynomials by coefficients: the first coefficient taken off, the leading one, congruent coefficients; and the distance
 -- of two words: two polynomials of degree at most k are the same, or their values differ in n - k places. Assumes nothing.
 use mathlib.Core.Logic.{_≢_, _⊎_, inl, inr}
-use mathlib.Core.Path.{_≡_, refl, sym, ap}
+use mathlib.Core.Path.{_≡_, refl, sym, ap, _∙_}
 use mathlib.Core.Bool.{Bool, true, false, cond}
 use Prim.Native.Nat.{ℕ, zero, suc, _+_, _*_, _-_, _^_, _≤_, _<_}
 use native.Mathlib.Omega.{arith}
 use native.Mathlib.Decide.{ℕ-discrete, decLe}
-use native.Mathlib.Nat.{pow-zero, pow-succ'}
+use native.Mathlib.Nat.{pow-zero, pow-succ', zero-mul}
 use lib.Dec.{eqb}
 use borrow.Author.Tests.{eqb-true}
 use Rattle.bounded.specs.Bounded.{sum}
-use Rattle.bounded.proofs.Sum.{sum-eq, sum-add, sum-const}
+use Rattle.bounded.proofs.Sum.{sum-eq, sum-add, sum-const, sum-short}
 use Rattle.field.specs.Congruence.{Cong}
 use Rattle.field.proofs.Congruence.{same, of-mod, _⨾_, ~add, ~mul, less, rest, difference}
 use Rattle.definitions.specs.Cost.{changed}
@@ -36,11 +36,7 @@ eval-minus m (suc k) a b x = omega (arith, eval-minus m k a b x)
 
 -- coefficients that are 0 from i on
 pub eval-short : (i k : ℕ) (a : ℕ → ℕ) (x : ℕ) → i ≤ k → ((l : ℕ) → i ≤ l → a l ≡ 0) → eval k a x ≡ eval i a x
-eval-short i zero a x h z = let e : i ≡ zero = omega arith in rw e
-eval-short i (suc k) a x h z = elim (ℕ-discrete i (suc k)) [
-  | yes e ↦ rw e
-  | no e ↦ let b : i ≤ k = omega arith in omega (arith, eval-short i k a x b z, ap (λ t. t * x ^ k) (z k b))
-]
+eval-short i k a x h z = sum-short i k (λ l. a l * x ^ l) h λ l m. ap (λ t. t * x ^ l) (z l m) ∙ zero-mul (x ^ l)
 
 pub eval-cong : {q : ℕ} (k : ℕ) {a b : ℕ → ℕ} (x : ℕ) → ((i : ℕ) → i < k → Cong q (a i) (b i)) → Cong q (eval k a x) (eval k b x)
 eval-cong zero x h = same refl
