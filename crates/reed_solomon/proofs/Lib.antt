@@ -5,3 +5,5 @@ pub mod Entry
 pub mod State
 pub mod Near
 pub mod Interpolant
+pub mod Trial
+pub mod Levels

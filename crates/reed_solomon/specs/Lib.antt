@@ -4,3 +4,4 @@ pub mod Interpolation
 pub mod Pairs
 pub mod Near
 pub mod Newton
+pub mod Decoded
