@@ -1,0 +1,36 @@
+-- `distance::summary::radius` meets its contract: no product is above 65535 * 16 * 16. Assumes nothing.
+use mathlib.Core.Path.{refl}
+use Prim.Native.Nat.{ℕ, _*_, _-_, _≤_, _<_}
+use native.Mathlib.Omega.{arith}
+use native.Mathlib.Nat.{mul-le-mul}
+use borrow.Author.Needs.{needs}
+use Rattle.distance.proofs.summary.radius.Statement.{statement}
+use Rattle.distance.proofs.summary.radius.Tie as tie
+
+row-most : (f r : ℕ) → f < 65536 → r ≤ 16 → f * r ≤ 1048576
+row-most f r h i = mul-le-mul {n₁ = f} {m₁ = r} {n₂ = 65536} {m₂ = 16} (omega arith) i
+
+radius-most : (f r k : ℕ) → f < 65536 → r ≤ 16 → k ≤ 16 → f * r * k ≤ 16777216
+radius-most f r k h i l = mul-le-mul {n₁ = f * r} {m₁ = k} {n₂ = 1048576} {m₂ = 16} (row-most f r h i) l
+
+cast-result : tie.Need-cast-result
+cast-result c = search needs
+
+mul-result : tie.Need-mul-result
+mul-result c = omega (arith, row-most (c .args .full) (c .args .rows) (c .pre .0) (c .pre .1))
+
+sub-result : tie.Need-sub-result
+sub-result c = search needs
+
+cast-result-2 : tie.Need-cast-result-2
+cast-result-2 c = search needs
+
+mul-result-2 : tie.Need-mul-result-2
+mul-result-2 c = omega (arith, radius-most (c .args .full) (c .args .rows) (c .args .n - c .args .d) (c .pre .0) (c .pre .1) (omega arith))
+
+returns : tie.Need-returns
+returns c = (refl, omega (arith, radius-most (c .args .full) (c .args .rows) (c .args .n - c .args .d) (c .pre .0) (c .pre .1) (omega arith)))
+
+pub radius-spec : {M : Type 1} → statement M
+radius-spec =
+    tie.close (tie.spec cast-result mul-result sub-result cast-result-2 mul-result-2 returns)
