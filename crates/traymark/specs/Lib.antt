@@ -1,2 +1,3 @@
 -- What the contracts of the calls need beside the definitions.
 pub mod Kind
+pub mod Measured

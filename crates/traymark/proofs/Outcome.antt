@@ -1,0 +1,30 @@
+-- What a call's number says of what it hands back: a refusal leaves the buffer or is a reading of zeros, and 0 gives the result.
+-- Assumes nothing.
+use mathlib.Core.Path.{_≡_, refl, sym, ap, _∙_}
+use mathlib.Core.List.{List}
+use Prim.Native.Nat.{ℕ, zero, suc}
+use Rattle.definitions.specs.Refusals.{accepted}
+use Rattle.definitions.specs.Code.{Code, mark}
+use Rattle.definitions.specs.Calls.{refused, readingOf, writeNumber, writeBuffer, measureNumber, measureReading}
+
+other : {A : Type 0} (k : ℕ) (a b : A) → (k ≡ 0 → ⊥) → b ≡ accepted k a b
+other zero a b h = absurd (h refl)
+other (suc k) a b h = refl
+
+module _ (C : Code) (P F B : List ℕ) {k : ℕ} (e : k ≡ writeNumber C P F B) where
+  pub write-keeps : (k ≡ 0 → ⊥) → B ≡ writeBuffer C P F B
+  unfolding writeBuffer
+  write-keeps h = other k (mark C P F) B h ∙ ap (λ k. accepted k (mark C P F) B) e
+
+  pub write-fills : k ≡ 0 → mark C P F ≡ writeBuffer C P F B
+  unfolding writeBuffer
+  write-fills z = ap (λ k. accepted k (mark C P F) B) (sym z ∙ e)
+
+module _ (C : Code) (P s u F : List ℕ) {k : ℕ} (e : k ≡ measureNumber C P s u F) where
+  pub measure-refuses : (k ≡ 0 → ⊥) → refused k ≡ measureReading C P s u F
+  unfolding measureReading
+  measure-refuses h = other k (readingOf C P s u F) (refused k) h ∙ ap (λ k. accepted k (readingOf C P s u F) (refused k)) e
+
+  pub measure-gives : k ≡ 0 → readingOf C P s u F ≡ measureReading C P s u F
+  unfolding measureReading
+  measure-gives z = ap (λ k. accepted k (readingOf C P s u F) (refused k)) (sym z ∙ e)

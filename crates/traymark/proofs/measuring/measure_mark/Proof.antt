@@ -1,0 +1,86 @@
+-- `traymark::measuring::measure_mark` meets its contract: the plan's points are put in for X and for Y. Assumes nothing.
+use mathlib.Core.Path.{refl, _∙_}
+use native.Mathlib.Omega.{arith}
+use Rattle.polynomial.proofs.Powers.{powers-rows}
+use Rattle.traymark.proofs.Square.{points-residues, square-word, square-value}
+use Rattle.traymark.proofs.Measured.{measured-eq, reading-is}
+use borrow.Author.Needs.{needs}
+use Rattle.traymark.proofs.measuring.measure_mark.Statement.{statement}
+use Rattle.traymark.proofs.measuring.measure_mark.Tie as tie
+
+shared-slice-read-p : tie.Need-shared-slice-read-p
+shared-slice-read-p c = search needs
+
+cast-p : tie.Need-cast-p
+cast-p c = search needs
+
+shared-slice-read-n : tie.Need-shared-slice-read-n
+shared-slice-read-n c = search needs
+
+cast-n : tie.Need-cast-n
+cast-n c = search needs
+
+shared-slice-read-d : tie.Need-shared-slice-read-d
+shared-slice-read-d c = search needs
+
+cast-d : tie.Need-cast-d
+cast-d c = search needs
+
+reciprocal-requires : tie.Need-reciprocal-requires
+reciprocal-requires c κs = search needs
+
+points-requires : tie.Need-points-requires
+points-requires c κs = search needs
+
+powers-requires : tie.Need-powers-requires
+powers-requires c κs = (c .before .reciprocal .ensures, points-residues (c .before .before .before .before .before .before .before .before .before .pre .0 .sound) (c .points .ensures))
+
+columns-requires : tie.Need-columns-requires
+columns-requires c κs =
+    let b = c .before .before .before .before .before .before .before .before .before .before in
+    let s = b .pre .0 .sound in
+    let m = c .before .before .reciprocal .ensures in
+    (m, powers-rows (c .before .points .result) (omega (arith, m .least)) (c .powers .ensures), square-word (b .args .plan .now) (b .pre .1), omega (arith, s .low, s .most))
+
+measure-rows-requires : tie.Need-measure-rows-requires
+measure-rows-requires c κs =
+    let b = c .before .before .before .before .before .before .before .before .before .before .before .pre .0 in
+    let m = c .before .before .before .reciprocal .ensures in
+    (m, c .columns .ensures .0, powers-rows (c .before .before .points .result) (omega (arith, m .least)) (c .before .powers .ensures), b .sound .most, omega (arith, b .sound .low, b .sound .most), b .symbols, b .doubts, b .doubt)
+
+cast-radius : tie.Need-cast-radius
+cast-radius c = search needs
+
+radius-requires : tie.Need-radius-requires
+radius-requires c κs = search needs
+
+reading-requires : tie.Need-reading-requires
+reading-requires c κs = search needs
+
+returns : tie.Need-returns
+returns c =
+    let b = c .before .before .before .before .before .before .before .before .before .before .before .before .before .before .pre in
+    let x = c .before .before .before .before .before .points in
+    let P = c .before .before .before .before .powers .ensures in
+    let C = c .before .before .before .columns .ensures .1 (x .result) P in
+    c .reading .ensures ∙ reading-is _ _ _ _ _ (c .before .radius .ensures .0) (measured-eq (λ i l. refl) (λ i l. refl) (square-value (b .0 .sound) (x .ensures) _) (c .before .before .measure-rows .ensures .1 (x .result) (x .result) _ C P))
+
+pub measure-mark-spec : {M : Type 1} → statement M
+measure-mark-spec =
+    tie.close
+    (tie.spec
+    shared-slice-read-p
+    cast-p
+    shared-slice-read-n
+    cast-n
+    shared-slice-read-d
+    cast-d
+    reciprocal-requires
+    points-requires
+    powers-requires
+    columns-requires
+    measure-rows-requires
+    cast-radius
+    radius-requires
+    reading-requires
+    returns)

@@ -1,0 +1,117 @@
+-- `traymark::measuring::measure_rows` meets its contract: the rows below r are measured. Assumes nothing.
+use mathlib.Core.Path.{_≡_, refl}
+use mathlib.Core.List.{List}
+use Prim.Native.Nat.{ℕ, _+_, _*_, _-_, _≤_}
+use native.Mathlib.Omega.{arith}
+use native.Mathlib.Nat.{zero-mul}
+use Rattle.bounded.specs.Bounded.{at}
+use Rattle.definitions.specs.Code.{gridValue}
+use Rattle.polynomial.specs.Powers.{Powers, Columns}
+use Rattle.traymark.specs.Measured.{Measured}
+use Rattle.traymark.proofs.Square.{row-in, grid-row}
+use Rattle.traymark.proofs.Measured.{part-at, measured-eq, measured-more}
+use borrow.Author.Needs.{needs}
+use Rattle.traymark.proofs.measuring.measure_rows.Statement.{statement}
+use Rattle.traymark.proofs.measuring.measure_rows.Tie as tie
+
+abbrev Inv-loop : tie.InvT-loop
+Inv-loop symbols doubts n columns powers d p m cost₀ changed₀ r₀ cost changed r =
+    (r ≤ n) × (cost ≤ 2097152 * r) × (changed ≤ 16 * r)
+    × ((x y F : List ℕ) → Columns p d x F columns → Powers p y powers → Measured (r * n) (at symbols) (at doubts) (gridValue p d n (at x) (at y) F) cost changed)
+
+abbrev μ-loop : tie.MeasureT-loop
+μ-loop symbols doubts n columns powers d p m cost₀ changed₀ r₀ cost changed r = n - r
+
+loop-holds : tie.Need-loop-holds Inv-loop μ-loop
+loop-holds c = (omega arith, omega arith, omega arith, λ x y F C P. rw zero-mul (record { sum = refl; count = refl }))
+
+row-values-requires : tie.Need-row-values-requires Inv-loop μ-loop
+row-values-requires c κs = let b = c .before .before .before .before in (b .pre .0, b .pre .1, b .pre .2, omega arith, b .pre .4)
+
+mul-at : tie.Need-mul-at Inv-loop μ-loop
+mul-at c = omega (arith, row-in _ _ (c .before .loop-test .taken))
+
+add-end : tie.Need-add-end Inv-loop μ-loop
+add-end c = omega (arith, row-in _ _ (c .before .loop-test .taken))
+
+sub-measure-row : tie.Need-sub-measure-row Inv-loop μ-loop
+sub-measure-row c = search needs
+
+part-measure-row-start : tie.Need-part-measure-row-start Inv-loop μ-loop
+part-measure-row-start c = search needs
+
+part-measure-row-end : tie.Need-part-measure-row-end Inv-loop μ-loop
+part-measure-row-end c = omega (arith, row-in _ _ (c .before .loop-test .taken))
+
+sub-measure-row-2 : tie.Need-sub-measure-row-2 Inv-loop μ-loop
+sub-measure-row-2 c = search needs
+
+part-measure-row-start-2 : tie.Need-part-measure-row-start-2 Inv-loop μ-loop
+part-measure-row-start-2 c = search needs
+
+part-measure-row-end-2 : tie.Need-part-measure-row-end-2 Inv-loop μ-loop
+part-measure-row-end-2 c = omega (arith, row-in _ _ (c .before .before .loop-test .taken))
+
+measure-row-requires : tie.Need-measure-row-requires Inv-loop μ-loop
+measure-row-requires c κs =
+    let b = c .before .before .before .before .before .before .before in
+    let r = c .before .before .before .before .loop .r in
+    let n = b .args .n in
+    (b .pre .3, λ i l. rw (part-at (r * n) n (b .args .doubts .now) i l) (b .pre .7 (r * n + i) (omega (arith, row-in r n (c .before .before .before .loop-test .taken)))))
+
+add-cost : tie.Need-add-cost Inv-loop μ-loop
+add-cost c = omega (arith, c .before .measure-row .ensures .1, c .before .before .before .before .before .before .loop .inv .1, c .before .before .before .before .before .before .before .before .before .pre .3)
+
+add-changed : tie.Need-add-changed Inv-loop μ-loop
+add-changed c = omega (arith, c .before .before .measure-row .ensures .2, c .before .before .before .before .before .before .before .loop .inv .2, c .before .before .before .before .before .before .before .before .before .before .pre .3)
+
+add-r : tie.Need-add-r Inv-loop μ-loop
+add-r c = search needs
+
+loop-less : tie.Need-loop-less Inv-loop μ-loop
+loop-less c = search needs
+
+loop-again : tie.Need-loop-again Inv-loop μ-loop
+loop-again c =
+    let l = c .before .before .before .before .before .before .before .loop in
+    let b = c .before .before .before .before .before .before .before .before .before .before in
+    let n = b .args .n in
+    let t = c .before .before .measure-row .ensures in
+    let v = c .before .before .before .before .before .row-values .ensures .1 in (
+      omega arith,
+      omega (arith, t .1, l .inv .1, b .pre .3),
+      omega (arith, t .2, l .inv .2, b .pre .3),
+      λ x y F C P. measured-more n (l .r) _ _ _ (l .inv .3 x y F C P)
+          (measured-eq (part-at (l .r * n) n (b .args .symbols .now)) (part-at (l .r * n) n (b .args .doubts .now)) (grid-row (b .args .p) (b .args .d) n (l .r) x y F (b .pre .3) (v x y F C P)) (t .0)),
+    )
+
+returns : tie.Need-returns Inv-loop μ-loop
+returns c =
+    let l = c .before .loop in
+    let b = c .before .before .before .before in
+    let e : l .r ≡ b .args .n = omega arith in
+    (omega (arith, l .inv .1, b .pre .3), λ x y F C P. rw e at (l .inv .3 x y F C P))
+
+pub measure-rows-spec : {M : Type 1} → statement M
+measure-rows-spec =
+    tie.close
+    (tie.spec
+    Inv-loop
+    μ-loop
+    loop-holds
+    row-values-requires
+    mul-at
+    add-end
+    sub-measure-row
+    part-measure-row-start
+    part-measure-row-end
+    sub-measure-row-2
+    part-measure-row-start-2
+    part-measure-row-end-2
+    measure-row-requires
+    add-cost
+    add-changed
+    add-r
+    loop-less
+    loop-again
+    returns)

@@ -1,0 +1,37 @@
+-- `traymark::writing::traymark_write_mark` meets its contract: the checks come first, and after them the one call below writes. Assumes nothing.
+use mathlib.Core.Path.{sym, _∙_}
+use Rattle.definitions.proofs.Accepted.{write-accepted}
+use Rattle.traymark.proofs.Outcome.{write-keeps, write-fills}
+use borrow.Author.Needs.{needs}
+use Rattle.traymark.proofs.writing.traymark_write_mark.Statement.{statement}
+use Rattle.traymark.proofs.writing.traymark_write_mark.Tie as tie
+
+write-number-requires : tie.Need-write-number-requires
+write-number-requires c κs = search needs
+
+same-length : tie.Need-same-length
+same-length c = search needs
+
+returns : tie.Need-returns
+returns c = (c .before .write-number .ensures, write-keeps _ _ _ _ (c .before .write-number .ensures) (c .if1 .taken))
+
+write-mark-requires : tie.Need-write-mark-requires
+write-mark-requires c κs = write-accepted _ _ _ _ (sym (c .before .before .write-number .ensures) ∙ c .before .if1 .left)
+
+same-length-2 : tie.Need-same-length-2
+same-length-2 c = search needs
+
+returns-2 : tie.Need-returns-2
+returns-2 c =
+    (sym (c .before .before .before .before .if1 .left) ∙ c .before .before .before .before .before .write-number .ensures, c .before .before .write-mark .ensures ∙ write-fills _ _ _ _ (c .before .before .before .before .before .write-number .ensures) (c .before .before .before .before .if1 .left))
+
+pub traymark-write-mark-spec : {M : Type 1} → statement M
+traymark-write-mark-spec =
+    tie.close
+    (tie.spec
+    write-number-requires
+    same-length
+    returns
+    write-mark-requires
+    same-length-2
+    returns-2)

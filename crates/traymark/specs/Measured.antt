@@ -1,0 +1,12 @@
+-- What measuring some cells gives.
+--
+--   Measured n s u v D k    D is the cost of the values v in the n cells with symbols s and doubts u, and k how many of them differ
+--
+-- What this file is for: it holds of a row, of the rows so far, and of the whole mark.
+use mathlib.Core.Path.{_≡_}
+use Prim.Native.Nat.{ℕ}
+use Rattle.definitions.specs.Cost.{full, cost, changed}
+
+pub record Measured (n : ℕ) (s u v : ℕ → ℕ) (D k : ℕ) : Type 0 where
+  pub sum : D ≡ cost full n s u v
+  pub count : k ≡ changed n s v
