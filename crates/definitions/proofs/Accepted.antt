@@ -1,31 +1,23 @@
--- What a photograph, a measuring and a writing that are not refused know of their arguments; and the number of one that stops at a test.
--- Assumes nothing.
-use mathlib.Core.Path.{_≡_, refl, sym, _∙_}
-use mathlib.Core.Bool.{Bool, true, false, not, _&&_, true≢false}
+-- What a measuring and a writing that are not refused know of their arguments; and the number of a call that stops at a test. Assumes
+-- nothing.
+use mathlib.Core.Path.{_≡_, sym, _∙_}
+use mathlib.Core.Bool.{false}
 use mathlib.Core.List.{List, [], _∷_}
 use Prim.Native.Nat.{ℕ}
 use lib.ListN.{length}
-use borrow.Author.Tests.{leb-false, ltb-false, eqb-true, eq-eqb, ne-eqb, not-false}
+use borrow.Author.Tests.{leb-false, eqb-true, not-false}
 use Rattle.bounded.proofs.Any.{any-none}
 use Rattle.definitions.specs.Refusals.{Row, _when_, first}
 use Rattle.definitions.specs.Plan.{planRows, checkNumber}
 use Rattle.definitions.specs.Code.{Code, size, cells}
 use Rattle.definitions.specs.Calls.{lengthRow, strange, excessive, halfRead, overflowing, recordRow, photoRows, writeRows, writeNumber, measureRows, measureNumber}
 use Rattle.definitions.specs.Word.{IsRecord}
-use Rattle.definitions.specs.Accepted.{Photo, Writing}
+use Rattle.definitions.specs.Sound.{Sound}
+use Rattle.definitions.specs.Photograph.{Photograph}
+use Rattle.definitions.specs.Accepted.{Writing}
 use Rattle.definitions.proofs.Refusals.{testAt, first-clear, first-both, Stops, numberAt, first-at, first-refuses, first-passes}
 use Rattle.definitions.proofs.Sound.{sound}
-
--- the two halves of a test that fails
-both-fail : (a b : Bool) → a && not b ≡ false → b ≡ false → a ≡ false
-both-fail false b e h = refl
-both-fail true false e h = absurd (true≢false e)
-both-fail true true e h = absurd (true≢false h)
-
-other-holds : (a b : Bool) → a && not b ≡ false → a ≡ true → b ≡ true
-other-holds false b e h = absurd (true≢false (sym h))
-other-holds true false e h = absurd (true≢false e)
-other-holds true true e h = refl
+use Rattle.definitions.proofs.Photograph.{accepted-photo, accepted-buffer}
 
 -- the tests after those of the plan, for n cells and k coefficients
 abbrev pub photoTests : (P s u F : List ℕ) (n k : ℕ) → List Row
@@ -39,34 +31,16 @@ module _ (C : Code) (P : List ℕ) where
   record-is : (F : List ℕ) → length F ≡ size C P → first (recordRow C P F ∷ []) ≡ 0 → IsRecord C P F
   record-is F e h = record { size = e; below = λ i l. leb-false _ _ (any-none _ _ (first-clear (recordRow C P F ∷ []) tt h 0) i l) }
 
-  pub photo-accepted : (s u F : List ℕ) → first (photoRows C P s u F) ≡ 0 → Photo C P s u F
-  unfolding photoRows planRows checkNumber
-  photo-accepted s u F e = record {
-    sound = sound P (b .0);
-    symbols = eqb-true _ _ (not-false _ (c 0));
-    doubts = eqb-true _ _ (not-false _ (c 1));
-    room = eqb-true _ _ (not-false _ (c 2));
-    known = λ i l h. leb-false _ _ (both-fail _ _ (any-none _ _ (c 3) i l) (ne-eqb _ _ h));
-    doubt = λ i l. ltb-false _ _ (any-none _ _ (c 4) i l);
-    erased = λ i l h. eqb-true _ _ (other-holds _ _ (any-none _ _ (c 5) i l) (eq-eqb _ _ h));
-  }
-    where
-      b : (first (planRows P) ≡ 0) × (first (photoTests P s u F (cells C P) (size C P)) ≡ 0)
-      b = first-both (planRows P) (photoTests P s u F (cells C P) (size C P)) tt e
-
-      c : (i : ℕ) → testAt (photoTests P s u F (cells C P) (size C P)) i ≡ false
-      c = first-clear (photoTests P s u F (cells C P) (size C P)) tt (b .1)
-
-  pub measure-accepted : (s u F : List ℕ) → measureNumber C P s u F ≡ 0 → Photo C P s u F × IsRecord C P F
+  pub accepted-measuring : (s u F : List ℕ) → measureNumber C P s u F ≡ 0 → Sound P × Photograph C P s u × IsRecord C P F
   unfolding measureNumber measureRows photoRows planRows
-  measure-accepted s u F e =
+  accepted-measuring s u F e =
       let b = first-both (photoRows C P s u F) (recordRow C P F ∷ []) tt e in
-      let f = photo-accepted s u F (b .0) in
-      (f, record-is F (f .room) (b .1))
+      let h = accepted-photo C P s u F (b .0) in
+      (sound P (h .sound), h, record-is F (accepted-buffer C P s u F (b .0)) (b .1))
 
-  pub write-accepted : (F B : List ℕ) → writeNumber C P F B ≡ 0 → Writing C P F B
+  pub accepted-writing : (F B : List ℕ) → writeNumber C P F B ≡ 0 → Writing C P F B
   unfolding writeNumber writeRows planRows checkNumber first
-  write-accepted F B e = record { sound = sound P (b .0); given = record-is F (eqb-true _ _ (not-false _ (c 0))) (rest (c 2)); room = eqb-true _ _ (not-false _ (c 1)) }
+  accepted-writing F B e = record { sound = sound P (b .0); given = record-is F (eqb-true _ _ (not-false _ (c 0))) (rest (c 2)); room = eqb-true _ _ (not-false _ (c 1)) }
     where
       b : (first (planRows P) ≡ 0) × (first (writeTests P F B (cells C P) (size C P)) ≡ 0)
       b = first-both (planRows P) (writeTests P F B (cells C P) (size C P)) tt e

@@ -1,6 +1,5 @@
--- What the calls guarantee.
+-- What the calls guarantee, and what their proofs share.
 pub mod Demands
--- What the proofs of the calls share.
 pub mod Square
 pub mod Written
 pub mod Measured

@@ -12,11 +12,12 @@ use Rattle.bounded.proofs.Sum.{sum-eq, cell-row, cell-column}
 use Rattle.field.specs.Row.{row, Row}
 use Rattle.field.proofs.Row.{row-at, row-of, beyond}
 use Rattle.definitions.specs.Plan.{modulus, side, degree, point}
-use Rattle.definitions.specs.Code.{strip, square, start, value, valueX, valueXY, gridValue}
+use Rattle.definitions.specs.Code.{strip, square, start, value, valueXY, gridValue}
 use Rattle.definitions.specs.Sound.{Sound}
 use Rattle.definitions.specs.Word.{Word, IsRecord}
 use Rattle.plan.proofs.Residues.{points-row}
 use Rattle.polynomial.specs.Eval.{eval}
+use Rattle.polynomial.proofs.Plan.{value-strip}
 
 pub row-in : (r n : ℕ) → r < n → r * n + n ≤ n * n
 row-in r n h = omega (arith, mul-le-mul-right n h, suc-mul r n)
@@ -40,9 +41,8 @@ module _ {P x : List ℕ} (s : Sound P) (e : x ≡ row (point P)) where
   -- the values v of the polynomial with the coefficients w
   pub strip-value : (F : List ℕ) {w v : List ℕ} → w ≡ row (at F) → v ≡ row (λ j. eval (suc (degree P)) (at w) (at x j) % modulus P) →
       (j : ℕ) → j < side P → at v j ≡ value strip P F j
-  unfolding valueX
   strip-value F {w} f g j l = let k : j < 16 = omega (arith, s .most) in
-      rw (g, row-at (λ j. eval (suc (degree P)) (at w) (at x j) % modulus P) j k, point-at j l, add-one (degree P))
+      rw (g, row-at (λ j. eval (suc (degree P)) (at w) (at x j) % modulus P) j k, point-at j l, value-strip (modulus P) (degree P) F (point P j))
       (ap (λ t. t % modulus P) (sum-eq (suc (degree P)) λ i m. ap (λ t. t * point P j ^ i) (coefficient i (omega (arith, s .low, s .most)))))
     where
       coefficient : (i : ℕ) → i < 16 → at w i ≡ at F i

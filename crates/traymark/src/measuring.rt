@@ -19,7 +19,8 @@ ghost use Rattle.definitions.specs.Code.{strip, square, gridValue};
 ghost use Rattle.definitions.specs.Cost.{full};
 ghost use Rattle.definitions.specs.Calls.{readingOf, measureReading};
 ghost use Rattle.definitions.specs.Word.{IsRecord};
-ghost use Rattle.definitions.specs.Accepted.{Photo};
+ghost use Rattle.definitions.specs.Sound.{Sound};
+ghost use Rattle.definitions.specs.Photograph.{Photograph};
 ghost use Rattle.traymark.specs.Measured.{Measured};
 
 // Measures a record against a photographed mark, from Rattle and from C. All four are any bytes of any length, and are only read.
@@ -66,7 +67,7 @@ pub extern "C" fn traymark_measure_strip(
 
 // The mark's reading, where nothing is refused.
 fn measure_mark(plan: &[u8], record: &[u8], symbols: &[u8], doubts: &[u8]) -> Reading
-    requires { ⌜ Photo square (now plan) (now symbols) (now doubts) (now «record») × IsRecord square (now plan) (now «record») ⌝ }
+    requires { ⌜ Sound (now plan) × Photograph square (now plan) (now symbols) (now doubts) × IsRecord square (now plan) (now «record») ⌝ }
     ensures { λ r. ⌜ r ≡ readingOf square (now (plan .entry)) (now (symbols .entry)) (now (doubts .entry)) (now («record» .entry)) ⌝ }
 {
     let p = plan[2] as u16;
@@ -82,7 +83,7 @@ fn measure_mark(plan: &[u8], record: &[u8], symbols: &[u8], doubts: &[u8]) -> Re
 
 // The strip's reading, where nothing is refused.
 fn measure_strip(plan: &[u8], record: &[u8], symbols: &[u8], doubts: &[u8]) -> Reading
-    requires { ⌜ Photo strip (now plan) (now symbols) (now doubts) (now «record») × IsRecord strip (now plan) (now «record») ⌝ }
+    requires { ⌜ Sound (now plan) × Photograph strip (now plan) (now symbols) (now doubts) × IsRecord strip (now plan) (now «record») ⌝ }
     ensures { λ r. ⌜ r ≡ readingOf strip (now (plan .entry)) (now (symbols .entry)) (now (doubts .entry)) (now («record» .entry)) ⌝ }
 {
     let p = plan[2] as u16;

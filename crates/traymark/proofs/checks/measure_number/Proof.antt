@@ -1,7 +1,9 @@
 -- `traymark::checks::measure_number` meets its contract: a photograph's refusals come first. Assumes nothing.
 use mathlib.Core.Path.{refl, sym, _∙_}
 use Rattle.definitions.proofs.Refusals.{answered}
-use Rattle.definitions.proofs.Accepted.{photo-accepted, measure-refused, measure-at}
+use Rattle.definitions.proofs.Sound.{sound}
+use Rattle.definitions.proofs.Photograph.{accepted-photo, accepted-buffer}
+use Rattle.definitions.proofs.Accepted.{measure-refused, measure-at}
 use borrow.Author.Needs.{needs}
 use Rattle.traymark.proofs.checks.measure_number.Statement.{statement}
 use Rattle.traymark.proofs.checks.measure_number.Tie as tie
@@ -13,18 +15,18 @@ returns : tie.Need-returns
 returns c = measure-refused _ _ _ _ _ _ (c .before .photo-number .ensures) (c .if1 .taken)
 
 is-overflowing-requires : tie.Need-is-overflowing-requires
-is-overflowing-requires c κs = (photo-accepted _ _ _ _ _ (sym (c .before .photo-number .ensures) ∙ c .if1 .left) .sound .whole, refl)
+is-overflowing-requires c κs = (sound _ (accepted-photo _ _ _ _ _ (sym (c .before .photo-number .ensures) ∙ c .if1 .left) .sound) .whole, refl)
 
 returns-2 : tie.Need-returns-2
 returns-2 c =
     measure-at _ _ _ _ _ 0 (c .before .before .before .photo-number .ensures) (c .before .before .if1 .left)
-    (photo-accepted _ _ _ _ _ (sym (c .before .before .before .photo-number .ensures) ∙ c .before .before .if1 .left) .room)
+    (accepted-buffer _ _ _ _ _ (sym (c .before .before .before .photo-number .ensures) ∙ c .before .before .if1 .left))
     (answered (c .before .is-overflowing .ensures) (c .if2 .taken))
 
 returns-3 : tie.Need-returns-3
 returns-3 c =
     measure-at _ _ _ _ _ 1 (c .before .before .before .photo-number .ensures) (c .before .before .if1 .left)
-    (photo-accepted _ _ _ _ _ (sym (c .before .before .before .photo-number .ensures) ∙ c .before .before .if1 .left) .room)
+    (accepted-buffer _ _ _ _ _ (sym (c .before .before .before .photo-number .ensures) ∙ c .before .before .if1 .left))
     (answered (c .before .is-overflowing .ensures) (c .if2 .left), tt)
 
 pub measure-number-spec : {M : Type 1} → statement M

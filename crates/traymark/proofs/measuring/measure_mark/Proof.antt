@@ -33,20 +33,20 @@ points-requires : tie.Need-points-requires
 points-requires c κs = search needs
 
 powers-requires : tie.Need-powers-requires
-powers-requires c κs = (c .before .reciprocal .ensures, points-residues (c .before .before .before .before .before .before .before .before .before .pre .0 .sound) (c .points .ensures))
+powers-requires c κs = (c .before .reciprocal .ensures, points-residues (c .before .before .before .before .before .before .before .before .before .pre .0) (c .points .ensures))
 
 columns-requires : tie.Need-columns-requires
 columns-requires c κs =
     let b = c .before .before .before .before .before .before .before .before .before .before in
-    let s = b .pre .0 .sound in
+    let s = b .pre .0 in
     let m = c .before .before .reciprocal .ensures in
-    (m, powers-rows (c .before .points .result) (omega (arith, m .least)) (c .powers .ensures), square-word (b .args .plan .now) (b .pre .1), omega (arith, s .low, s .most))
+    (m, powers-rows (c .before .points .result) (omega (arith, m .least)) (c .powers .ensures), square-word (b .args .plan .now) (b .pre .2), omega (arith, s .low, s .most))
 
 measure-rows-requires : tie.Need-measure-rows-requires
 measure-rows-requires c κs =
-    let b = c .before .before .before .before .before .before .before .before .before .before .before .pre .0 in
+    let b = c .before .before .before .before .before .before .before .before .before .before .before .pre in
     let m = c .before .before .before .reciprocal .ensures in
-    (m, c .columns .ensures .0, powers-rows (c .before .before .points .result) (omega (arith, m .least)) (c .before .powers .ensures), b .sound .most, omega (arith, b .sound .low, b .sound .most), b .symbols, b .doubts, b .doubt)
+    (m, c .columns .ensures .0, powers-rows (c .before .before .points .result) (omega (arith, m .least)) (c .before .powers .ensures), b .0 .most, omega (arith, b .0 .low, b .0 .most), b .1 .symbols, b .1 .doubts, b .1 .doubt)
 
 cast-radius : tie.Need-cast-radius
 cast-radius c = search needs
@@ -63,7 +63,7 @@ returns c =
     let x = c .before .before .before .before .before .points in
     let P = c .before .before .before .before .powers .ensures in
     let C = c .before .before .before .columns .ensures .1 (x .result) P in
-    c .reading .ensures ∙ reading-is _ _ _ _ _ (c .before .radius .ensures .0) (measured-eq (λ i l. refl) (λ i l. refl) (square-value (b .0 .sound) (x .ensures) _) (c .before .before .measure-rows .ensures .1 (x .result) (x .result) _ C P))
+    c .reading .ensures ∙ reading-is _ _ _ _ _ (c .before .radius .ensures .0) (measured-eq (λ i l. refl) (λ i l. refl) (square-value (b .0) (x .ensures) _) (c .before .before .measure-rows .ensures .1 (x .result) (x .result) _ C P))
 
 pub measure-mark-spec : {M : Type 1} → statement M
 measure-mark-spec =

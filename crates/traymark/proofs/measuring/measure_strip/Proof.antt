@@ -33,7 +33,7 @@ points-requires : tie.Need-points-requires
 points-requires c κs = search needs
 
 powers-requires : tie.Need-powers-requires
-powers-requires c κs = (c .before .reciprocal .ensures, points-residues (c .before .before .before .before .before .before .before .before .before .pre .0 .sound) (c .points .ensures))
+powers-requires c κs = (c .before .reciprocal .ensures, points-residues (c .before .before .before .before .before .before .before .before .before .pre .0) (c .points .ensures))
 
 row-requires : tie.Need-row-requires
 row-requires c κs = search needs
@@ -42,7 +42,7 @@ values-requires : tie.Need-values-requires
 values-requires c κs =
     let b = c .before .before .before .before .before .before .before .before .before .before .before .pre in
     let m = c .before .before .before .reciprocal .ensures in
-    (m, powers-rows (c .before .before .points .result) (omega (arith, m .least)) (c .before .powers .ensures), strip-row (b .0 .sound) (b .1) (c .row .ensures), omega (arith, b .0 .sound .low, b .0 .sound .most))
+    (m, powers-rows (c .before .before .points .result) (omega (arith, m .least)) (c .before .powers .ensures), strip-row (b .0) (b .2) (c .row .ensures), omega (arith, b .0 .low, b .0 .most))
 
 measure-row-requires : tie.Need-measure-row-requires
 measure-row-requires c κs = search needs
@@ -62,7 +62,7 @@ returns c =
     let x = c .before .before .before .before .before .before .points in
     let P = c .before .before .before .before .before .powers .ensures in
     let v = c .before .before .before .values in
-    c .reading .ensures ∙ reading-is _ _ _ _ _ (c .before .radius .ensures .0) (measured-eq (λ i l. refl) (λ i l. refl) (strip-value (b .0 .sound) (x .ensures) _ (c .before .before .before .before .row .ensures) (v .ensures .1 (x .result) P)) (c .before .before .measure-row .ensures .0))
+    c .reading .ensures ∙ reading-is _ _ _ _ _ (c .before .radius .ensures .0) (measured-eq (λ i l. refl) (λ i l. refl) (strip-value (b .0) (x .ensures) _ (c .before .before .before .before .row .ensures) (v .ensures .1 (x .result) P)) (c .before .before .measure-row .ensures .0))
 
 pub measure-strip-spec : {M : Type 1} → statement M
 measure-strip-spec =

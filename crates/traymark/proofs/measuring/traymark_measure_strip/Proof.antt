@@ -1,7 +1,7 @@
 -- `traymark::measuring::traymark_measure_strip` meets its contract: the checks come first, and after them the one call below measures. Assumes
 -- nothing.
 use mathlib.Core.Path.{sym, _∙_}
-use Rattle.definitions.proofs.Accepted.{measure-accepted}
+use Rattle.definitions.proofs.Accepted.{accepted-measuring}
 use Rattle.traymark.proofs.Outcome.{measure-refuses, measure-gives}
 use borrow.Author.Needs.{needs}
 use Rattle.traymark.proofs.measuring.traymark_measure_strip.Statement.{statement}
@@ -17,7 +17,7 @@ returns : tie.Need-returns
 returns c = c .refused .ensures ∙ measure-refuses _ _ _ _ _ (c .before .before .measure-number .ensures) (c .before .if1 .taken)
 
 measure-strip-requires : tie.Need-measure-strip-requires
-measure-strip-requires c κs = measure-accepted _ _ _ _ _ (sym (c .before .measure-number .ensures) ∙ c .if1 .left)
+measure-strip-requires c κs = accepted-measuring _ _ _ _ _ (sym (c .before .measure-number .ensures) ∙ c .if1 .left)
 
 returns-2 : tie.Need-returns-2
 returns-2 c = c .measure-strip .ensures ∙ measure-gives _ _ _ _ _ (c .before .before .measure-number .ensures) (c .before .if1 .left)

@@ -1,6 +1,6 @@
 -- `traymark::writing::traymark_write_mark` meets its contract: the checks come first, and after them the one call below writes. Assumes nothing.
 use mathlib.Core.Path.{sym, _∙_}
-use Rattle.definitions.proofs.Accepted.{write-accepted}
+use Rattle.definitions.proofs.Accepted.{accepted-writing}
 use Rattle.traymark.proofs.Outcome.{write-keeps, write-fills}
 use borrow.Author.Needs.{needs}
 use Rattle.traymark.proofs.writing.traymark_write_mark.Statement.{statement}
@@ -16,7 +16,7 @@ returns : tie.Need-returns
 returns c = (c .before .write-number .ensures, write-keeps _ _ _ _ (c .before .write-number .ensures) (c .if1 .taken))
 
 write-mark-requires : tie.Need-write-mark-requires
-write-mark-requires c κs = write-accepted _ _ _ _ (sym (c .before .before .write-number .ensures) ∙ c .before .if1 .left)
+write-mark-requires c κs = accepted-writing _ _ _ _ (sym (c .before .before .write-number .ensures) ∙ c .before .if1 .left)
 
 same-length-2 : tie.Need-same-length-2
 same-length-2 c = search needs
