@@ -1,12 +1,12 @@
 -- What a measuring and a writing that are not refused know of their arguments; and the number of a call that stops at a test. Assumes
 -- nothing.
-use mathlib.Core.Path.{_≡_, sym, _∙_}
+use mathlib.Core.Path.{_≡_, refl, sym, _∙_}
 use mathlib.Core.Bool.{false}
 use mathlib.Core.List.{List, [], _∷_}
 use Prim.Native.Nat.{ℕ}
 use lib.ListN.{length}
-use borrow.Author.Tests.{leb-false, eqb-true, not-false}
-use Rattle.bounded.proofs.Any.{any-none}
+use borrow.Author.Tests.{leb-false, lt-leb, eqb-true, not-false}
+use Rattle.bounded.proofs.Any.{any-none, none-any}
 use Rattle.definitions.specs.Refusals.{Row, _when_, first}
 use Rattle.definitions.specs.Plan.{planRows, checkNumber}
 use Rattle.definitions.specs.Code.{Code, size, cells}
@@ -17,7 +17,7 @@ use Rattle.definitions.specs.Photograph.{Photograph}
 use Rattle.definitions.specs.Accepted.{Writing}
 use Rattle.definitions.proofs.Refusals.{testAt, first-clear, first-both, Stops, numberAt, first-at, first-refuses, first-passes}
 use Rattle.definitions.proofs.Sound.{sound}
-use Rattle.definitions.proofs.Photograph.{accepted-photo, accepted-buffer}
+use Rattle.definitions.proofs.Photograph.{photo-accepted, accepted-photo, accepted-buffer}
 
 -- the tests after those of the plan, for n cells and k coefficients
 abbrev pub photoTests : (P s u F : List ℕ) (n k : ℕ) → List Row
@@ -37,6 +37,10 @@ module _ (C : Code) (P : List ℕ) where
       let b = first-both (photoRows C P s u F) (recordRow C P F ∷ []) tt e in
       let h = accepted-photo C P s u F (b .0) in
       (sound P (h .sound), h, record-is F (accepted-buffer C P s u F (b .0)) (b .1))
+
+  pub writing-checked : (F B : List ℕ) → writeNumber C P F B ≡ 0 → checkNumber P ≡ 0
+  unfolding writeNumber writeRows planRows checkNumber
+  writing-checked F B e = first-both (planRows P) (writeTests P F B (cells C P) (size C P)) tt e .0
 
   pub accepted-writing : (F B : List ℕ) → writeNumber C P F B ≡ 0 → Writing C P F B
   unfolding writeNumber writeRows planRows checkNumber first
@@ -82,3 +86,7 @@ module _ (C : Code) (P : List ℕ) where
         numberAt ((9 when overflowing P F k) ∷ []) i ≡ measureNumber C P s u F
     unfolding measureNumber measureRows photoRows planRows
     measure-at {k} i e z f h = first-at ((9 when overflowing P F k) ∷ []) i h ∙ rw f (first-passes (photoRows C P s u F) (recordRow C P F ∷ []) tt (sym e ∙ z))
+
+    -- a photograph and a record of its plan are measured
+    pub measuring-accepted : Photograph C P s u → IsRecord C P F → measureNumber C P s u F ≡ 0
+    measuring-accepted h r = sym (measure-at 1 refl (photo-accepted C P s u F h (r .size)) refl (none-any _ _ (λ i l. lt-leb _ _ (r .below i l)), tt))
