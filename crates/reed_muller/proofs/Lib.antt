@@ -6,3 +6,8 @@ pub mod Loops
 pub mod Groups
 pub mod Last
 pub mod Mark
+pub mod Answers
+pub mod Rest
+pub mod Steps
+pub mod Outcome
+pub mod Square

@@ -1,12 +1,13 @@
--- The laws of the loops over rows that are changed where they stand, over pairs, and over a stretch: start and step. Assumes nothing.
+-- The laws of the loops over rows that are changed where they stand, over pairs, and over a stretch: start, step, and an element passed. Assumes nothing.
 use mathlib.Core.Logic.{_≢_}
 use mathlib.Core.Path.{_≡_, refl, _∙_}
 use mathlib.Core.List.{List}
-use Prim.Native.Nat.{ℕ, _+_, _≤_, _<_}
+use Prim.Native.Nat.{ℕ, _+_, _<_}
 use native.Mathlib.Omega.{arith}
 use native.Mathlib.Decide.{ℕ-discrete}
-use lib.ListN.{length, set, length-set}
+use lib.ListN.{length, getD, set, length-set}
 use lib.Seq.{getD-set-same, getD-set-other}
+use Rattle.bounded.specs.Bounded.{at}
 use Rattle.reed_muller.specs.Loops.{Passed, Both, Stretch}
 
 module _ {A : Type 0} {n : ℕ} {z : A} {U T : ℕ → A → Type 0} where
@@ -31,6 +32,14 @@ module _ {A : Type 0} {n : ℕ} {z : A} {U T : ℕ → A → ℕ → Type 0} whe
       | no e ↦ rw (getD-set-other l i j v z e, getD-set-other k i j w 0 e) (p .done j (omega arith))
     ];
     todo = λ j m o. let e : j ≢ i = omega arith in rw (getD-set-other l i j v z e, getD-set-other k i j w 0 e) (p .todo j (omega arith) o);
+  }
+
+  pub both-pass : {l : List A} {k : List ℕ} {i : ℕ} → T i (getD l i z) (at k i) → Both n z U T l k i → Both n z U T l k (i + 1)
+  both-pass {l} {k} {i} t p = record {
+    size = p .size;
+    numbers = p .numbers;
+    done = λ j m. elim (ℕ-discrete j i) [ yes e ↦ rw e t | no e ↦ p .done j (omega arith) ];
+    todo = λ j m o. p .todo j (omega arith) o;
   }
 
 module _ {n a : ℕ} {f : ℕ → ℕ} {old : List ℕ} where

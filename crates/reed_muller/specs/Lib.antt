@@ -4,3 +4,8 @@ pub mod Degree
 pub mod Loops
 pub mod Groups
 pub mod Mark
+pub mod Fit
+pub mod Answers
+pub mod Rest
+pub mod Steps
+pub mod Outcome

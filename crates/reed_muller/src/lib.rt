@@ -1,3 +1,6 @@
-// The mark decoder: Reed-Muller codes with doubts, line by line.
-// The mark decoder: Reed-Muller codes on a grid of points, with doubts.
+// The mark decoder: Reed-Muller codes on a grid of points, with doubts, line by line.
+pub mod decoder;
+pub mod grid;
+pub mod lines;
 pub mod message;
+pub mod solver;

@@ -1,36 +1,16 @@
 // The flat record, group by group, from the coefficients of the powers of Y.
+use polynomial::bivariate;
 ghost use mathlib.Core.Path.{_≡_};
 ghost use Prim.Native.Nat.{_+_, _<_};
 ghost use lib.ListN.{length};
 ghost use Rattle.reed_muller.specs.Groups.{Grouped, Flat};
-
-// Where the group of each total degree begins ("Record and mark").
-const STARTS: [usize; 17] = [
-    0,
-    1,
-    3,
-    6,
-    10,
-    15,
-    21,
-    28,
-    36,
-    45,
-    55,
-    66,
-    78,
-    91,
-    105,
-    120,
-    136,
-];
 
 // Writes the group of total degree k: by rising power of Y, so X^k first.
 fn put_group(message: &mut [u16; 136], columns: &[[u16; 16]; 16], k: usize)
     requires { ⌜ (length (now message) ≡ 136) × (k < 16) ⌝ }
     ensures { λ _. ⌜ Grouped (now (columns .entry)) k (now (message .entry)) (now (message .exit)) ⌝ }
 {
-    let first = STARTS[k];
+    let first = bivariate::start(k);
     let mut j = 0;
     while j <= k {
         message[first + j] = columns[j][k - j];

@@ -1,0 +1,51 @@
+-- The lines as the decoder holds them: a line that was read, found or not, and one that was kept, are answered. Assumes nothing.
+use mathlib.Core.Logic.{_≢_}
+use mathlib.Core.Path.{_≡_, refl}
+use mathlib.Core.Bool.{Bool, true, false}
+use mathlib.Core.List.{List, []}
+use Prim.Native.Nat.{ℕ, suc, _*_, _-_, _<_}
+use native.Mathlib.Omega.{arith}
+use native.Mathlib.Nat.{mod-eq-of-lt, mul-le-mul}
+use lib.ListN.{replicate, getD-replicate}
+use Rattle.bounded.specs.Bounded.{at}
+use Rattle.field.specs.Row.{Row}
+use Rattle.field.proofs.Row.{row-of}
+use Rattle.polynomial.specs.Powers.{Rows}
+use Rattle.distance.specs.Doubts.{Doubts}
+use Rattle.reed_solomon.specs.Strip.{Strip}
+use Rattle.reed_muller.specs.declared.grid.Grid.{Grid}
+use Rattle.reed_muller.specs.Fit.{Fit}
+use Rattle.reed_muller.specs.Answers.{unknown, Answer, Known, Answered}
+use Rattle.reed_muller.proofs.Line.{line-answered, line-unanswered}
+
+pub row-zeros : {p : ℕ} → 0 < p → Row p (replicate 16 0)
+row-zeros z = row-of z refl λ j k. rw (getD-replicate {A = ℕ} 16 j 0 0 k) z
+
+pub rows-zeros : {p : ℕ} → 0 < p → Rows p (replicate 16 (replicate 16 0))
+rows-zeros z = record { size = refl; done = λ r k. rw (getD-replicate {A = List ℕ} 16 r (replicate 16 0) [] k) (row-zeros z) }
+
+pub positive : {g : Grid} → Fit g → 0 < g .p
+positive f = omega (arith, f .prime .least)
+
+-- the full doubt of a line at the degree t
+pub line-full : {g : Grid} (t : ℕ) → Fit g → g .full * (g .b - t) < 65536
+line-full {g} t f = omega (arith, mul-le-mul {n₁ = g .full} {m₁ = g .b - t} {n₂ = 4095} {m₂ = 16} (omega (arith, f .full)) (omega (arith, f .columns)))
+
+module _ {g : Grid} {t : ℕ} {s u : List ℕ} (f : Fit g) where
+  module _ {w : List ℕ} {v : ℕ} (du : Doubts (g .full) (g .b) (at u)) (good : Row (g .p) w) where
+    pub answered-found : {found : Bool} → found ≡ true → Strip (g .p - 1) (g .full) (g .b) t (at (g .y)) (at s) (at u) found (at w) v → Answered g t s u w v
+    answered-found e S =
+        let A : Answer g t s u w v = rw e at S in
+        let small : at w t < suc (g .p - 1) = omega (arith, good .small t) in
+        record { good = good; entered = rw (mod-eq-of-lt small) at (line-answered (f .columnsApart) du A); strip = λ _. A }
+
+  pub answered-kept : {w : List ℕ} {v : ℕ} → Doubts (g .full) (g .b) (at u) → v ≢ unknown → Known g t s u w v → Answered g t s u w v
+  answered-kept du h K = answered-found du (K .good) refl (K .strip h)
+
+  pub answered-none : {w : ℕ → ℕ} {v : ℕ} {found : Bool} → found ≡ false → Strip (g .p - 1) (g .full) (g .b) t (at (g .y)) (at s) (at u) found w v →
+      Answered g t s u (replicate 16 0) (g .full * (g .b - t))
+  answered-none e S = record {
+    good = row-zeros (positive f);
+    entered = line-unanswered (at (replicate 16 0) t) (rw e at S);
+    strip = λ l. absurd (omega arith);
+  }

@@ -1,0 +1,58 @@
+-- What is left of the symbols through the degree steps: all of them at the start, a term less after each step, and after the last the
+-- symbol less the value: nothing where the symbol is the value, and only there. Assumes nothing.
+use mathlib.Core.Path.{_≡_, refl, sym, _∙_}
+use mathlib.Core.Bool.{Bool, true, false}
+use Prim.Native.Nat.{ℕ, suc, _+_, _*_, _-_, _%_, _^_, _≤_, _<_}
+use native.Mathlib.Omega.{arith}
+use native.Mathlib.Nat.{mod-eq-of-lt}
+use lib.Dec.{eqb}
+use borrow.Author.Tests.{eqb-true, eqb-false}
+use Rattle.field.specs.Congruence.{Cong}
+use Rattle.field.proofs.Congruence.{same, ~sym, _⨾_, ~add, ~mul-right, cancel, to-mod, remainder, below-eq}
+use Rattle.polynomial.specs.Eval.{eval, values}
+use Rattle.polynomial.specs.Record.{row}
+use Rattle.polynomial.proofs.Eval.{eval-cong}
+use Rattle.reed_muller.specs.Line.{Subtracted}
+use Rattle.reed_muller.specs.Degree.{lines}
+use Rattle.reed_muller.specs.Rest.{Rest, Remains}
+
+module _ {q a b d : ℕ} {y : ℕ → ℕ} {s : ℕ → ℕ → ℕ} where
+  pub rest-start : (found : ℕ → ℕ → ℕ) → Rest q a b d y (suc d) s s found
+  rest-start found = record { makes = λ g f r c l m. same refl }
+
+  pub rest-next : {left left′ found found′ : ℕ → ℕ → ℕ} {t : ℕ} (z : ℕ → ℕ) → t ≤ d → Rest q a b d y (suc t) s left found →
+      ((r : ℕ) → r < a → Subtracted q b t y (z r) (left r) (left′ r)) → ((r : ℕ) → r < a → Cong q (found′ t r) (z r)) →
+      ((t′ r : ℕ) → t < t′ → t′ ≤ d → r < a → Cong q (found′ t′ r) (found t′ r)) → Rest q a b d y t s left′ found′
+  rest-next {left} {left′} {found} {found′} {t} z td R sub new old = record {
+    makes = λ g f r c l m. cancel {e = z r * y c ^ t} (~mul-right (y c ^ t) (~sym (new r l) ⨾ f t r (omega arith) td l))
+        (same (omega arith) ⨾ ~add (sub r l .term c m) (same {a = eval (suc d) (λ t. g t r) (y c)} refl)
+        ⨾ R .makes g (λ t′ r k n i. ~sym (old t′ r k n i) ⨾ f t′ r (omega arith) n i) r c l m ⨾ same (omega arith));
+  }
+
+  -- after the last step
+  pub rest-whole : (x : ℕ → ℕ) {left : ℕ → ℕ → ℕ} (found h : ℕ → ℕ → ℕ) → ((r c : ℕ) → r < a → c < b → left r c < suc q) →
+      Rest q a b d y 0 s left (lines d x found) → ((t i : ℕ) → i + t ≤ d → Cong q (found i t) (h i t)) → Remains q a b d x y s left h
+  rest-whole x found h small R e = record {
+    below = small;
+    whole = λ r c l m. R .makes (lines d x h) (λ t r _ k _. eval-cong (suc (d - t)) (x r) λ i n. e t i (omega arith)) r c l m ⨾ same (omega arith);
+  }
+
+-- a cell whose symbol is a residue is changed where something is left of it
+pub remains-changed : {q a b d : ℕ} {x y : ℕ → ℕ} {s left h : ℕ → ℕ → ℕ} → Remains q a b d x y s left h → (r c : ℕ) → r < a → c < b → s r c < suc q →
+    eqb (s r c) (values q (suc d) (row d h (x r)) y c) ≡ eqb (left r c) 0
+remains-changed {q} {a} {b} {d} {x} {y} {s} {left} {h} R r c l m small = go (eqb (s r c) (v % suc q)) (eqb (left r c) 0) refl refl
+  where
+    v : ℕ
+    v = eval (suc d) (row d h (x r)) (y c)
+
+    nothing-left : s r c ≡ v % suc q → left r c ≡ 0
+    nothing-left e = below-eq (R .below r c l m) (omega arith) (cancel {b = 0} {f = v} (same refl) (R .whole r c l m ⨾ same e ⨾ remainder v ⨾ same (omega arith)))
+
+    right : left r c ≡ 0 → s r c ≡ v % suc q
+    right e = sym (mod-eq-of-lt small) ∙ sym (to-mod (same (omega arith) ⨾ R .whole r c l m))
+
+    go : (i j : Bool) → eqb (s r c) (v % suc q) ≡ i → eqb (left r c) 0 ≡ j → i ≡ j
+    go true true e f = refl
+    go false false e f = refl
+    go true false e f = absurd (eqb-false _ _ f (nothing-left (eqb-true _ _ e)))
+    go false true e f = absurd (eqb-false _ _ e (right (eqb-true _ _ f)))

@@ -1,0 +1,195 @@
+-- One degree step and all of them: what is subtracted, which answers are carried, and that the steps keep their invariant. Assumes nothing.
+use mathlib.Core.Logic.{_≢_}
+use mathlib.Core.Path.{_≡_, refl, sym, ap, _∙_}
+use mathlib.Core.Bool.{Bool, true, false, cond, true≢false, false≢true}
+use mathlib.Core.List.{List, []}
+use Prim.Native.Nat.{ℕ, suc, _+_, _*_, _-_, _%_, _^_, _≤_, _<_, min}
+use native.Mathlib.Omega.{arith}
+use lib.Dec.{eqb, ltb}
+use lib.ListN.{length, set}
+use lib.Seq.{getD-set-same, getD-set-other}
+use borrow.Author.Tests.{eqb-true, ltb-true}
+use Rattle.bounded.specs.Bounded.{at}
+use Rattle.bounded.proofs.Tab.{length-tab}
+use Rattle.field.specs.Congruence.{Cong}
+use Rattle.field.specs.Row.{row, Row}
+use Rattle.field.proofs.Congruence.{same, ~sym, _⨾_, ~add, ~mul, ~mul-right, less}
+use Rattle.field.proofs.Loop.{upto-put}
+use Rattle.field.proofs.Row.{row-at, row-of, result-row, result-cong}
+use Rattle.polynomial.specs.Eval.{eval}
+use Rattle.polynomial.specs.Powers.{Rows}
+use Rattle.polynomial.proofs.Eval.{eval-cong}
+use Rattle.reed_solomon.specs.Strip.{Strip}
+use Rattle.reed_muller.specs.declared.grid.Grid.{Grid}
+use Rattle.reed_muller.specs.Line.{Entered}
+use Rattle.reed_muller.specs.Degree.{lines}
+use Rattle.reed_muller.specs.Fit.{Fit, DoubtRows}
+use Rattle.reed_muller.specs.Loops.{line, cells}
+use Rattle.reed_muller.specs.Answers.{unknown, Answer, kept, KnownRows, AnsweredRows}
+use Rattle.reed_muller.specs.Steps.{found, Without, Lessened, Stepped, Solving, Solved}
+use Rattle.reed_muller.proofs.Answers.{positive}
+use Rattle.reed_muller.proofs.Line.{answer-carried}
+use Rattle.reed_muller.proofs.Degree.{grid-start, grid-none, grid-next}
+use Rattle.reed_muller.proofs.Rest.{rest-start, rest-next}
+
+-- what was subtracted, added again
+added-again : {p l′ l v w e f : ℕ} → v ≤ p → 0 < p → Cong (p - 1) l′ (l + (p - v) * w) → Cong (p - 1) v e → Cong (p - 1) w f →
+    Cong (p - 1) (l′ + e * f) l
+added-again {p} {l′} {l} {v} {w} {e} {f} h pos c d g =
+    ~add c (~sym (~mul-right w d ⨾ ~mul e g)) ⨾ less w (omega (arith, ap (λ t. t * w) back, ap (λ t. t * w) whole))
+  where
+    back : p - v + v ≡ p
+    back = omega arith
+
+    whole : suc (p - 1) ≡ p
+    whole = omega arith
+
+modulus : {g : Grid} → Fit g → suc (g .p - 1) ≡ g .p
+modulus f = omega (arith, f .prime .least)
+
+-- the column's value times the power of the column point is subtracted
+module _ {g : Grid} (t : ℕ) (f : Fit g) (left left′ : List (List ℕ)) (column : List ℕ) {z w : List ℕ} (sq : Rows (g .p) left)
+    (values : z ≡ row λ j. eval (suc (g .d - t)) (at column) (at (g .x) j) % g .p) (power : w ≡ row λ c. at (g .y) c ^ t % g .p)
+    (W : Without g left z w left′) where
+  pub without-subtracted : (r : ℕ) → r < g .a → Lessened g t column left left′ r
+  without-subtracted r l =
+      let h : r < 16 = omega (arith, f .rows) in record {
+        before = λ c m. rw (modulus f) (sq .done r h .small c);
+        after = λ c m. rw (modulus f) (W .rows .done r h .small c);
+        term = λ c m.
+            let k : c < 16 = omega (arith, f .columns) in
+            added-again (omega (arith, result-row _ (positive f) values .small r)) (positive f)
+            (result-cong _ (positive f) (W .each r l) c k) (result-cong _ (positive f) values r h) (result-cong _ (positive f) power c k);
+      }
+
+-- a cost that was kept
+kept-from : (e z v R : ℕ) → kept e z v R ≢ unknown → (e ≡ z) × (v < R) × (kept e z v R ≡ v)
+kept-from e z v R = go (eqb e z) (ltb v R) refl refl
+  where
+    go : (a b : Bool) → eqb e z ≡ a → ltb v R ≡ b → cond a (cond b v unknown) unknown ≢ unknown →
+        (e ≡ z) × (v < R) × (cond a (cond b v unknown) unknown ≡ v)
+    go true true i j h = (eqb-true e z i, ltb-true v R j, refl)
+    go true false i j h = absurd (h refl)
+    go false b i j h = absurd (h refl)
+
+module _ {g : Grid} {j : ℕ} (f : Fit g) (left u left′ ws : List (List ℕ)) (column : List ℕ) {e z v v′ : List ℕ} (du : DoubtRows g u)
+    (A : AnsweredRows g (suc j) left u ws v) (leading : e ≡ row λ r. cells ws r (suc j)) (values : z ≡ row λ r. eval (suc (g .d - suc j)) (at column) (at (g .x) r) % g .p)
+    (carried : v′ ≡ row λ r. kept (at e r) (at z r) (at v r) (g .full * (g .b - suc j))) (S : (r : ℕ) → r < g .a → Lessened g (suc j) column left left′ r) where
+  -- an answer whose leading coefficient was found is the answer of what is left
+  answer-kept : (r : ℕ) → r < g .a → at v′ r ≢ unknown → Answer g j (line left′ r) (line u r) (line ws r) (at v′ r)
+  answer-kept r l h =
+      let i : r < 16 = omega (arith, f .rows) in
+      let same-cost : at v′ r ≡ kept (at e r) (at z r) (at v r) (g .full * (g .b - suc j)) = rw carried (row-at _ r i) in
+      let (k, m, n) = kept-from (at e r) (at z r) (at v r) (g .full * (g .b - suc j)) (λ y. h (same-cost ∙ y)) in
+      rw (same-cost ∙ n) (answer-carried (f .columnsApart) (du r l) (eval (suc (g .d - suc j)) (at column) (at (g .x) r)) (A .answered r l .strip m)
+      (same (sym (rw leading (row-at _ r i)) ∙ k) ⨾ result-cong _ (positive f) values r i) (S r l))
+
+  pub known-next : KnownRows g j left′ u ws v′
+  known-next = record {
+    size = rw carried (length-tab 16 _);
+    rows = A .rows;
+    known = λ r l. record { good = A .rows .done r (omega (arith, f .rows)); strip = answer-kept r l };
+  }
+
+-- what the lines hand on is a strip: its symbols are a row, its doubts at most the full one
+module _ {g : Grid} {t : ℕ} (f : Fit g) (left u ws : List (List ℕ)) {e v : List ℕ} (A : AnsweredRows g t left u ws v)
+    (leading : e ≡ row λ r. cells ws r t) where
+  pub leading-row : Row (g .p) e
+  leading-row = rw leading (row-of (positive f) (length-tab 16 _) λ r k. rw (row-at (λ r. cells ws r t) r k) (A .rows .done r k .small t))
+
+  pub leading-entered : (r : ℕ) → r < g .a → Entered (g .p - 1) (g .full) (g .b) t (at (g .y)) (cells left r) (cells u r) (at e r) (at v r)
+  leading-entered r l = rw (leading, row-at (λ r. cells ws r t) r (omega (arith, f .rows))) (A .answered r l .entered)
+
+  module _ {column : List ℕ} {cost : ℕ} {ok : Bool} (good : Row (g .p) column)
+      (S : Strip (g .p - 1) (g .full * (g .b - t)) (g .a) (g .d - t) (at (g .x)) (at e) (at v) ok (at column) cost) where
+    pub stepped-none : ok ≡ false → (left′ : List (List ℕ)) (vs : List ℕ) → Stepped g t left u left′ ws false column vs
+    stepped-none z left′ vs = record {
+      e = e;
+      v = v;
+      cost = cost;
+      entered = leading-entered;
+      strip = rw z at S;
+      good = good;
+      rows = λ y. absurd (false≢true y);
+      subtracted = λ y. absurd (false≢true y);
+      known = λ y. absurd (false≢true y);
+    }
+
+    pub stepped-found : ok ≡ true → {z w v′ : List ℕ} {left′ : List (List ℕ)} → DoubtRows g u → Rows (g .p) left →
+        z ≡ row (λ r. eval (suc (g .d - t)) (at column) (at (g .x) r) % g .p) → w ≡ row (λ c. at (g .y) c ^ t % g .p) → Without g left z w left′ →
+        v′ ≡ row (λ r. kept (at e r) (at z r) (at v r) (g .full * (g .b - t))) → Stepped g t left u left′ ws true column v′
+    stepped-found y {z} {w} {v′} {left′} du sq values power W carried = record {
+      e = e;
+      v = v;
+      cost = cost;
+      entered = leading-entered;
+      strip = rw y at S;
+      good = good;
+      rows = λ _. W .rows;
+      subtracted = λ _. S′;
+      known = λ _ j i. known-next f left u left′ ws column {z = z} du (rw i at A) (rw i at leading) (rw i at values) (rw i at carried) (rw i at S′);
+    }
+      where
+        S′ : (r : ℕ) → r < g .a → Lessened g t column left left′ r
+        S′ = without-subtracted t f left left′ column sq values power W
+
+-- the steps start: nothing is found, all is left, and no answer is known
+pub solving-start : {g : Grid} {s u columns ws : List (List ℕ)} {vs : List ℕ} → Fit g → Rows (g .p) s → Rows (g .p) columns → Rows (g .p) ws →
+    length vs ≡ 16 → ((r : ℕ) → r < 16 → at vs r ≡ unknown) → Solving g (suc (g .d)) s u s columns ws vs
+solving-start {g} f sq cs ms e h = record {
+  rows = sq;
+  coefficients = cs;
+  steps = grid-start (at (g .x)) _ _;
+  rest = rest-start _;
+  known = λ j _. record {
+    size = e;
+    rows = ms;
+    known = λ r l. let k : r < 16 = omega (arith, f .rows) in record { good = ms .done r k; strip = λ z. absurd (z (h r k)) };
+  };
+}
+
+module _ {g : Grid} {t : ℕ} (f : Fit g) (td : t ≤ g .d) (s u left left′ columns ws ws′ : List (List ℕ)) {vs vs′ column : List ℕ} {ok : Bool}
+    (S : Solving g (suc t) s u left columns ws vs) (T : Stepped g t left u left′ ws′ ok column vs′) where
+  low : g .d < min (g .a) (g .b)
+  low = omega (arith, f .low, f .narrow)
+
+  -- a step without an answer: no record is under the radius
+  pub solving-none : ok ≡ false → (last : List (List ℕ)) → Solved g s u last columns false
+  solving-none z last = record {
+    none = λ _. grid-none (at (g .x)) (found columns) low td (S .steps) (T .entered) (T .strip) z;
+    steps = λ y. absurd (false≢true y);
+    rest = λ y. absurd (false≢true y);
+    rows = λ y. absurd (false≢true y);
+    coefficients = λ y. absurd (false≢true y);
+  }
+
+  -- the column found stands in its place, and those found before stay
+  new : (i : ℕ) → Cong (g .p - 1) (found (set columns t column) i t) (at column i)
+  new i = let h : t < length columns = omega (arith, S .coefficients .size, f .low, f .rows) in same (ap (λ m. at m i) (getD-set-same columns t column [] h))
+
+  old : (t′ i : ℕ) → t < t′ → Cong (g .p - 1) (found (set columns t column) i t′) (found columns i t′)
+  old t′ i l = same (ap (λ m. at m i) (getD-set-other columns t t′ column [] (omega arith)))
+
+  abbrev value : ℕ → ℕ
+  value r = eval (suc (g .d - t)) (at column) (at (g .x) r)
+
+  pub solving-next : ok ≡ true → Solving g t s u left′ (set columns t column) ws′ vs′
+  solving-next y = record {
+    rows = T .rows y;
+    coefficients = upto-put column (omega (arith, f .low, f .rows)) (T .good) (S .coefficients);
+    steps = grid-next (at (g .x)) (found columns) low td (S .steps) (T .entered) (T .strip) (found (set columns t column)) value
+        (λ r l. same refl) (T .subtracted y) (λ i _. new i) (λ t′ i l _. old t′ i l);
+    rest = rest-next value td (S .rest) (T .subtracted y) (λ r l. eval-cong (suc (g .d - t)) (at (g .x) r) λ i k. new i)
+        (λ t′ r l m _. eval-cong (suc (g .d - t′)) (at (g .x) r) λ i k. old t′ i l);
+    known = T .known y;
+  }
+
+-- after the last step
+pub solving-done : {g : Grid} {s u left columns ws : List (List ℕ)} {vs : List ℕ} → Solving g 0 s u left columns ws vs → Solved g s u left columns true
+solving-done S = record {
+  none = λ z. absurd (true≢false z);
+  steps = λ _. S .steps;
+  rest = λ _. S .rest;
+  rows = λ _. S .rows;
+  coefficients = λ _. S .coefficients;
+}

@@ -1,0 +1,74 @@
+-- `reed_muller::decoder::measure` meets its contract: the rows before r are measured; a row costs at most 2,097,152. Assumes nothing.
+use mathlib.Core.Path.{_≡_, refl}
+use Prim.Native.Nat.{_*_, _-_, _≤_}
+use native.Mathlib.Omega.{arith}
+use Rattle.reed_muller.specs.Degree.{remaining}
+use Rattle.reed_muller.specs.Loops.{cells}
+use Rattle.reed_muller.proofs.Outcome.{remaining-more}
+use borrow.Author.Needs.{needs}
+use Rattle.reed_muller.proofs.decoder.measure.Statement.{statement}
+use Rattle.reed_muller.proofs.decoder.measure.Tie as tie
+
+abbrev Inv-loop : tie.InvT-loop
+Inv-loop g left doubts a sum₀ r₀ sum r = (a ≡ g .a) × (r ≤ a) × (sum ≡ remaining (g .full) r (g .b) (cells doubts) (cells left)) × (sum ≤ 2097152 * r)
+
+abbrev μ-loop : tie.MeasureT-loop
+μ-loop g left doubts a sum₀ r₀ sum r = a - r
+
+loop-holds : tie.Need-loop-holds Inv-loop μ-loop
+loop-holds c = (refl, omega arith, refl, omega arith)
+
+mul-word-cost : tie.Need-mul-word-cost Inv-loop μ-loop
+mul-word-cost c = search needs
+
+element-copy-out-word-cost : tie.Need-element-copy-out-word-cost Inv-loop μ-loop
+element-copy-out-word-cost c = search needs
+
+mul-word-cost-2 : tie.Need-mul-word-cost-2 Inv-loop μ-loop
+mul-word-cost-2 c = search needs
+
+element-copy-out-word-cost-2 : tie.Need-element-copy-out-word-cost-2 Inv-loop μ-loop
+element-copy-out-word-cost-2 c = search needs
+
+word-cost-requires : tie.Need-word-cost-requires Inv-loop μ-loop
+word-cost-requires c κs = let b = c .before .before .before .before in (b .pre .0 .columns, b .pre .1 (c .before .before .before .loop .r) (omega arith), omega (arith, b .pre .0 .full))
+
+add-sum : tie.Need-add-sum Inv-loop μ-loop
+add-sum c =
+    let f = c .before .before .before .before .before .pre .0 in
+    omega (arith, c .word-cost .ensures .1, f .rows, f .columns)
+
+add-r : tie.Need-add-r Inv-loop μ-loop
+add-r c = search needs
+
+loop-less : tie.Need-loop-less Inv-loop μ-loop
+loop-less c = search needs
+
+loop-again : tie.Need-loop-again Inv-loop μ-loop
+loop-again c =
+    let start = c .before .before .before .before .before in
+    let l = c .before .before .before .before .loop in
+    let g = start .args .g in
+    let more = remaining-more (g .full) (l .r) (g .b) (start .args .doubts .now) (start .args .left .now) (start .pre .0 .columns) in
+    (refl, omega arith, omega (arith, more, l .inv .2, c .word-cost .ensures .0), omega (arith, c .word-cost .ensures .1, start .pre .0 .columns))
+
+returns : tie.Need-returns Inv-loop μ-loop
+returns c = let l = c .before .loop in let e : l .r ≡ c .before .before .args .g .a = omega arith in rw e at (l .inv .2)
+
+pub measure-spec : {M : Type 1} → statement M
+measure-spec =
+    tie.close
+    (tie.spec
+    Inv-loop
+    μ-loop
+    loop-holds
+    mul-word-cost
+    element-copy-out-word-cost
+    mul-word-cost-2
+    element-copy-out-word-cost-2
+    word-cost-requires
+    add-sum
+    add-r
+    loop-less
+    loop-again
+    returns)

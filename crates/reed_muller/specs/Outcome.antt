@@ -1,0 +1,22 @@
+-- What the decoder of marks returns, for a grid g, symbols s and doubts u: whether it found a record, its message m and its cost, and
+-- what is left of the symbols.
+--
+--   Outcome g s u left found m cost
+--     decoded   the message is the one record under the radius, and the cost is its own; or no record is under the radius
+--     remains   where it found one, what is left of each cell is its symbol less the record's value, modulo p
+--
+-- What this file is for: the contract of `decode`.
+use mathlib.Core.Path.{_≡_}
+use mathlib.Core.Bool.{Bool, true}
+use mathlib.Core.List.{List}
+use Prim.Native.Nat.{ℕ, _-_}
+use Rattle.bounded.specs.Bounded.{at}
+use Rattle.polynomial.specs.Record.{coef}
+use Rattle.reed_muller.specs.declared.grid.Grid.{Grid}
+use Rattle.reed_muller.specs.Loops.{cells}
+use Rattle.reed_muller.specs.Mark.{Decoded}
+use Rattle.reed_muller.specs.Rest.{Remains}
+
+pub record Outcome (g : Grid) (s u left : List (List ℕ)) (found : Bool) (m : List ℕ) (cost : ℕ) : Type 0 where
+  pub decoded : Decoded (g .p - 1) (g .full) (g .a) (g .b) (g .d) (at (g .x)) (at (g .y)) (cells s) (cells u) found (coef m) cost
+  pub remains : found ≡ true → Remains (g .p - 1) (g .a) (g .b) (g .d) (at (g .x)) (at (g .y)) (cells s) (cells left) (coef m)
