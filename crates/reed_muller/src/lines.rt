@@ -1,14 +1,71 @@
 // The lines of a mark: each row of what is left, read as a strip over the column points.
+use crate::grid::Grid;
 ghost use mathlib.Core.Path.{_≡_};
-ghost use Prim.Native.Nat.{_<_};
+ghost use Prim.Native.Nat.{_≤_, _<_};
 ghost use lib.ListN.{length};
 ghost use Rattle.bounded.specs.Bounded.{at};
-ghost use Rattle.field.specs.Row.{row};
+ghost use Rattle.field.specs.Row.{row, Row};
+ghost use Rattle.polynomial.specs.Powers.{Rows};
+ghost use Rattle.distance.specs.Doubts.{Doubts};
+ghost use Rattle.reed_muller.specs.Fit.{Fit, DoubtRows};
 ghost use Rattle.reed_muller.specs.Loops.{cells};
-ghost use Rattle.reed_muller.specs.Answers.{kept};
+ghost use Rattle.reed_muller.specs.Answers.{Answered, KnownRows, AnsweredRows, kept};
+
+// A line's message and its cost. The line hands on the message's leading coefficient, with the cost for its doubt.
+pub struct Line {
+    pub message: [u16; 16],
+    pub cost: u32,
+}
 
 // The cost of a line whose answer is not known. No cost is as large.
 pub const UNKNOWN: u32 = 4294967295;
+
+// A line read as a strip of degree t. Where it has no answer it counts as unread, with the full doubt.
+fn read(g: Grid, t: usize, symbols: [u16; 16], doubts: [u32; 16]) -> Line
+    requires { ⌜ Fit g × (t ≤ g .d) × Row (g .p) symbols × Doubts (g .full) (g .b) (at doubts) ⌝ }
+    ensures { λ r. ⌜ Answered g t symbols doubts (r .message) (r .cost) ⌝ }
+{
+    let y = g.y;
+    let strip = reed_solomon::decoder::decode(g.p, g.m, y, g.b, t, g.full, symbols, doubts);
+    if strip.found {
+        let w = strip.message;
+        return Line {
+            message: w,
+            cost: strip.cost,
+        };
+    }
+    Line {
+        message: [0; 16],
+        cost: g.full * ((g.b - t) as u32),
+    }
+}
+
+// Reads the lines whose answers are not known: the messages are written where they stand, all costs are returned.
+pub fn answer(
+    g: Grid,
+    t: usize,
+    messages: &mut [[u16; 16]; 16],
+    known: [u32; 16],
+    left: &[[u16; 16]; 16],
+    doubts: &[[u32; 16]; 16],
+) -> [u32; 16]
+    requires { ⌜ Fit g × (t ≤ g .d) × Rows (g .p) (now left) × DoubtRows g (now doubts) × KnownRows g t (now left) (now doubts) (now messages) known ⌝ }
+    ensures { λ r. ⌜ AnsweredRows g t (now (left .entry)) (now (doubts .entry)) (now (messages .exit)) r ⌝ }
+{
+    let a = g.a;
+    let mut costs = known;
+    let mut r = 0;
+    while r < a {
+        if costs[r] == UNKNOWN {
+            let line = read(g, t, left[r], doubts[r]);
+            let w = line.message;
+            messages[r] = w;
+            costs[r] = line.cost;
+        }
+        r += 1;
+    }
+    costs
+}
 
 // The coefficients of Y^t, one for each line.
 pub fn leading(messages: &[[u16; 16]; 16], t: usize) -> [u16; 16]

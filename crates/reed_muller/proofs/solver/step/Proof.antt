@@ -1,0 +1,81 @@
+-- `reed_muller::solver::step` meets its contract: by the laws of a step with and without an answer. Assumes nothing.
+use native.Mathlib.Omega.{arith}
+use borrow.Author.Tests.{not-true, not-false}
+use Rattle.field.proofs.Row.{result-row}
+use Rattle.reed_muller.proofs.Answers.{positive, line-full}
+use Rattle.reed_muller.proofs.Steps.{leading-row, stepped-none, stepped-found}
+use borrow.Author.Needs.{needs}
+use Rattle.reed_muller.proofs.solver.step.Statement.{statement}
+use Rattle.reed_muller.proofs.solver.step.Tie as tie
+
+answer-requires : tie.Need-answer-requires
+answer-requires c κs = search needs
+
+leading-requires : tie.Need-leading-requires
+leading-requires c κs = search needs
+
+sub-radius : tie.Need-sub-radius
+sub-radius c = search needs
+
+cast-radius : tie.Need-cast-radius
+cast-radius c = search needs
+
+mul-radius : tie.Need-mul-radius
+mul-radius c =
+    let start = c .before .before .before .before .before .before .before in
+    omega (arith, line-full (start .args .t) (start .pre .0))
+
+sub-decode : tie.Need-sub-decode
+sub-decode c = search needs
+
+decode-requires : tie.Need-decode-requires
+decode-requires c κs =
+    let start = c .before .before .before .before .before .before .before .before .before in
+    let f = start .pre .0 in
+    let A = c .before .before .before .before .before .before .answer .ensures in
+    let row = leading-row f _ _ _ A (c .before .before .before .before .leading .ensures) in
+    let fits = line-full (start .args .t) f in
+    (f .prime, f .reciprocal, f .rowPoints, f .rowsApart, f .rows, omega (arith, f .low), omega (arith, fits, f .full), row, λ r l. A .answered r l .entered .below)
+
+returns : tie.Need-returns
+returns c =
+    let D = c .before .before .before .decode .ensures in
+    let leading = c .before .before .before .before .before .before .before .before .leading .ensures in
+    let A = c .before .before .before .before .before .before .before .before .before .before .answer .ensures in
+    stepped-none (c .before .before .before .before .before .before .before .before .before .before .before .before .before .pre .0) _ _ _ A leading (D .small) (D .strip) (not-true _ (c .if1 .taken)) _ _
+
+subtract-requires : tie.Need-subtract-requires
+subtract-requires c κs =
+    let start = c .before .before .before .before .before .before .before .before .before .before .before .before .before .before .before in
+    let f = start .pre .0 in
+    let values = c .before .before .before .before .before .decode .ensures .values (not-false _ (c .before .before .if1 .left)) in
+    (f, start .pre .2, result-row _ (positive f) values, result-row _ (positive f) (start .pre .5))
+
+carry-requires : tie.Need-carry-requires
+carry-requires c κs = c .before .before .before .before .before .before .before .before .before .before .before .before .before .answer .ensures .size
+
+returns-2 : tie.Need-returns-2
+returns-2 c =
+    let found = not-false _ (c .before .before .before .before .if1 .left) in
+    let D = c .before .before .before .before .before .before .before .decode .ensures in
+    let leading = c .before .before .before .before .before .before .before .before .before .before .before .before .leading .ensures in
+    let A = c .before .before .before .before .before .before .before .before .before .before .before .before .before .before .answer .ensures in
+    let start = c .before .before .before .before .before .before .before .before .before .before .before .before .before .before .before .before .before in
+    stepped-found (start .pre .0) _ _ _ A leading (D .small) (D .strip) found (start .pre .3) (start .pre .2) (D .values found) (start .pre .5)
+    (c .before .subtract .ensures) (c .carry .ensures)
+
+pub step-spec : {M : Type 1} → statement M
+step-spec =
+    tie.close
+    (tie.spec
+    answer-requires
+    leading-requires
+    sub-radius
+    cast-radius
+    mul-radius
+    sub-decode
+    decode-requires
+    returns
+    subtract-requires
+    carry-requires
+    returns-2)
