@@ -1,10 +1,10 @@
 // Measuring a record against a photographed mark or strip.
 use crate::checks;
-use crate::load;
 use definitions::Reading;
 use distance::summary;
 use distance::word;
 use field::rows::reciprocal;
+use marks::load;
 use polynomial::bivariate;
 use polynomial::evaluation;
 ghost use mathlib.Core.Path.{_≡_};

@@ -1,7 +1,8 @@
 // Writing the mark or the strip of a record.
 use crate::checks;
-use crate::load;
 use field::rows::reciprocal;
+use marks::load;
+use marks::reading::write_row;
 use polynomial::bivariate;
 use polynomial::evaluation;
 ghost use mathlib.Core.Path.{_≡_};
@@ -81,16 +82,6 @@ fn write_rows(
         let at = r * n;
         let end = at + n;
         write_row(&mut mark[at..end], values);
-    }
-}
-
-// One row, as long as the part of the mark that is lent, or a strip.
-fn write_row(part: &mut [u8], values: [u16; 16])
-    requires { ⌜ (length (now part) ≤ 16) × ((j : ℕ) → at values j < 256) ⌝ }
-    ensures { λ _. ⌜ now (part .exit) ≡ tab (length (now (part .entry))) (at values) ⌝ }
-{
-    for j in 0..part.len() {
-        part[j] = values[j] as u8;
     }
 }
 

@@ -7,8 +7,8 @@ use lib.ListN.{length, drop}
 use Rattle.bounded.specs.Bounded.{at, tab}
 use Rattle.bounded.proofs.Tab.{tab-more, tab-whole}
 use borrow.Author.Needs.{needs}
-use Rattle.traymark.proofs.writing.write_row.Statement.{statement}
-use Rattle.traymark.proofs.writing.write_row.Tie as tie
+use Rattle.marks.proofs.reading.write_row.Statement.{statement}
+use Rattle.marks.proofs.reading.write_row.Tie as tie
 
 abbrev Inv-loop : tie.InvT-loop
 Inv-loop part₀ values j₀ j-end part j =

@@ -1,0 +1,3 @@
+-- What the proofs of writing, measuring and reading share.
+pub mod Loading
+pub mod Strip

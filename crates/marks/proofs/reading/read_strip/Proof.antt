@@ -1,0 +1,138 @@
+-- `marks::reading::read_strip` meets its contract: what is loaded is what the decoder asks for, and its answer is the reading. Assumes nothing.
+use native.Mathlib.Omega.{arith}
+use Rattle.marks.proofs.Loading.{negated}
+use Rattle.marks.proofs.Strip.{strip-received, strip-refused, strip-reading, strip-under}
+use borrow.Author.Needs.{needs}
+use Rattle.marks.proofs.reading.read_strip.Statement.{statement}
+use Rattle.marks.proofs.reading.read_strip.Tie as tie
+
+shared-slice-read-p : tie.Need-shared-slice-read-p
+shared-slice-read-p c = search needs
+
+cast-p : tie.Need-cast-p
+cast-p c = search needs
+
+shared-slice-read-n : tie.Need-shared-slice-read-n
+shared-slice-read-n c = search needs
+
+cast-n : tie.Need-cast-n
+cast-n c = search needs
+
+shared-slice-read-d : tie.Need-shared-slice-read-d
+shared-slice-read-d c = search needs
+
+cast-d : tie.Need-cast-d
+cast-d c = search needs
+
+points-requires : tie.Need-points-requires
+points-requires c κs = search needs
+
+row-requires : tie.Need-row-requires
+row-requires c κs = search needs
+
+residues-requires : tie.Need-residues-requires
+residues-requires c κs = search needs
+
+doubts-requires : tie.Need-doubts-requires
+doubts-requires c κs = search needs
+
+reciprocal-requires : tie.Need-reciprocal-requires
+reciprocal-requires c κs = search needs
+
+decode-requires : tie.Need-decode-requires
+decode-requires c κs =
+    let d = c .before in
+    let n = d .before in
+    let w = n .before in
+    let x = w .before in
+    let t = x .before .before .before .before .before .before .before .before .pre in
+    strip-received t (x .points .ensures) (w .row .ensures) (n .residues .ensures) (d .doubts .ensures) _ (c .reciprocal .ensures)
+
+refused-requires : tie.Need-refused-requires
+refused-requires c κs = search needs
+
+returns : tie.Need-returns
+returns c =
+    let a = c .before .before .before in
+    let d = a .before .before in
+    let n = d .before in
+    let w = n .before in
+    let x = w .before in
+    let t = x .before .before .before .before .before .before .before .before .pre in
+    rw (c .refused .ensures) (strip-refused t (x .points .ensures) (w .row .ensures) (n .residues .ensures) (d .doubts .ensures) (a .decode .ensures) (negated _ (c .before .if1 .taken)))
+
+write-row-requires : tie.Need-write-row-requires
+write-row-requires c κs =
+    let a = c .before .before .before .before .before in
+    let d = a .before .before in
+    let n = d .before in
+    let w = n .before in
+    let x = w .before in
+    let t = x .before .before .before .before .before .before .before .before .pre in
+    (omega (arith, t .room, t .sound .low, t .sound .most), λ j. omega (arith, a .decode .ensures .small .small j, t .sound .small))
+
+word-changed-requires : tie.Need-word-changed-requires
+word-changed-requires c κs = search needs
+
+radius-requires : tie.Need-radius-requires
+radius-requires c κs =
+    let a = c .before .before .before .before .before .before .before .before .before in
+    let d = a .before .before in
+    let n = d .before in
+    let w = n .before in
+    let x = w .before in
+    let t = x .before .before .before .before .before .before .before .before .pre in
+    (omega arith, omega arith, t .sound .most, omega (arith, t .sound .low))
+
+reading-requires : tie.Need-reading-requires
+reading-requires c κs =
+    let e = c .before .before .before .before .before .before .before .before in
+    let a = e .before .before in
+    let d = a .before .before in
+    let n = d .before in
+    let w = n .before in
+    let x = w .before in
+    let t = x .before .before .before .before .before .before .before .before .pre in
+    (c .radius .ensures .1, strip-under t (x .points .ensures) (w .row .ensures) (n .residues .ensures) (d .doubts .ensures) (a .decode .ensures) (negated _ (e .if1 .left)))
+
+same-length : tie.Need-same-length
+same-length c = search needs
+
+returns-2 : tie.Need-returns-2
+returns-2 c =
+    let u = c .before .before in
+    let s = u .before .before .before in
+    let e = s .before .before .before .before in
+    let a = e .before .before in
+    let d = a .before .before in
+    let n = d .before in
+    let w = n .before in
+    let x = w .before in
+    let t = x .before .before .before .before .before .before .before .before .pre in
+    rw (c .reading .ensures, c .before .radius .ensures .0)
+    (strip-reading t (x .points .ensures) (w .row .ensures) (n .residues .ensures) (d .doubts .ensures) (a .decode .ensures) (negated _ (e .if1 .left)) (s .write-row .ensures) (u .word-changed .ensures .0))
+
+pub read-strip-spec : {M : Type 1} → statement M
+read-strip-spec =
+    tie.close
+    (tie.spec
+    shared-slice-read-p
+    cast-p
+    shared-slice-read-n
+    cast-n
+    shared-slice-read-d
+    cast-d
+    points-requires
+    row-requires
+    residues-requires
+    doubts-requires
+    reciprocal-requires
+    decode-requires
+    refused-requires
+    returns
+    write-row-requires
+    word-changed-requires
+    radius-requires
+    reading-requires
+    same-length
+    returns-2)

@@ -1,0 +1,2 @@
+-- What the contracts of writing, measuring and reading need beside the definitions.
+pub mod Loading

@@ -1,0 +1,3 @@
+// Writing, measuring and reading marks and strips, where no refusal applies: what the calls do after their checks.
+pub mod load;
+pub mod reading;
