@@ -1,3 +1,5 @@
 -- What the proofs of writing, measuring and reading share.
 pub mod Loading
 pub mod Strip
+pub mod Square
+pub mod SquareMark

@@ -1,3 +1,4 @@
 // Writing, measuring and reading marks and strips, where no refusal applies: what the calls do after their checks.
 pub mod load;
+pub mod mark;
 pub mod reading;

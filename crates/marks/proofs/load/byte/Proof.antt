@@ -5,18 +5,13 @@ use Rattle.field.proofs.Row.{beyond}
 use borrow.Author.Needs.{needs}
 use Rattle.marks.proofs.load.byte.Statement.{statement}
 use Rattle.marks.proofs.load.byte.Tie as tie
-use Rattle.marks.proofs.load.byte.Reads as reads
-use Rattle.marks.proofs.load.byte.Lts as lts
 
--- src/load.rt:13:16
 shared-slice-read-result : tie.Need-shared-slice-read-result
 shared-slice-read-result c = search needs
 
--- src/load.rt:13:9
 returns : tie.Need-returns
 returns c = (refl, omega (arith, c .shared-slice-known .given (c .before .before .args .i)))
 
--- src/load.rt:9:1
 returns-2 : tie.Need-returns-2
 returns-2 c = (sym (beyond (c .before .args .bytes .now) (c .before .args .i) (c .if1 .left)), omega arith)
 

@@ -9,9 +9,6 @@ use Rattle.field.proofs.Row.{upto-row}
 use borrow.Author.Needs.{needs}
 use Rattle.marks.proofs.load.doubts.Statement.{statement}
 use Rattle.marks.proofs.load.doubts.Tie as tie
-use Rattle.marks.proofs.load.doubts.Reads as reads
-use Rattle.marks.proofs.load.doubts.Lts as lts
-use Rattle.marks.proofs.load.byte.Reads as byte-reads
 
 abbrev Inv-loop : tie.InvT-loop
 Inv-loop bytes out₀ i₀ out i = (i ≤ 16) × Upto 16 0 (λ k v. v ≡ at bytes k) out i
@@ -19,39 +16,30 @@ Inv-loop bytes out₀ i₀ out i = (i ≤ 16) × Upto 16 0 (λ k v. v ≡ at byt
 abbrev μ-loop : tie.MeasureT-loop
 μ-loop bytes out₀ i₀ out i = 16 - i
 
--- src/load.rt:37:5
 loop-holds : tie.Need-loop-holds Inv-loop μ-loop
 loop-holds c = (omega arith, upto-start refl)
 
--- src/load.rt:38:18
 byte-requires : tie.Need-byte-requires Inv-loop μ-loop
 byte-requires c κs = search needs
 
--- src/load.rt:38:18
 cast-out : tie.Need-cast-out Inv-loop μ-loop
 cast-out c = search needs
 
--- src/load.rt:38:9
 mul-out : tie.Need-mul-out Inv-loop μ-loop
 mul-out c = search needs
 
--- src/load.rt:38:9
 array-write-out : tie.Need-array-write-out Inv-loop μ-loop
 array-write-out c = search needs
 
--- src/load.rt:39:9
 add-i : tie.Need-add-i Inv-loop μ-loop
 add-i c = search needs
 
--- src/load.rt:37:5
 loop-less : tie.Need-loop-less Inv-loop μ-loop
 loop-less c = search needs
 
--- src/load.rt:37:5
 loop-again : tie.Need-loop-again Inv-loop μ-loop
 loop-again c = (omega arith, upto-step _ (omega arith) (c .byte .ensures .0) (c .before .before .loop .inv .1))
 
--- src/load.rt:32:1
 returns : tie.Need-returns Inv-loop μ-loop
 returns c = upto-row (upto-less (omega arith) (c .before .loop .inv .1))
 

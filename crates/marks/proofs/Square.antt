@@ -1,0 +1,69 @@
+-- Squares of loaded cells, row by row: their rows, and the cells that are changed. Assumes nothing.
+use mathlib.Core.Path.{_≡_, refl, sym, ap, ap₂, _∙_}
+use mathlib.Core.Logic.{_⊎_, inl, inr}
+use mathlib.Core.Bool.{Bool, true, false, cond}
+use mathlib.Core.List.{List}
+use Prim.Native.Nat.{ℕ, suc, _+_, _*_, _-_, _≤_, _<_}
+use native.Mathlib.Omega.{arith}
+use native.Mathlib.Decide.{ℕ-discrete}
+use native.Mathlib.Nat.{mul-le-mul-right}
+use lib.Dec.{eqb, ltb}
+use lib.ListN.{replicate, getD-replicate}
+use borrow.Author.Tests.{eqb-true, eqb-false, eq-eqb, ne-eqb, lt-ltb}
+use Rattle.bounded.specs.Bounded.{at}
+use Rattle.bounded.proofs.Sum.{sum-eq, sum-more}
+use Rattle.bounded.proofs.Tab.{tab-eq}
+use Rattle.field.specs.Congruence.{Cong}
+use Rattle.field.specs.Row.{row}
+use Rattle.field.proofs.Congruence.{same, below-eq, cancel, _⨾_}
+use Rattle.field.proofs.Row.{row-at}
+use Rattle.definitions.specs.Cost.{unread, changed}
+use Rattle.reed_muller.specs.Loops.{line, cells}
+use Rattle.marks.specs.Loading.{residue, squareCell}
+use Rattle.marks.specs.Changed.{flag, changedCells}
+
+pub product-small : {n r : ℕ} → n ≤ 16 → r < 16 → r * n ≤ 240
+product-small {n} {r} h l = omega (arith, mul-le-mul-right n l)
+
+pub cell-at : (n : ℕ) (s : List ℕ) (r c : ℕ) → c < n → squareCell n s r c ≡ at s (r * n + c)
+cell-at n s r c l = rw (lt-ltb c n l)
+
+-- the number at a place of a row that is named
+row-is : (f : ℕ → ℕ) {l : List ℕ} → l ≡ row f → (j : ℕ) → j < 16 → at l j ≡ f j
+row-is f e j k = rw e (row-at f j k)
+
+-- the residues of a row
+pub residues-line : (f : ℕ → ℕ) {seen next : List ℕ} → seen ≡ row f → next ≡ row (λ j. residue (at seen j)) → next ≡ row (λ c. residue (f c))
+residues-line f e h = h ∙ tab-eq 16 λ i l. ap residue (row-is f e i l)
+
+-- a row more of the changed cells, counted against a row of zeros
+pub changed-more : (n r : ℕ) (s : List ℕ) (left : List (List ℕ)) {seen flags : List ℕ} → n ≤ 16 → seen ≡ row (squareCell n s r) →
+    flags ≡ row (λ j. flag (at seen j) (cells left r j)) →
+    changedCells (r + 1) n s left ≡ changedCells r n s left + changed n (at flags) (at (replicate 16 0))
+changed-more n r s left {seen} {flags} h e f = sum-more r _ ∙ ap (λ k. changedCells r n s left + k)
+    (sum-eq n λ c l. sym (ap₂ (λ a b. cond (eqb a b) 0 1) (flag-at c (omega arith)) (getD-replicate {A = ℕ} 16 c 0 0 (omega arith))))
+  where
+    flag-at : (c : ℕ) → c < 16 → at flags c ≡ flag (squareCell n s r c) (cells left r c)
+    flag-at c l = row-is (λ j. flag (at seen j) (cells left r j)) f c l ∙ ap (λ v. flag v (cells left r c)) (row-is (squareCell n s r) e c l)
+
+-- a cell is changed where its flag is set: its value v and what is left of it make its residue
+pub flag-differ : {p s l v : ℕ} → p ≤ 251 → (s < p) ⊎ (s ≡ unread) → l < p → v < p → Cong (p - 1) (l + v) (residue s) →
+    _≡_ {A = ℕ} (cond (eqb (flag s l) 0) 0 1) (cond (eqb s v) 0 1)
+flag-differ {p} {s} {l} {v} most known small value whole = go (eqb s unread) refl whole
+  where
+    unequal : s ≡ unread → s ≡ v → ⊥
+    unequal h i = omega arith
+
+    read : s < p → Cong (p - 1) (l + v) s → Dec (l ≡ 0) → _≡_ {A = ℕ} (cond (eqb l 0) 0 1) (cond (eqb s v) 0 1)
+    read b C (yes z) =
+        let e : v ≡ s = below-eq {q = p - 1} (omega arith) (omega arith) (same (omega arith) ⨾ C) in
+        rw (eq-eqb l 0 z, eq-eqb s v (sym e))
+    read b C (no z) = rw (ne-eqb l 0 z, ne-eqb s v (λ i. z (below-eq {q = p - 1} (omega arith) (omega arith) (cancel {a = l} {b = 0} {e = v} {f = v} (same refl) (C ⨾ same (omega arith))))))
+
+    below : (s < p) ⊎ (s ≡ unread) → eqb s unread ≡ false → s < p
+    below (inl h) e = h
+    below (inr h) e = absurd (eqb-false s unread e h)
+
+    go : (b : Bool) → eqb s unread ≡ b → Cong (p - 1) (l + v) (cond b 0 s) → _≡_ {A = ℕ} (cond (eqb (cond b 1 l) 0) 0 1) (cond (eqb s v) 0 1)
+    go true e C = rw (ne-eqb s v (unequal (eqb-true s unread e)))
+    go false e C = read (below known e) C (ℕ-discrete l 0)

@@ -1,0 +1,57 @@
+-- `marks::load::doubt_rows` meets its contract: the rows before r are set. Assumes nothing.
+use mathlib.Core.Path.{_≡_, refl}
+use mathlib.Core.List.{[]}
+use Prim.Native.Nat.{_-_, _≤_}
+use native.Mathlib.Omega.{arith}
+use Rattle.field.specs.Loop.{Upto}
+use Rattle.field.specs.Row.{row}
+use Rattle.field.proofs.Loop.{upto-start, upto-step, upto-less}
+use Rattle.marks.specs.Loading.{squareCell}
+use borrow.Author.Needs.{needs}
+use Rattle.marks.proofs.load.doubt_rows.Statement.{statement}
+use Rattle.marks.proofs.load.doubt_rows.Tie as tie
+
+abbrev Inv-loop : tie.InvT-loop
+Inv-loop doubts n rows₀ r₀ rows r = (r ≤ 16) × Upto 16 [] (λ r l. l ≡ row λ c. squareCell n doubts r c) rows r
+
+abbrev μ-loop : tie.MeasureT-loop
+μ-loop doubts n rows₀ r₀ rows r = 16 - r
+
+loop-holds : tie.Need-loop-holds Inv-loop μ-loop
+loop-holds c = (omega arith, upto-start refl)
+
+doubt-line-requires : tie.Need-doubt-line-requires Inv-loop μ-loop
+doubt-line-requires c κs = search needs
+
+mul-rows : tie.Need-mul-rows Inv-loop μ-loop
+mul-rows c = search needs
+
+array-set-from-rows : tie.Need-array-set-from-rows Inv-loop μ-loop
+array-set-from-rows c = search needs
+
+add-r : tie.Need-add-r Inv-loop μ-loop
+add-r c = search needs
+
+loop-less : tie.Need-loop-less Inv-loop μ-loop
+loop-less c = search needs
+
+loop-again : tie.Need-loop-again Inv-loop μ-loop
+loop-again c = (omega arith, upto-step _ (omega arith) (c .doubt-line .ensures) (c .before .before .loop .inv .1))
+
+returns : tie.Need-returns Inv-loop μ-loop
+returns c = upto-less (omega arith) (c .before .loop .inv .1)
+
+pub doubt-rows-spec : {M : Type 1} → statement M
+doubt-rows-spec =
+    tie.close
+    (tie.spec
+    Inv-loop
+    μ-loop
+    loop-holds
+    doubt-line-requires
+    mul-rows
+    array-set-from-rows
+    add-r
+    loop-less
+    loop-again
+    returns)
