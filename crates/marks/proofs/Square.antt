@@ -3,11 +3,11 @@ use mathlib.Core.Path.{_≡_, refl, sym, ap, ap₂, _∙_}
 use mathlib.Core.Logic.{_⊎_, inl, inr}
 use mathlib.Core.Bool.{Bool, true, false, cond}
 use mathlib.Core.List.{List}
-use Prim.Native.Nat.{ℕ, suc, _+_, _*_, _-_, _≤_, _<_}
+use Prim.Native.Nat.{ℕ, _+_, _*_, _-_, _≤_, _<_}
 use native.Mathlib.Omega.{arith}
 use native.Mathlib.Decide.{ℕ-discrete}
 use native.Mathlib.Nat.{mul-le-mul-right}
-use lib.Dec.{eqb, ltb}
+use lib.Dec.{eqb}
 use lib.ListN.{replicate, getD-replicate}
 use borrow.Author.Tests.{eqb-true, eqb-false, eq-eqb, ne-eqb, lt-ltb}
 use Rattle.bounded.specs.Bounded.{at}
@@ -18,7 +18,7 @@ use Rattle.field.specs.Row.{row}
 use Rattle.field.proofs.Congruence.{same, below-eq, cancel, _⨾_}
 use Rattle.field.proofs.Row.{row-at}
 use Rattle.definitions.specs.Cost.{unread, changed}
-use Rattle.reed_muller.specs.Loops.{line, cells}
+use Rattle.reed_muller.specs.Loops.{cells}
 use Rattle.marks.specs.Loading.{residue, squareCell}
 use Rattle.marks.specs.Changed.{flag, changedCells}
 

@@ -1,9 +1,9 @@
 -- A strip that is loaded, decoded and stored is the reading that document 01 defines. Assumes nothing.
-use mathlib.Core.Path.{_≡_, refl, sym, ap, ap₂, _∙_}
-use mathlib.Core.Logic.{_⊎_, inl, inr}
+use mathlib.Core.Path.{_≡_, sym, ap, ap₂, _∙_}
+use mathlib.Core.Logic.{_⊎_, inl}
 use mathlib.Core.Bool.{Bool, true, false, cond}
 use mathlib.Core.List.{List}
-use Prim.Native.Nat.{ℕ, suc, _+_, _*_, _-_, _%_, _≤_, _<_}
+use Prim.Native.Nat.{ℕ, suc, _*_, _-_, _%_, _<_}
 use native.Mathlib.Omega.{arith}
 use native.Mathlib.Decide.{decLt}
 use lib.Dec.{eqb}
@@ -11,16 +11,16 @@ use lib.ListN.{length}
 use Rattle.bounded.specs.Bounded.{at, tab}
 use Rattle.bounded.proofs.Sum.{sum-eq}
 use Rattle.bounded.proofs.Tab.{length-tab, tab-at}
-use Rattle.field.specs.Row.{row, Row, Reciprocal}
+use Rattle.field.specs.Row.{row, Reciprocal}
 use Rattle.field.proofs.Row.{row-at, row-of, beyond}
 use Rattle.definitions.specs.Plan.{modulus, side, degree, point}
-use Rattle.definitions.specs.Code.{strip, size, value, valueX}
+use Rattle.definitions.specs.Code.{strip, size, value}
 use Rattle.definitions.specs.Cost.{full, unread, changed, radius}
-use Rattle.definitions.specs.Calls.{costOf, changedOf, refused, readingOf}
+use Rattle.definitions.specs.Calls.{changedOf, refused, readingOf}
 use Rattle.definitions.specs.Word.{IsRecord}
 use Rattle.definitions.specs.Reads.{Reads}
 use Rattle.polynomial.specs.Eval.{eval}
-use Rattle.polynomial.proofs.Plan.{plan-modulus, plan-apart, value-strip}
+use Rattle.polynomial.proofs.Plan.{plan-apart, value-strip}
 use Rattle.plan.proofs.Residues.{points-row}
 use Rattle.distance.specs.Loaded.{Loaded}
 use Rattle.distance.specs.Summary.{summary}

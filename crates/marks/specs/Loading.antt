@@ -1,10 +1,10 @@
 -- Photographs as the readers take and load them.
 --
---   residue v          the residue that stands for the symbol v: itself, and 0 for an unread cell
+--   residue v            the residue that stands for the symbol v: itself, and 0 for an unread cell
 --   squareCell n s r c   the cell of row r and column c in the flat square s of n columns, and 0 beyond it
---   SymbolRows n s m   row r of m has the residues of row r of the square s, r from 0 to 15
---   DoubtLines n u m   row r of m is row r of the square u
---   Taken C P s u B    refusals 1 to 8 do not apply: the plan is sound, s and u are a photograph of it, B has room for a record
+--   SymbolRows n s m     row r of m has the residues of row r of the square s, r from 0 to 15
+--   DoubtLines n u m     row r of m is row r of the square u, r from 0 to 15
+--   Taken C P s u B      refusals 1 to 8 do not apply: the plan is sound, s and u are a photograph of it, B has room for a record
 --
 -- What this file is for: an unread cell's symbol is no residue; its doubt is the full doubt, so any residue may stand for it.
 use mathlib.Core.Path.{_≡_}

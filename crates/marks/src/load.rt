@@ -1,7 +1,6 @@
 // Lent bytes as rows of sixteen, 0 beyond their end.
 ghost use mathlib.Core.Path.{_≡_};
 ghost use Prim.Native.Nat.{_≤_, _<_};
-ghost use lib.ListN.{length};
 ghost use Rattle.bounded.specs.Bounded.{at};
 ghost use Rattle.field.specs.Row.{row as rowOf};
 ghost use Rattle.marks.specs.Loading.{residue, squareCell, SymbolRows, DoubtLines};

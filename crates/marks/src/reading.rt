@@ -9,7 +9,7 @@ ghost use mathlib.Core.Path.{_≡_};
 ghost use Prim.Native.Nat.{ℕ, _≤_, _<_};
 ghost use lib.ListN.{length};
 ghost use Rattle.bounded.specs.Bounded.{at, tab};
-ghost use Rattle.definitions.specs.Code.{strip as stripCode, square};
+ghost use Rattle.definitions.specs.Code.{strip as stripCode};
 ghost use Rattle.marks.specs.Loading.{Taken};
 ghost use Rattle.definitions.specs.Reads.{Reads};
 

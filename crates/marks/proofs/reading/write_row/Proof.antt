@@ -1,4 +1,4 @@
--- `traymark::writing::write_row` meets its contract: the places below j are written. Assumes nothing.
+-- `marks::reading::write_row` meets its contract: the places below j are written. Assumes nothing.
 use mathlib.Core.Path.{_≡_, refl, _∙_}
 use mathlib.Core.List.{_++_}
 use Prim.Native.Nat.{_-_, _≤_, _<_}
