@@ -3,9 +3,13 @@
 use mathlib.Core.Path.{_≡_, refl, sym, ap, _∙_}
 use mathlib.Core.List.{List}
 use Prim.Native.Nat.{ℕ, zero, suc}
-use Rattle.definitions.specs.Refusals.{accepted}
+use Rattle.definitions.specs.Refusals.{first, accepted}
 use Rattle.definitions.specs.Code.{Code, mark}
-use Rattle.definitions.specs.Calls.{refused, readingOf, writeNumber, writeBuffer, measureNumber, measureReading}
+use Rattle.definitions.specs.Calls.{refused, readingOf, photoRows, writeNumber, writeBuffer, measureNumber, measureReading}
+use Rattle.definitions.specs.Reads.{Reads}
+use Rattle.definitions.proofs.Nearest.{reads-refused}
+use Rattle.marks.specs.Loading.{Taken}
+use Rattle.marks.proofs.Loading.{taken}
 
 other : {A : Type 0} (k : ℕ) (a b : A) → (k ≡ 0 → ⊥) → b ≡ accepted k a b
 other zero a b h = absurd (h refl)
@@ -28,3 +32,14 @@ module _ (C : Code) (P s u F : List ℕ) {k : ℕ} (e : k ≡ measureNumber C P 
   pub measure-gives : k ≡ 0 → readingOf C P s u F ≡ measureReading C P s u F
   unfolding measureReading
   measure-gives z = ap (λ k. accepted k (readingOf C P s u F) (refused k)) (sym z ∙ e)
+
+module _ (C : Code) (P s u B : List ℕ) {k : ℕ} (e : k ≡ first (photoRows C P s u B)) where
+  pub read-refuses : (k ≡ 0 → ⊥) → Reads C P s u B (refused k) B
+  read-refuses h = go k e h
+    where
+      go : (k : ℕ) → k ≡ first (photoRows C P s u B) → (k ≡ 0 → ⊥) → Reads C P s u B (refused k) B
+      go zero e h = absurd (h refl)
+      go (suc k) e h = reads-refused C P s u B k (sym e)
+
+  pub read-takes : k ≡ 0 → Taken C P s u B
+  read-takes z = taken C P s u B (sym e ∙ z)

@@ -1,37 +1,30 @@
+-- `traymark::reading::traymark_read_strip` meets its contract: the checks come first, and after them the one call below reads. Assumes nothing.
+use mathlib.Core.Path.{_∙_}
+use Rattle.traymark.proofs.Outcome.{read-refuses, read-takes}
 use borrow.Author.Needs.{needs}
 use Rattle.traymark.proofs.reading.traymark_read_strip.Statement.{statement}
 use Rattle.traymark.proofs.reading.traymark_read_strip.Tie as tie
-use Rattle.traymark.proofs.reading.traymark_read_strip.Reads as reads
-use Rattle.traymark.proofs.reading.traymark_read_strip.Lts as lts
-use Rattle.distance.proofs.summary.refused.Reads as refused-reads
-use Rattle.marks.proofs.reading.read_strip.Reads as read-strip-reads
-use Rattle.traymark.proofs.checks.photo_number.Reads as photo-number-reads
 
--- src/reading.rt:29:9
 photo-number-requires : tie.Need-photo-number-requires
 photo-number-requires c κs = search needs
 
--- src/reading.rt:31:9
 refused-requires : tie.Need-refused-requires
 refused-requires c κs = search needs
 
--- src/reading.rt:31:9
 same-length : tie.Need-same-length
 same-length c = search needs
 
--- src/reading.rt:31:9
 returns : tie.Need-returns
-returns c = search needs
+returns c =
+    let h = read-refuses _ _ _ _ _ (c .before .before .photo-number .ensures) (c .before .if1 .taken) in
+    (c .refused .ensures ∙ h .reading, h .buffer)
 
--- src/reading.rt:33:5
 read-strip-requires : tie.Need-read-strip-requires
-read-strip-requires c κs = search needs
+read-strip-requires c κs = read-takes _ _ _ _ _ (c .before .before .photo-number .ensures) (c .before .if1 .left)
 
--- src/reading.rt:19:1
 same-length-2 : tie.Need-same-length-2
 same-length-2 c = search needs
 
--- src/reading.rt:19:1
 returns-2 : tie.Need-returns-2
 returns-2 c = search needs
 
