@@ -3,4 +3,5 @@ pub mod Cost
 pub mod Level
 pub mod Unique
 pub mod Margin
+pub mod Magnitude
 pub mod Loaded
