@@ -1,0 +1,83 @@
+//! The calls as `include/traymark.h` declares them: each slice is a pointer and a length, in that order.
+//!
+//! What a caller owes is in that header: each pointer points to as many bytes as its length says, and a buffer that is
+//! written overlaps no other of the call.
+
+/// What measuring and reading answer. Of a refusal everything but the number is 0.
+#[repr(C)]
+#[derive(Clone, Copy, Debug, PartialEq, Eq)]
+pub struct RawReading {
+    pub number: u32,
+    pub cost: u32,
+    pub margin: i32,
+    pub changed: u32,
+    pub class: u32,
+}
+
+extern "C" {
+    pub fn traymark_check_plan(plan: *const u8, plan_len: usize) -> u32;
+
+    pub fn traymark_find_plan(file: *const u8, file_len: usize, season: u16, offset: *mut usize) -> u32;
+
+    pub fn traymark_write_mark(
+        plan: *const u8,
+        plan_len: usize,
+        record: *const u8,
+        record_len: usize,
+        mark: *mut u8,
+        mark_len: usize,
+    ) -> u32;
+
+    pub fn traymark_measure_mark(
+        plan: *const u8,
+        plan_len: usize,
+        record: *const u8,
+        record_len: usize,
+        symbols: *const u8,
+        symbols_len: usize,
+        doubts: *const u8,
+        doubts_len: usize,
+    ) -> RawReading;
+
+    pub fn traymark_read_mark(
+        plan: *const u8,
+        plan_len: usize,
+        symbols: *const u8,
+        symbols_len: usize,
+        doubts: *const u8,
+        doubts_len: usize,
+        record: *mut u8,
+        record_len: usize,
+    ) -> RawReading;
+
+    pub fn traymark_write_strip(
+        plan: *const u8,
+        plan_len: usize,
+        record: *const u8,
+        record_len: usize,
+        strip: *mut u8,
+        strip_len: usize,
+    ) -> u32;
+
+    pub fn traymark_measure_strip(
+        plan: *const u8,
+        plan_len: usize,
+        record: *const u8,
+        record_len: usize,
+        symbols: *const u8,
+        symbols_len: usize,
+        doubts: *const u8,
+        doubts_len: usize,
+    ) -> RawReading;
+
+    pub fn traymark_read_strip(
+        plan: *const u8,
+        plan_len: usize,
+        symbols: *const u8,
+        symbols_len: usize,
+        doubts: *const u8,
+        doubts_len: usize,
+        record: *mut u8,
+        record_len: usize,
+    ) -> RawReading;
+}

@@ -1,0 +1,146 @@
+//! Square marks on fruit trays, written and read: a safe wrapper over the proved static library.
+//!
+//! Plans, records, marks, strips and photographs are plain bytes; `include/traymark.h` says what each holds. A call that
+//! writes takes the buffer to write into, of the exact length; a refusal changes no byte of it.
+//!
+//! ```
+//! let plan = [0, 12, 7, 3, 1, 1, 2, 4, 0, 0, 0, 0, 0, 0, 0, 0, 0, 0, 0, 0, 0, 0, 0, 0];
+//! let mut mark = [0; 9];
+//! traymark::write_mark(&plan, &[3, 1, 2], &mut mark)?;
+//! assert_eq!(mark, [6, 1, 5, 0, 2, 6, 2, 4, 1]);
+//!
+//! mark[0] = 0;
+//! mark[8] = 0;
+//! let mut record = [0; 3];
+//! let reading = traymark::read_mark(&plan, &mark, &[0; 9], &mut record)?;
+//! assert_eq!(record, [3, 1, 2]);
+//! assert_eq!((reading.cost, reading.margin, reading.changed, reading.class), (400, 200, 2, 1));
+//!
+//! mark[1] = 0;
+//! let refusal = traymark::read_mark(&plan, &mark, &[0; 9], &mut record).unwrap_err();
+//! assert_eq!(refusal, traymark::Refusal::NoRecord);
+//! assert_eq!(refusal.number(), 10);
+//! # Ok::<(), traymark::Refusal>(())
+//! ```
+
+pub mod ffi;
+mod refusal;
+
+pub use refusal::Refusal;
+
+/// The length of a plan in bytes.
+pub const PLAN_LENGTH: usize = 24;
+
+/// What measuring and reading say of a record against a photograph.
+#[derive(Clone, Copy, Debug, PartialEq, Eq)]
+pub struct Reading {
+    /// D: the sum over the cells of the doubt where the symbol is the record's value, else of 200 less the doubt.
+    pub cost: u32,
+    /// The radius less the cost: above 0 exactly where the record is within the radius.
+    pub margin: i32,
+    /// The cells whose symbol is not the record's value, unread cells included.
+    pub changed: u32,
+    /// 0 to 3, by the changed count: 0; 1 to 3; 4 to 15; 16 and more.
+    pub class: u32,
+}
+
+/// Checks a plan. Refusals 1 to 5.
+pub fn check_plan(plan: &[u8]) -> Result<(), Refusal> {
+    accepted(unsafe { ffi::traymark_check_plan(plan.as_ptr(), plan.len()) })
+}
+
+/// A plan of the season: 24 bytes of `file` itself, at a multiple of 24; any of them where several have the season. Only
+/// the season bytes are compared; the plan is not checked. Refusals 11 and 12.
+pub fn find_plan(file: &[u8], season: u16) -> Result<&[u8], Refusal> {
+    let mut offset = 0;
+    accepted(unsafe { ffi::traymark_find_plan(file.as_ptr(), file.len(), season, &mut offset) })?;
+    Ok(&file[offset..offset + PLAN_LENGTH])
+}
+
+/// Writes the mark of a record: `record` has (d + 1)(d + 2) / 2 bytes, `mark` n * n. Refusals 1 to 6 and 9.
+pub fn write_mark(plan: &[u8], record: &[u8], mark: &mut [u8]) -> Result<(), Refusal> {
+    write_by(ffi::traymark_write_mark, plan, record, mark)
+}
+
+/// Measures a record against a photographed mark; a margin of 0 or below is no refusal. Refusals 1 to 9.
+pub fn measure_mark(plan: &[u8], record: &[u8], symbols: &[u8], doubts: &[u8]) -> Result<Reading, Refusal> {
+    measure_by(ffi::traymark_measure_mark, plan, record, symbols, doubts)
+}
+
+/// Reads a photographed mark: the one record within the radius goes into `record`. Refusals 1 to 8, and 10 exactly where
+/// no record is within the radius.
+pub fn read_mark(plan: &[u8], symbols: &[u8], doubts: &[u8], record: &mut [u8]) -> Result<Reading, Refusal> {
+    read_by(ffi::traymark_read_mark, plan, symbols, doubts, record)
+}
+
+/// Writes the strip of a record: `record` has d + 1 bytes, `strip` n. Refusals 1 to 6 and 9.
+pub fn write_strip(plan: &[u8], record: &[u8], strip: &mut [u8]) -> Result<(), Refusal> {
+    write_by(ffi::traymark_write_strip, plan, record, strip)
+}
+
+/// Measures a record against a photographed strip; a margin of 0 or below is no refusal. Refusals 1 to 9.
+pub fn measure_strip(plan: &[u8], record: &[u8], symbols: &[u8], doubts: &[u8]) -> Result<Reading, Refusal> {
+    measure_by(ffi::traymark_measure_strip, plan, record, symbols, doubts)
+}
+
+/// Reads a photographed strip: the one record within the radius goes into `record`. Refusals 1 to 8, and 10 exactly where
+/// no record is within the radius.
+pub fn read_strip(plan: &[u8], symbols: &[u8], doubts: &[u8], record: &mut [u8]) -> Result<Reading, Refusal> {
+    read_by(ffi::traymark_read_strip, plan, symbols, doubts, record)
+}
+
+// Safety of the calls below: every pointer and its length come from one slice, and a `&mut` slice overlaps no other.
+
+type Write = unsafe extern "C" fn(*const u8, usize, *const u8, usize, *mut u8, usize) -> u32;
+
+type Measure =
+    unsafe extern "C" fn(*const u8, usize, *const u8, usize, *const u8, usize, *const u8, usize) -> ffi::RawReading;
+
+type Read =
+    unsafe extern "C" fn(*const u8, usize, *const u8, usize, *const u8, usize, *mut u8, usize) -> ffi::RawReading;
+
+fn write_by(call: Write, plan: &[u8], record: &[u8], mark: &mut [u8]) -> Result<(), Refusal> {
+    accepted(unsafe { call(plan.as_ptr(), plan.len(), record.as_ptr(), record.len(), mark.as_mut_ptr(), mark.len()) })
+}
+
+fn measure_by(call: Measure, plan: &[u8], record: &[u8], symbols: &[u8], doubts: &[u8]) -> Result<Reading, Refusal> {
+    reading(unsafe {
+        call(
+            plan.as_ptr(),
+            plan.len(),
+            record.as_ptr(),
+            record.len(),
+            symbols.as_ptr(),
+            symbols.len(),
+            doubts.as_ptr(),
+            doubts.len(),
+        )
+    })
+}
+
+fn read_by(call: Read, plan: &[u8], symbols: &[u8], doubts: &[u8], record: &mut [u8]) -> Result<Reading, Refusal> {
+    reading(unsafe {
+        call(
+            plan.as_ptr(),
+            plan.len(),
+            symbols.as_ptr(),
+            symbols.len(),
+            doubts.as_ptr(),
+            doubts.len(),
+            record.as_mut_ptr(),
+            record.len(),
+        )
+    })
+}
+
+fn accepted(number: u32) -> Result<(), Refusal> {
+    match number {
+        0 => Ok(()),
+        _ => Err(Refusal::from_number(number).expect("the library gives only these numbers")),
+    }
+}
+
+fn reading(raw: ffi::RawReading) -> Result<Reading, Refusal> {
+    accepted(raw.number)?;
+    Ok(Reading { cost: raw.cost, margin: raw.margin, changed: raw.changed, class: raw.class })
+}

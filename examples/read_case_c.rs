@@ -1,0 +1,25 @@
+//! Reads a photographed mark, case c of document 01: plan A and the mark of 3 + X + 2Y, two of its cells misread.
+//! Prints what the program `trayread` prints.
+
+fn main() {
+    let mut plan = [0; 24];
+    plan[..8].copy_from_slice(&[0, 12, 7, 3, 1, 1, 2, 4]); // season 12, p 7, n 3, d 1, points 1 2 4
+    let symbols = [0, 1, 5, 0, 2, 6, 2, 4, 0];
+    let doubts = [0; 9];
+    let mut record = [0; 3];
+
+    match traymark::read_mark(&plan, &symbols, &doubts, &mut record) {
+        Ok(reading) => {
+            println!(
+                "READ {} {} {} {} {}",
+                u16::from_be_bytes([plan[0], plan[1]]),
+                reading.changed,
+                reading.class,
+                reading.cost,
+                reading.margin
+            );
+            println!("RECORD {}", record.map(|c: u8| c.to_string()).join(" "));
+        }
+        Err(refusal) => println!("REFUSED {}", refusal.number()),
+    }
+}

@@ -1,0 +1,168 @@
+/*
+ * traymark: square marks on fruit trays, written and read.
+ *
+ * Eight calls over plain bytes. Each is proved to give what its comment says, for any bytes and any lengths.
+ *
+ * Words
+ *   plan     24 bytes: season (2, high byte first), p, n, d, sixteen points, three zeros. p is a prime from 2 to 251,
+ *            n (1 to 16, at most p) the number of points, d (0 to n - 1) the degree; the first n points are below p and
+ *            strictly rising, the other point bytes 0. Point 0 may be used.
+ *   record   the coefficients of a polynomial, each below p. Of a mark: K = (d + 1)(d + 2) / 2 bytes, a polynomial in X
+ *            and Y, by total degree from 0 to d and within one degree by rising power of Y. Of a strip: K = d + 1 bytes,
+ *            a polynomial in X, lowest power first.
+ *   mark     N = n * n bytes: at i * n + j the polynomial's value modulo p for X the i-th point and Y the j-th.
+ *   strip    N = n bytes: at i the polynomial's value modulo p for X the i-th point.
+ *   symbols  N bytes of a photograph: each below p, or 255 for an unread cell.
+ *   doubts   N bytes of a photograph: each 0 to 100, and exactly 100 where the cell is unread.
+ *   cost     D, the sum over the cells: the doubt where the symbol is the record's value, else 200 less the doubt.
+ *   radius   R, of a mark 100 * n * (n - d), of a strip 100 * (n - d). At most one record costs under R.
+ *
+ * Buffers
+ *   A buffer is a pointer and a length, in that order. The pointer is not null and points to that many bytes; where the
+ *   length is 0 it is not followed. A `const` buffer is only read. A buffer that a call writes must overlap no other
+ *   buffer of that call; its old bytes are not looked at. Nothing is kept after the call returns, nothing is allocated,
+ *   there is no state: calls may run in several threads at once.
+ *
+ * Numbers
+ *   Every call answers with a number: 0, or the refusal that applies. Where several apply, the lowest of those that
+ *   the call names is given. A REFUSAL CHANGES NO LENT BYTE. (The finder's *offset is a result, and is then 0.)
+ *
+ *    1  the plan is not 24 bytes long, or its bytes 21 to 23 are not all 0
+ *    2  p is not a prime from 2 to 251
+ *    3  n is 0, above 16 or above p
+ *    4  d is n or more
+ *    5  a point is p or more or not above the one before it, or an unused point byte is not 0
+ *    6  a lent buffer (symbols, doubts, record, mark or strip) has not its exact length
+ *    7  a symbol is p or more and not 255
+ *    8  a doubt is above 100, or that of an unread cell is not 100
+ *    9  a coefficient of a given record is p or more
+ *   10  reading only: no record costs under R
+ *   11  the plan file's length is no multiple of 24
+ *   12  no plan in the file has the season
+ */
+#ifndef TRAYMARK_H
+#define TRAYMARK_H
+
+#include <stddef.h>
+#include <stdint.h>
+
+#ifdef __cplusplus
+extern "C" {
+#endif
+
+/* What measuring and reading answer. Of a refusal everything but the number is 0. */
+typedef struct {
+    uint32_t number;  /* 0, or the refusal */
+    uint32_t cost;    /* D */
+    int32_t margin;   /* R - D: from -49600 to 25600 for marks; above 0 where the record is within the radius */
+    uint32_t changed; /* cells whose symbol is not the record's value, unread cells included */
+    uint32_t class_;  /* by changed: 0 is class 0, 1 to 3 class 1, 4 to 15 class 2, 16 and more class 3 */
+} traymark_reading;
+
+/*
+ * Checks a plan.
+ *
+ *   plan     read
+ *   result   0 where the plan is sound; refusals 1 2 3 4 5
+ */
+uint32_t traymark_check_plan(const uint8_t *plan, size_t plan_len);
+
+/*
+ * Finds a plan by its season in a plan file, which is plans of 24 bytes one after another with no header.
+ * Only the season bytes are compared; the plan found is not checked. An empty file has no plan.
+ *
+ *   file     read
+ *   offset   always written: where the number is 0, the place of the plan in the file, a multiple of 24, so that the plan
+ *            is the 24 bytes from file + *offset; else 0. Where several plans have the season it may be any of them.
+ *   result   0; refusals 11 12
+ */
+uint32_t traymark_find_plan(const uint8_t *file, size_t file_len, uint16_t season, size_t *offset);
+
+/*
+ * Writes the mark of a record.
+ *
+ *   plan     read
+ *   record   read; K bytes
+ *   mark     written whole where the number is 0; n * n bytes
+ *   result   0; refusals 1 2 3 4 5 6 9
+ */
+uint32_t traymark_write_mark(const uint8_t *plan, size_t plan_len,
+                             const uint8_t *record, size_t record_len,
+                             uint8_t *mark, size_t mark_len);
+
+/*
+ * Measures a given record against a photographed mark. A record at the radius or beyond it is no refusal: its margin is
+ * 0 or below.
+ *
+ *   plan     read
+ *   record   read; K bytes
+ *   symbols  read; n * n bytes
+ *   doubts   read; n * n bytes
+ *   result   the record's cost, margin, changed count and class; refusals 1 2 3 4 5 6 7 8 9
+ */
+traymark_reading traymark_measure_mark(const uint8_t *plan, size_t plan_len,
+                                       const uint8_t *record, size_t record_len,
+                                       const uint8_t *symbols, size_t symbols_len,
+                                       const uint8_t *doubts, size_t doubts_len);
+
+/*
+ * Reads a photographed mark: the one record that costs under R, or refusal 10 exactly where there is none.
+ *
+ *   plan     read
+ *   symbols  read; n * n bytes
+ *   doubts   read; n * n bytes
+ *   record   written whole where the number is 0; K bytes
+ *   result   that record's cost, margin, changed count and class; refusals 1 2 3 4 5 6 7 8 10
+ */
+traymark_reading traymark_read_mark(const uint8_t *plan, size_t plan_len,
+                                    const uint8_t *symbols, size_t symbols_len,
+                                    const uint8_t *doubts, size_t doubts_len,
+                                    uint8_t *record, size_t record_len);
+
+/*
+ * The same three for a strip, one row of n cells: its record has d + 1 bytes and its radius is 100 * (n - d).
+ *
+ * Writes the strip of a record.
+ *
+ *   plan     read
+ *   record   read; d + 1 bytes
+ *   strip    written whole where the number is 0; n bytes
+ *   result   0; refusals 1 2 3 4 5 6 9
+ */
+uint32_t traymark_write_strip(const uint8_t *plan, size_t plan_len,
+                              const uint8_t *record, size_t record_len,
+                              uint8_t *strip, size_t strip_len);
+
+/*
+ * Measures a given record against a photographed strip.
+ *
+ *   plan     read
+ *   record   read; d + 1 bytes
+ *   symbols  read; n bytes
+ *   doubts   read; n bytes
+ *   result   the record's cost, margin, changed count and class; refusals 1 2 3 4 5 6 7 8 9
+ */
+traymark_reading traymark_measure_strip(const uint8_t *plan, size_t plan_len,
+                                        const uint8_t *record, size_t record_len,
+                                        const uint8_t *symbols, size_t symbols_len,
+                                        const uint8_t *doubts, size_t doubts_len);
+
+/*
+ * Reads a photographed strip: the one record that costs under R, or refusal 10 exactly where there is none.
+ *
+ *   plan     read
+ *   symbols  read; n bytes
+ *   doubts   read; n bytes
+ *   record   written whole where the number is 0; d + 1 bytes
+ *   result   that record's cost, margin, changed count and class; refusals 1 2 3 4 5 6 7 8 10
+ */
+traymark_reading traymark_read_strip(const uint8_t *plan, size_t plan_len,
+                                     const uint8_t *symbols, size_t symbols_len,
+                                     const uint8_t *doubts, size_t doubts_len,
+                                     uint8_t *record, size_t record_len);
+
+#ifdef __cplusplus
+}
+#endif
+
+#endif

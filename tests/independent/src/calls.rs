@@ -1,0 +1,160 @@
+//! The calls of document 01, for both codes.
+
+use crate::code::Code;
+use crate::cost::{changed, class, cost};
+use crate::exhaustive;
+use crate::field::Field;
+use crate::mark;
+use crate::plan::Plan;
+use crate::strip::Strip;
+use crate::{Found, FULL_DOUBT, UNREAD};
+
+/// What measuring and reading answer. Of a refusal everything but the number is 0.
+#[derive(Clone, Copy, Debug, Default, PartialEq, Eq)]
+pub struct Reading {
+    pub number: u32,
+    pub cost: u32,
+    pub margin: i32,
+    pub changed: u32,
+    pub class: u32,
+}
+
+impl Reading {
+    pub fn refused(number: u32) -> Reading {
+        Reading { number, ..Reading::default() }
+    }
+}
+
+/// Plans with at most as many records are read by going through all of them.
+pub const SEARCHED: u64 = 4096;
+
+pub fn check_plan(plan: &[u8]) -> u32 {
+    Plan::parse(plan).err().unwrap_or(0)
+}
+
+/// The places of all plans of the season.
+pub fn find_plan(file: &[u8], season: u16) -> Result<Vec<usize>, u32> {
+    if file.len() % 24 != 0 {
+        return Err(11);
+    }
+    let places: Vec<usize> =
+        (0..file.len()).step_by(24).filter(|&place| file[place..place + 2] == season.to_be_bytes()).collect();
+    if places.is_empty() {
+        return Err(12);
+    }
+    Ok(places)
+}
+
+pub fn write(code: Code, plan: &[u8], record: &[u8], mark: &mut [u8]) -> u32 {
+    match written(code, plan, record, mark.len()) {
+        Ok(word) => {
+            mark.copy_from_slice(&word);
+            0
+        }
+        Err(number) => number,
+    }
+}
+
+fn written(code: Code, plan: &[u8], record: &[u8], room: usize) -> Result<Vec<u8>, u32> {
+    let plan = Plan::parse(plan)?;
+    check_lengths(&[(record.len(), code.size(&plan)), (room, code.cells(&plan))])?;
+    check_record(&plan, record)?;
+    Ok(bytes(&code.word(&plan, &numbers(record))))
+}
+
+pub fn measure(code: Code, plan: &[u8], record: &[u8], symbols: &[u8], doubts: &[u8]) -> Reading {
+    measured(code, plan, record, symbols, doubts).unwrap_or_else(Reading::refused)
+}
+
+fn measured(code: Code, plan: &[u8], record: &[u8], symbols: &[u8], doubts: &[u8]) -> Result<Reading, u32> {
+    let plan = Plan::parse(plan)?;
+    check_photograph(code, &plan, symbols, doubts, record.len())?;
+    check_record(&plan, record)?;
+    Ok(reading(code, &plan, &numbers(record), &numbers(symbols), &numbers(doubts)))
+}
+
+pub fn read(code: Code, plan: &[u8], symbols: &[u8], doubts: &[u8], record: &mut [u8]) -> Reading {
+    match found(code, plan, symbols, doubts, record.len()) {
+        Ok((reading, found)) => {
+            record.copy_from_slice(&found);
+            reading
+        }
+        Err(number) => Reading::refused(number),
+    }
+}
+
+fn found(code: Code, plan: &[u8], symbols: &[u8], doubts: &[u8], room: usize) -> Result<(Reading, Vec<u8>), u32> {
+    let plan = Plan::parse(plan)?;
+    check_photograph(code, &plan, symbols, doubts, room)?;
+    let (symbols, doubts) = (numbers(symbols), numbers(doubts));
+    let found = match exhaustive::records(code, &plan, SEARCHED) {
+        Some(_) => by_search(code, &plan, &symbols, &doubts),
+        None => by_equations(code, &plan, &symbols, &doubts),
+    };
+    let record = found.ok_or(10u32)?.record;
+    Ok((reading(code, &plan, &record, &symbols, &doubts), bytes(&record)))
+}
+
+/// The record within the radius, by the method for small plans.
+pub fn by_search(code: Code, plan: &Plan, symbols: &[u32], doubts: &[u32]) -> Option<Found> {
+    let mut found = exhaustive::within(code, plan, symbols, doubts);
+    assert!(found.len() < 2, "two records within the radius: {found:?} of {plan:?}");
+    found.pop()
+}
+
+/// The record within the radius, by the method for large plans.
+pub fn by_equations(code: Code, plan: &Plan, symbols: &[u32], doubts: &[u32]) -> Option<Found> {
+    match code {
+        Code::Strip => {
+            let field = Field::new(plan.p);
+            let strip = Strip { field: &field, points: &plan.points, degree: plan.degree, full: FULL_DOUBT };
+            strip.nearest(symbols, doubts)
+        }
+        Code::Mark => mark::nearest(plan, symbols, doubts),
+    }
+}
+
+fn reading(code: Code, plan: &Plan, record: &[u32], symbols: &[u32], doubts: &[u32]) -> Reading {
+    let word = code.word(plan, record);
+    let cost = cost(FULL_DOUBT, symbols, doubts, &word);
+    let changed = changed(symbols, &word);
+    Reading { number: 0, cost, margin: code.radius(plan) as i32 - cost as i32, changed, class: class(changed) }
+}
+
+/// Refusals 6, 7 and 8.
+fn check_photograph(code: Code, plan: &Plan, symbols: &[u8], doubts: &[u8], record: usize) -> Result<(), u32> {
+    let cells = code.cells(plan);
+    check_lengths(&[(symbols.len(), cells), (doubts.len(), cells), (record, code.size(plan))])?;
+    if numbers(symbols).iter().any(|&symbol| symbol >= plan.p && symbol != UNREAD) {
+        return Err(7);
+    }
+    let wrong = |(&symbol, &doubt): (&u32, &u32)| doubt > FULL_DOUBT || symbol == UNREAD && doubt != FULL_DOUBT;
+    if numbers(symbols).iter().zip(&numbers(doubts)).any(wrong) {
+        return Err(8);
+    }
+    Ok(())
+}
+
+/// Refusal 6: pairs of the length that is there and the one that is owed.
+fn check_lengths(lengths: &[(usize, usize)]) -> Result<(), u32> {
+    if lengths.iter().any(|(is, owed)| is != owed) {
+        return Err(6);
+    }
+    Ok(())
+}
+
+/// Refusal 9.
+fn check_record(plan: &Plan, record: &[u8]) -> Result<(), u32> {
+    if numbers(record).iter().any(|&coefficient| coefficient >= plan.p) {
+        return Err(9);
+    }
+    Ok(())
+}
+
+pub fn numbers(bytes: &[u8]) -> Vec<u32> {
+    bytes.iter().map(|&byte| byte.into()).collect()
+}
+
+pub fn bytes(numbers: &[u32]) -> Vec<u8> {
+    numbers.iter().map(|&number| number as u8).collect()
+}

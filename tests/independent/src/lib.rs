@@ -1,0 +1,31 @@
+//! Document 01 once more, by other methods than those of the proved library: what the tests hold it against.
+//!
+//! Small plans are read by going through all their records (`exhaustive`), others by Berlekamp and Welch's linear
+//! equations at every level of doubt, for every number of errors (`strip`), and for marks one coefficient of Y at a time
+//! over that (`mark`). Everything is written for being seen to be right; nothing is written for speed.
+
+pub mod calls;
+pub mod code;
+pub mod cost;
+pub mod exhaustive;
+pub mod field;
+pub mod mark;
+pub mod plan;
+pub mod strip;
+
+pub use calls::{check_plan, find_plan, measure, read, write, Reading};
+pub use code::Code;
+pub use plan::Plan;
+
+/// The doubt of a cell that says nothing.
+pub const FULL_DOUBT: u32 = 100;
+
+/// The symbol of an unread cell. It is no value, as p is at most 251.
+pub const UNREAD: u32 = 255;
+
+/// A record and its cost.
+#[derive(Clone, Debug, PartialEq, Eq)]
+pub struct Found {
+    pub record: Vec<u32>,
+    pub cost: u32,
+}

@@ -1,0 +1,87 @@
+//! What was seen, so that tests that test nothing show.
+
+use crate::library::Call;
+use independent::{Code, Reading};
+use std::fmt;
+
+#[derive(Clone, Debug, Default)]
+pub struct Counts {
+    /// calls, each made through C and through Rust
+    pub calls: u64,
+    /// marks and strips read, or refused with 10
+    pub marks: u64,
+    pub strips: u64,
+    /// photographs that cost R - 1, R and R + 1 against the mark that they are of
+    pub below: u64,
+    pub at: u64,
+    pub above: u64,
+    /// marks and strips read by both of the independent methods
+    pub twice: u64,
+    /// answers by number, and accepted readings and measurements by class
+    pub numbers: [u64; 13],
+    pub classes: [u64; 4],
+}
+
+impl Counts {
+    pub fn answer(&mut self, call: Call, code: Code, reading: Reading) {
+        self.number(reading.number);
+        match (call, code, reading.number) {
+            (Call::Read, Code::Mark, 0 | 10) => self.marks += 1,
+            (Call::Read, Code::Strip, 0 | 10) => self.strips += 1,
+            _ => (),
+        }
+        if matches!(call, Call::Measure | Call::Read) && reading.number == 0 {
+            self.classes[reading.class as usize] += 1;
+        }
+    }
+
+    pub fn number(&mut self, number: u32) {
+        self.calls += 1;
+        self.numbers[number as usize] += 1;
+    }
+
+    pub fn add(&mut self, other: &Counts) {
+        self.calls += other.calls;
+        self.marks += other.marks;
+        self.strips += other.strips;
+        self.below += other.below;
+        self.at += other.at;
+        self.above += other.above;
+        self.twice += other.twice;
+        self.numbers.iter_mut().zip(other.numbers).for_each(|(sum, n)| *sum += n);
+        self.classes.iter_mut().zip(other.classes).for_each(|(sum, n)| *sum += n);
+    }
+
+    /// What should have been seen and was not.
+    pub fn missing(&self) -> Option<&'static str> {
+        [
+            (self.marks < 50_000, "fewer than 50,000 marks"),
+            (self.strips < 50_000, "fewer than 50,000 strips"),
+            ([self.below, self.at, self.above].into_iter().any(|n| n < 5_000), "few costs around the radius"),
+            (self.twice < 5_000, "few readings by both independent methods"),
+            (self.numbers.contains(&0), "a number that was never answered"),
+            (self.classes.contains(&0), "a class that was never answered"),
+        ]
+        .into_iter()
+        .find_map(|(missing, what)| missing.then_some(what))
+    }
+}
+
+impl fmt::Display for Counts {
+    fn fmt(&self, f: &mut fmt::Formatter<'_>) -> fmt::Result {
+        let list = |counts: &[u64]| counts.iter().map(u64::to_string).collect::<Vec<_>>().join(" ");
+        write!(
+            f,
+            "{} calls, {} marks, {} strips; costs R - 1, R, R + 1: {} {} {}; by both methods {}; by number {}; by class {}",
+            self.calls,
+            self.marks,
+            self.strips,
+            self.below,
+            self.at,
+            self.above,
+            self.twice,
+            list(&self.numbers),
+            list(&self.classes)
+        )
+    }
+}

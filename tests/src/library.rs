@@ -1,0 +1,243 @@
+//! The library's calls on lent buffers. Each is made twice, as `include/traymark.h` declares it and through the Rust
+//! wrapper; both must answer alike, and no byte beside what a call writes may change.
+
+use crate::counts::Counts;
+use crate::lent::Lent;
+use crate::random::Random;
+use independent::{Code, Reading};
+use traymark::ffi::{self, RawReading};
+use traymark::Refusal;
+
+/// All that a call on a plan can be given. `record` is the given record, or for reading the buffer for one.
+#[derive(Clone, Debug)]
+pub struct Arguments {
+    pub code: Code,
+    pub plan: Vec<u8>,
+    pub record: Vec<u8>,
+    pub symbols: Vec<u8>,
+    pub doubts: Vec<u8>,
+    pub mark: Vec<u8>,
+}
+
+/// The calls on a plan.
+#[derive(Clone, Copy, Debug, PartialEq, Eq)]
+pub enum Call {
+    Check,
+    Write,
+    Measure,
+    Read,
+}
+
+impl Call {
+    pub const ALL: [Call; 4] = [Call::Check, Call::Write, Call::Measure, Call::Read];
+}
+
+/// What a call answers, and what the buffer that it writes holds afterwards.
+#[derive(Clone, Debug, PartialEq, Eq)]
+pub struct Outcome {
+    pub reading: Reading,
+    pub buffer: Vec<u8>,
+}
+
+/// The library's outcome.
+pub fn outcome(call: Call, given: &Arguments, random: &mut Random) -> Result<Outcome, String> {
+    match call {
+        Call::Check => check(given, random),
+        Call::Write => write(given, random),
+        Call::Measure => measure(given, random),
+        Call::Read => read(given, random),
+    }
+}
+
+/// What document 01 says, by the independent decoder.
+pub fn expected(call: Call, given: &Arguments) -> Outcome {
+    let Arguments { code, plan, record, symbols, doubts, mark } = given;
+    match call {
+        Call::Check => Outcome { reading: Reading::refused(independent::check_plan(plan)), buffer: Vec::new() },
+        Call::Write => {
+            let mut buffer = mark.clone();
+            let number = independent::write(*code, plan, record, &mut buffer);
+            Outcome { reading: Reading::refused(number), buffer }
+        }
+        Call::Measure => {
+            let reading = independent::measure(*code, plan, record, symbols, doubts);
+            Outcome { reading, buffer: Vec::new() }
+        }
+        Call::Read => {
+            let mut buffer = record.clone();
+            let reading = independent::read(*code, plan, symbols, doubts, &mut buffer);
+            Outcome { reading, buffer }
+        }
+    }
+}
+
+/// Holds the library's outcome against the expected one, and returns it.
+pub fn hold(call: Call, given: &Arguments, random: &mut Random, counts: &mut Counts) -> Result<Outcome, String> {
+    let expected = expected(call, given);
+    let outcome = outcome(call, given, random).map_err(|what| format!("{call:?} {what}; {given:?}"))?;
+    if outcome != expected {
+        return Err(format!("{call:?} gave {outcome:?}, expected {expected:?}; {given:?}"));
+    }
+    counts.answer(call, given.code, outcome.reading);
+    Ok(outcome)
+}
+
+fn check(given: &Arguments, random: &mut Random) -> Result<Outcome, String> {
+    let plan = Lent::new(&given.plan, random);
+    let raw = unsafe { ffi::traymark_check_plan(plan.bytes().as_ptr(), plan.bytes().len()) };
+    alike(Reading::refused(raw), || refused(traymark::check_plan(plan.bytes())))?;
+    untouched(&[&plan])?;
+    Ok(Outcome { reading: Reading::refused(raw), buffer: Vec::new() })
+}
+
+fn write(given: &Arguments, random: &mut Random) -> Result<Outcome, String> {
+    let [plan, record] = [&given.plan, &given.record].map(|bytes| Lent::new(bytes, random));
+    let mut mark = Lent::new(&given.mark, random);
+    let (by_c, by_rust): (Write, WriteSafe) = match given.code {
+        Code::Strip => (ffi::traymark_write_strip, traymark::write_strip),
+        Code::Mark => (ffi::traymark_write_mark, traymark::write_mark),
+    };
+    let number = {
+        let (plan, record, mark) = (plan.bytes(), record.bytes(), mark.bytes_mut());
+        unsafe { by_c(plan.as_ptr(), plan.len(), record.as_ptr(), record.len(), mark.as_mut_ptr(), mark.len()) }
+    };
+    let outcome = Outcome { reading: Reading::refused(number), buffer: mark.bytes().to_vec() };
+    guarded(&mark)?;
+    mark.restore();
+    alike(outcome.reading, || refused(by_rust(plan.bytes(), record.bytes(), mark.bytes_mut())))?;
+    guarded(&mark)?;
+    untouched(&[&plan, &record])?;
+    same_buffer(&outcome, &mark)?;
+    Ok(outcome)
+}
+
+fn measure(given: &Arguments, random: &mut Random) -> Result<Outcome, String> {
+    let lent = [&given.plan, &given.record, &given.symbols, &given.doubts].map(|bytes| Lent::new(bytes, random));
+    let [plan, record, symbols, doubts] = [0, 1, 2, 3].map(|k| lent[k].bytes());
+    let (by_c, by_rust): (Measure, MeasureSafe) = match given.code {
+        Code::Strip => (ffi::traymark_measure_strip, traymark::measure_strip),
+        Code::Mark => (ffi::traymark_measure_mark, traymark::measure_mark),
+    };
+    let raw = unsafe {
+        by_c(
+            plan.as_ptr(),
+            plan.len(),
+            record.as_ptr(),
+            record.len(),
+            symbols.as_ptr(),
+            symbols.len(),
+            doubts.as_ptr(),
+            doubts.len(),
+        )
+    };
+    alike(reading(raw), || answered(by_rust(plan, record, symbols, doubts)))?;
+    untouched(&lent.each_ref())?;
+    Ok(Outcome { reading: reading(raw), buffer: Vec::new() })
+}
+
+fn read(given: &Arguments, random: &mut Random) -> Result<Outcome, String> {
+    let lent = [&given.plan, &given.symbols, &given.doubts].map(|bytes| Lent::new(bytes, random));
+    let [plan, symbols, doubts] = [0, 1, 2].map(|k| lent[k].bytes());
+    let mut record = Lent::new(&given.record, random);
+    let (by_c, by_rust): (Read, ReadSafe) = match given.code {
+        Code::Strip => (ffi::traymark_read_strip, traymark::read_strip),
+        Code::Mark => (ffi::traymark_read_mark, traymark::read_mark),
+    };
+    let buffer = record.bytes_mut();
+    let raw = unsafe {
+        by_c(
+            plan.as_ptr(),
+            plan.len(),
+            symbols.as_ptr(),
+            symbols.len(),
+            doubts.as_ptr(),
+            doubts.len(),
+            buffer.as_mut_ptr(),
+            buffer.len(),
+        )
+    };
+    let outcome = Outcome { reading: reading(raw), buffer: buffer.to_vec() };
+    guarded(&record)?;
+    record.restore();
+    alike(outcome.reading, || answered(by_rust(plan, symbols, doubts, record.bytes_mut())))?;
+    guarded(&record)?;
+    untouched(&lent.each_ref())?;
+    same_buffer(&outcome, &record)?;
+    Ok(outcome)
+}
+
+/// Finding a plan: the number, and the offset in the file.
+pub fn find(file: &[u8], season: u16, random: &mut Random) -> Result<(u32, usize), String> {
+    let file = Lent::new(file, random);
+    let bytes = file.bytes();
+    let mut offset = usize::MAX;
+    let number = unsafe { ffi::traymark_find_plan(bytes.as_ptr(), bytes.len(), season, &mut offset) };
+    if number == 0 && (offset > bytes.len() || bytes.len() - offset < traymark::PLAN_LENGTH) {
+        return Err(format!("found a plan at {offset}, beyond the file"));
+    }
+    let mut part: &[u8] = &[];
+    alike(Reading::refused(number), || refused(traymark::find_plan(bytes, season).map(|found| part = found)))?;
+    if number == 0 && part.as_ptr_range() != bytes[offset..offset + traymark::PLAN_LENGTH].as_ptr_range() {
+        return Err("the wrapper's part is not that part of the file".into());
+    }
+    untouched(&[&file])?;
+    Ok((number, offset))
+}
+
+type Write = unsafe extern "C" fn(*const u8, usize, *const u8, usize, *mut u8, usize) -> u32;
+type Measure =
+    unsafe extern "C" fn(*const u8, usize, *const u8, usize, *const u8, usize, *const u8, usize) -> RawReading;
+type Read = unsafe extern "C" fn(*const u8, usize, *const u8, usize, *const u8, usize, *mut u8, usize) -> RawReading;
+
+type WriteSafe = fn(&[u8], &[u8], &mut [u8]) -> Result<(), Refusal>;
+type MeasureSafe = fn(&[u8], &[u8], &[u8], &[u8]) -> Result<traymark::Reading, Refusal>;
+type ReadSafe = fn(&[u8], &[u8], &[u8], &mut [u8]) -> Result<traymark::Reading, Refusal>;
+
+fn reading(raw: RawReading) -> Reading {
+    let RawReading { number, cost, margin, changed, class } = raw;
+    Reading { number, cost, margin, changed, class }
+}
+
+fn refused(answer: Result<(), Refusal>) -> Reading {
+    Reading::refused(answer.err().map_or(0, Refusal::number))
+}
+
+fn answered(answer: Result<traymark::Reading, Refusal>) -> Reading {
+    match answer {
+        Ok(traymark::Reading { cost, margin, changed, class }) => Reading { number: 0, cost, margin, changed, class },
+        Err(refusal) => Reading::refused(refusal.number()),
+    }
+}
+
+/// The wrapper's answer is the call's. It is asked only where the number is one that it knows.
+fn alike(raw: Reading, wrapped: impl FnOnce() -> Reading) -> Result<(), String> {
+    if raw.number != 0 && Refusal::from_number(raw.number).is_none() {
+        return Err(format!("gave the number {}", raw.number));
+    }
+    let wrapped = wrapped();
+    if wrapped != raw {
+        return Err(format!("gave {raw:?}, and {wrapped:?} through the wrapper"));
+    }
+    Ok(())
+}
+
+fn same_buffer(outcome: &Outcome, lent: &Lent) -> Result<(), String> {
+    if lent.bytes() != outcome.buffer {
+        return Err(format!("left {:?}, and {:?} through the wrapper", outcome.buffer, lent.bytes()));
+    }
+    Ok(())
+}
+
+fn guarded(lent: &Lent) -> Result<(), String> {
+    if !lent.is_guarded() {
+        return Err("changed a byte beside the buffer that it writes".into());
+    }
+    Ok(())
+}
+
+fn untouched(lent: &[&Lent]) -> Result<(), String> {
+    if !lent.iter().all(|buffer| buffer.is_untouched()) {
+        return Err("changed a buffer that it only reads, or a byte beside it".into());
+    }
+    Ok(())
+}

@@ -1,0 +1,155 @@
+//! Photographs of a mark or strip that cost a chosen sum, damaged in many ways.
+
+use crate::random::Random;
+use independent::{Code, Plan, FULL_DOUBT, UNREAD};
+
+#[derive(Clone, Debug)]
+pub struct Photo {
+    pub symbols: Vec<u32>,
+    pub doubts: Vec<u32>,
+}
+
+/// Which cells are damaged first.
+#[derive(Clone, Copy)]
+enum Place {
+    Anywhere,
+    /// row by row
+    Rows,
+    /// column by column
+    Columns,
+    /// in a square that grows from a corner
+    Corner,
+    /// where the rival differs
+    Rival,
+}
+
+/// What a damaged cell costs.
+#[derive(Clone, Copy)]
+enum Harm {
+    /// sure errors: 200
+    Error,
+    /// unread, or of full doubt: 100
+    Loss,
+    /// right with some doubt
+    Doubt,
+    /// wrong with some doubt
+    DoubtfulError,
+    /// doubts 0, 1, 50, 99, 100, right and wrong
+    Few,
+    /// anything from 0 to 200
+    Any,
+}
+
+const PLACES: [Place; 5] = [Place::Anywhere, Place::Rows, Place::Columns, Place::Corner, Place::Rival];
+const HARMS: [Harm; 6] = [Harm::Error, Harm::Loss, Harm::Doubt, Harm::DoubtfulError, Harm::Few, Harm::Any];
+
+/// A photograph of the word that costs exactly so much against it. Wrong cells have the rival's value where that differs and
+/// `towards` says so, else any other.
+pub fn photograph(plan: &Plan, word: &[u32], rival: &[u32], target: u32, random: &mut Random) -> Photo {
+    let order = order(random.pick(&PLACES), plan.side(), word, rival, random);
+    let harm = random.pick(&HARMS);
+    let costs = costs(&order, harm, target, random);
+    let towards_rival = random.one_in(2);
+    let mut photo = Photo { symbols: Vec::new(), doubts: Vec::new() };
+    for (cell, &cost) in costs.iter().enumerate() {
+        let wrong = match towards_rival && rival[cell] != word[cell] {
+            true => rival[cell],
+            false => (word[cell] + random.between(1, plan.p - 1)) % plan.p,
+        };
+        let (symbol, doubt) = match cost {
+            FULL_DOUBT => (random.pick(&[UNREAD, UNREAD, word[cell], wrong]), FULL_DOUBT),
+            doubt if doubt < FULL_DOUBT => (word[cell], doubt),
+            _ => (wrong, 2 * FULL_DOUBT - cost),
+        };
+        photo.symbols.push(symbol);
+        photo.doubts.push(doubt);
+    }
+    photo
+}
+
+/// A photograph of nothing: any symbols, some of them unread, and any doubts or none.
+pub fn noise(code: Code, plan: &Plan, random: &mut Random) -> Photo {
+    let most = random.pick(&[0, 1, 50, FULL_DOUBT]);
+    let unread = random.between(2, 20) as usize;
+    let cell = |_| match random.one_in(unread) {
+        true => (UNREAD, FULL_DOUBT),
+        false => (random.between(0, plan.p - 1), random.between(0, most)),
+    };
+    let (symbols, doubts) = (0..code.cells(plan)).map(cell).unzip();
+    Photo { symbols, doubts }
+}
+
+/// Another mark, or strip, at a small distance: the word plus a multiple of a product of d factors (X - x) and (Y - y).
+/// With factors in X alone it differs in as few cells as two marks can.
+pub fn rival(code: Code, plan: &Plan, word: &[u32], random: &mut Random) -> Vec<u32> {
+    let n = plan.side();
+    let some = random.below(plan.degree + 1);
+    let in_y = match code {
+        Code::Strip => 0,
+        Code::Mark => random.pick(&[0, 0, plan.degree, some]),
+    };
+    let mut chosen = [0, 1].map(|_| (0..n).collect::<Vec<usize>>());
+    chosen.iter_mut().for_each(|points| random.shuffle(points));
+    let factor = random.between(1, plan.p - 1);
+    let product = |zeros: &[usize], k: usize| {
+        let difference = |&z: &usize| (plan.points[k] + plan.p - plan.points[z]) % plan.p;
+        zeros.iter().map(difference).fold(1, |product, term| product * term % plan.p)
+    };
+    let value = |cell: usize| {
+        let (row, column) = match code {
+            Code::Strip => (cell, 0),
+            Code::Mark => (cell / n, cell % n),
+        };
+        let x = product(&chosen[0][..plan.degree - in_y], row);
+        let y = product(&chosen[1][..in_y], column);
+        (word[cell] + factor * x % plan.p * y) % plan.p
+    };
+    (0..word.len()).map(value).collect()
+}
+
+/// The cells in the order of damage.
+fn order(place: Place, n: usize, word: &[u32], rival: &[u32], random: &mut Random) -> Vec<usize> {
+    let mut lines: Vec<usize> = (0..n).collect();
+    random.shuffle(&mut lines);
+    let flip = [0, 1].map(|_| random.one_in(2));
+    let from_corner = |k: usize, flip: bool| if flip { n - 1 - k } else { k };
+    let rank = |cell: usize| match place {
+        Place::Anywhere => 0,
+        Place::Rows => lines[cell / n],
+        Place::Columns => lines[cell % n],
+        Place::Corner => from_corner(cell / n, flip[0]).max(from_corner(cell % n, flip[1])),
+        Place::Rival => usize::from(word[cell] == rival[cell]),
+    };
+    let mut cells: Vec<usize> = (0..word.len()).collect();
+    random.shuffle(&mut cells);
+    cells.sort_by_key(|&cell| rank(cell));
+    cells
+}
+
+/// What each cell costs, so that the sum is the target: by the harm, and where that is not enough up to 200 each.
+fn costs(order: &[usize], harm: Harm, target: u32, random: &mut Random) -> Vec<u32> {
+    let mut costs = vec![0; order.len()];
+    let mut left = target;
+    for &cell in order {
+        costs[cell] = harm_cost(harm, random).min(left);
+        left -= costs[cell];
+    }
+    for &cell in order {
+        let more = (2 * FULL_DOUBT - costs[cell]).min(left);
+        costs[cell] += more;
+        left -= more;
+    }
+    assert_eq!(left, 0, "a photograph can cost so much");
+    costs
+}
+
+fn harm_cost(harm: Harm, random: &mut Random) -> u32 {
+    match harm {
+        Harm::Error => 200,
+        Harm::Loss => 100,
+        Harm::Doubt => random.between(1, 99),
+        Harm::DoubtfulError => random.between(101, 199),
+        Harm::Few => random.pick(&[0, 1, 50, 99, 100, 101, 150, 199, 200]),
+        Harm::Any => random.between(0, 200),
+    }
+}

@@ -1,0 +1,40 @@
+//! Random sound plans and records.
+
+use crate::random::Random;
+use independent::{Code, Plan};
+
+/// The primes of the random plans.
+pub const PRIMES: [u32; 9] = [2, 3, 5, 7, 11, 13, 101, 241, 251];
+
+/// Every p of `PRIMES` with every n and d, n = p among them: (p, n, d).
+pub fn shapes() -> Vec<(u32, usize, usize)> {
+    let sides = |p: u32| 1..=(p as usize).min(16);
+    PRIMES
+        .into_iter()
+        .flat_map(|p| sides(p).map(move |n| (p, n)))
+        .flat_map(|(p, n)| (0..n).map(move |d| (p, n, d)))
+        .collect()
+}
+
+/// A plan of that shape with any season and any points; point 0 is often among them.
+pub fn plan((p, n, degree): (u32, usize, usize), random: &mut Random) -> Plan {
+    let mut points: Vec<u32> = (0..p).collect();
+    random.shuffle(&mut points);
+    if random.one_in(2) {
+        let zero = points.iter().position(|&point| point == 0).expect("0 is below p");
+        points.swap(0, zero);
+    }
+    points.truncate(n);
+    points.sort_unstable();
+    Plan { season: random.next() as u16, p, degree, points }
+}
+
+/// Any record; often with few coefficients that are not 0.
+pub fn record(code: Code, plan: &Plan, random: &mut Random) -> Vec<u32> {
+    let sparse = random.one_in(4);
+    let mut coefficient = |_| match sparse && !random.one_in(4) {
+        true => 0,
+        false => random.below(plan.p as usize) as u32,
+    };
+    (0..code.size(plan)).map(&mut coefficient).collect()
+}

@@ -1,0 +1,116 @@
+//! Photographs of planted records: each is written, measured and read. Whatever costs under the radius must come back, and
+//! where something costs exactly the radius nothing may: two records cost twice the radius together at least.
+
+use independent::calls::{by_equations, bytes, numbers, SEARCHED};
+use independent::{cost::cost, exhaustive, Code, Plan, FULL_DOUBT};
+use traymark_tests::counts::Counts;
+use traymark_tests::library::{hold, Arguments, Call, Outcome};
+use traymark_tests::photo::{noise, photograph, rival, Photo};
+use traymark_tests::plans;
+use traymark_tests::random::Random;
+
+pub fn mark(seed: u64, random: &mut Random, counts: &mut Counts) -> Result<(), String> {
+    shaped(Code::Mark, seed, random, counts)
+}
+
+pub fn strip(seed: u64, random: &mut Random, counts: &mut Counts) -> Result<(), String> {
+    shaped(Code::Strip, seed, random, counts)
+}
+
+/// p 251, n 16 and d 0, 7, 15.
+pub fn large_mark(seed: u64, random: &mut Random, counts: &mut Counts) -> Result<(), String> {
+    let plan = plans::plan((251, 16, [0, 7, 15][seed as usize % 3]), random);
+    planted(Code::Mark, &plan, random, counts)
+}
+
+/// The seeds go through all shapes of plans.
+fn shaped(code: Code, seed: u64, random: &mut Random, counts: &mut Counts) -> Result<(), String> {
+    let shapes = plans::shapes();
+    let plan = plans::plan(shapes[seed as usize % shapes.len()], random);
+    planted(code, &plan, random, counts)
+}
+
+fn planted(code: Code, plan: &Plan, random: &mut Random, counts: &mut Counts) -> Result<(), String> {
+    let record = plans::record(code, plan, random);
+    let word = code.word(plan, &record);
+    let rival = rival(code, plan, &word, random);
+    let photo = match random.one_in(16) {
+        true => noise(code, plan, random),
+        false => photograph(plan, &word, &rival, target(code, plan, random, counts), random),
+    };
+    let given = Arguments {
+        code,
+        plan: plan.bytes().to_vec(),
+        record: bytes(&record),
+        symbols: bytes(&photo.symbols),
+        doubts: bytes(&photo.doubts),
+        mark: random.bytes(code.cells(plan)),
+    };
+    hold(Call::Write, &given, random, counts)?;
+    hold(Call::Measure, &given, random, counts)?;
+    let other = Arguments { record: bytes(&plans::record(code, plan, random)), ..given.clone() };
+    hold(Call::Measure, &other, random, counts)?;
+    let given = Arguments { record: random.bytes(code.size(plan)), ..given };
+    let outcome = hold(Call::Read, &given, random, counts)?;
+    both_methods(code, plan, &photo, &outcome, counts)?;
+    theory(code, plan, &photo, &[&word, &rival], &outcome).map_err(|what| format!("{what}; {given:?}"))
+}
+
+/// What the photograph is to cost against the planted record: often at the radius or one beside it.
+fn target(code: Code, plan: &Plan, random: &mut Random, counts: &mut Counts) -> u32 {
+    let radius = code.radius(plan);
+    let most = 2 * FULL_DOUBT * code.cells(plan) as u32;
+    match random.below(16) {
+        0..=3 => {
+            counts.below += 1;
+            radius - 1
+        }
+        4..=5 => {
+            counts.at += 1;
+            radius
+        }
+        6..=7 => {
+            counts.above += 1;
+            radius + 1
+        }
+        8 => 0,
+        9 => radius / 2,
+        10 => random.between(radius, most.min(radius + radius / 2)),
+        11 => random.between(radius - 10.min(radius), radius),
+        _ => random.between(0, radius),
+    }
+}
+
+/// Small plans are read by search, and here by equations too.
+fn both_methods(code: Code, plan: &Plan, photo: &Photo, outcome: &Outcome, counts: &mut Counts) -> Result<(), String> {
+    if exhaustive::records(code, plan, SEARCHED).is_none() {
+        return Ok(());
+    }
+    counts.twice += 1;
+    let searched = (outcome.reading.number == 0).then(|| numbers(&outcome.buffer));
+    let solved = by_equations(code, plan, &photo.symbols, &photo.doubts).map(|found| found.record);
+    if searched != solved {
+        return Err(format!("the independent methods give {searched:?} and {solved:?}; {plan:?} {photo:?}"));
+    }
+    Ok(())
+}
+
+/// What must be answered by the theory alone, where one of these words costs the radius or less.
+fn theory(code: Code, plan: &Plan, photo: &Photo, words: &[&[u32]], outcome: &Outcome) -> Result<(), String> {
+    let radius = code.radius(plan);
+    let reading = outcome.reading;
+    for word in words {
+        let cost = cost(FULL_DOUBT, &photo.symbols, &photo.doubts, word);
+        let returned = reading.number == 0 && code.word(plan, &numbers(&outcome.buffer)) == *word;
+        if cost < radius && !(returned && reading.cost == cost) {
+            return Err(format!("a record costs {cost}, under the radius, and the reading is {outcome:?}"));
+        }
+        if cost == radius && reading.number != 10 {
+            return Err(format!("a record costs the radius, and the reading is {outcome:?}"));
+        }
+        if cost > radius && returned {
+            return Err(format!("a record costs {cost}, above the radius, and was returned: {outcome:?}"));
+        }
+    }
+    Ok(())
+}

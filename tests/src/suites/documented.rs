@@ -1,0 +1,150 @@
+//! Cases a to l of document 01, word for word, and some more whose answers were worked out by hand.
+
+use independent::{Code, Reading};
+use traymark_tests::counts::Counts;
+use traymark_tests::library::{hold, Arguments, Call, Outcome};
+use traymark_tests::random::Random;
+
+pub const CASES: u64 = 28;
+
+/// A call and its outcome as the document says it.
+struct Row {
+    call: Call,
+    given: Arguments,
+    outcome: Outcome,
+}
+
+pub fn case(seed: u64, random: &mut Random, counts: &mut Counts) -> Result<(), String> {
+    let rows = rows();
+    if rows.len() as u64 != CASES {
+        return Err(format!("there are {} rows", rows.len()));
+    }
+    let Row { call, given, outcome } = &rows[seed as usize];
+    let answer = hold(*call, given, random, counts)?;
+    if answer != *outcome {
+        return Err(format!("{call:?} gave {answer:?}, the document says {outcome:?}; {given:?}"));
+    }
+    Ok(())
+}
+
+const MARK: [u8; 9] = [6, 1, 5, 0, 2, 6, 2, 4, 1];
+const SURE: [u8; 9] = [0; 9];
+
+#[rustfmt::skip]
+fn rows() -> Vec<Row> {
+    use Code::{Mark, Strip};
+    let plan_a = plan(7, 3, 1, &[1, 2, 4]);
+    let plan_h = plan(2, 1, 0, &[0]);
+    let plan_j = plan(2, 2, 1, &[0, 1]);
+    let case_c = [0, 1, 5, 0, 2, 6, 2, 4, 0];
+    let case_d = [0, 0, 0, 0, 2, 6, 2, 4, 1];
+    let case_e = [1, 1, 1, 0, 0, 0, 0, 0, 0];
+    let (unread_5, unread_6) = (unread(5), unread(6));
+    vec![
+        write(Mark, &plan_a, &[3, 1, 2], 9, Ok(&MARK)), // a
+        read(Mark, &plan_a, &MARK, &SURE, Ok((&[3, 1, 2], [0, 600, 0, 0]))), // b
+        read(Mark, &plan_a, &case_c, &SURE, Ok((&[3, 1, 2], [400, 200, 2, 1]))), // c
+        read(Mark, &plan_a, &case_d, &SURE, Err((10, 3))), // d
+        read(Mark, &plan_a, &case_d, &case_e, Ok((&[3, 1, 2], [597, 3, 3, 1]))), // e
+        read(Mark, &plan_a, &unread_5.0, &unread_5.1, Ok((&[3, 1, 2], [500, 100, 5, 2]))), // f
+        read(Mark, &plan_a, &unread_6.0, &unread_6.1, Err((10, 3))), // g
+        read(Mark, &plan_h, &[1], &[99], Ok((&[1], [99, 1, 0, 0]))), // h
+        read(Mark, &plan_h, &[1], &[100], Err((10, 1))), // i
+        read(Mark, &plan_j, &[1, 0, 0, 0], &[0; 4], Err((10, 3))), // j
+        measure(Mark, &plan_j, &[0, 0, 0], &[1, 0, 0, 0], &[0; 4], [200, 0, 1, 1]),
+        measure(Mark, &plan_j, &[1, 1, 0], &[1, 0, 0, 0], &[0; 4], [200, 0, 1, 1]),
+        measure(Mark, &plan_a, &[3, 1, 2], &case_d, &SURE, [600, 0, 3, 1]), // k
+        check(&plan(9, 3, 1, &[1, 2, 4]), 2), // l
+        check(&plan(7, 3, 3, &[1, 2, 4]), 4),
+        check(&plan(7, 3, 1, &[1, 1, 4]), 5),
+        check(&plan_a, 0),
+        check(&plan(9, 0, 3, &[1, 1, 4]), 2),
+        // a strip, written, with its last cell unread, and measured
+        write(Strip, &plan_a, &[3, 1], 3, Ok(&[4, 5, 0])),
+        read(Strip, &plan_a, &[4, 5, 255], &[0, 0, 100], Ok((&[3, 1], [100, 100, 1, 1]))),
+        read(Strip, &plan_a, &[4, 5, 1], &[0, 0, 0], Err((10, 2))),
+        measure(Strip, &plan_a, &[3, 1], &[4, 5, 1], &[0, 0, 0], [200, 0, 1, 1]),
+        measure(Strip, &plan_a, &[0, 0], &[4, 5, 0], &[0, 0, 50], [450, -250, 2, 1]),
+        // the buffer has not its length; a coefficient is p
+        write(Mark, &plan_a, &[3, 1, 7], 8, Err(6)),
+        write(Mark, &plan_a, &[3, 1, 7], 9, Err(9)),
+        // total degree 2 with point 0, X^2 first and Y^2 last: 1 + 2 X^2 + 3 XY + 4 Y^2
+        write(Mark, &plan(5, 3, 2, &[0, 1, 2]), &[1, 0, 0, 2, 3, 4], 9, Ok(&[1, 0, 2, 3, 0, 0, 4, 4, 2])),
+        // the highest margin, and the lowest
+        read(Mark, &plan_16(0), &[7; 256], &[0; 256], Ok((&[7], [0, 25_600, 0, 0]))),
+        measure(Mark, &plan_16(15), &[0; 136], &[7; 256], &[0; 256], [51_200, -49_600, 256, 3]),
+    ]
+}
+
+/// A plan of season 12.
+fn plan(p: u8, n: u8, d: u8, points: &[u8]) -> Vec<u8> {
+    let mut plan = vec![0, 12, p, n, d];
+    plan.extend_from_slice(points);
+    plan.resize(24, 0);
+    plan
+}
+
+/// p 251, sixteen points.
+fn plan_16(d: u8) -> Vec<u8> {
+    plan(251, 16, d, &[0, 1, 2, 3, 5, 8, 13, 21, 34, 55, 89, 144, 233, 240, 249, 250])
+}
+
+/// The mark of case a with its first cells unread, and its doubts.
+fn unread(cells: usize) -> ([u8; 9], [u8; 9]) {
+    let (mut symbols, mut doubts) = (MARK, SURE);
+    symbols[..cells].fill(255);
+    doubts[..cells].fill(100);
+    (symbols, doubts)
+}
+
+/// Buffers are filled with 9s, so that "unchanged" is seen.
+fn nines(length: usize) -> Vec<u8> {
+    vec![9; length]
+}
+
+fn given(code: Code, plan: &[u8]) -> Arguments {
+    let empty = Vec::new;
+    Arguments { code, plan: plan.to_vec(), record: empty(), symbols: empty(), doubts: empty(), mark: empty() }
+}
+
+fn said([cost, margin, changed, class]: [i32; 4]) -> Reading {
+    Reading { number: 0, cost: cost as u32, margin, changed: changed as u32, class: class as u32 }
+}
+
+fn check(plan: &[u8], number: u32) -> Row {
+    let outcome = Outcome { reading: Reading::refused(number), buffer: Vec::new() };
+    Row { call: Call::Check, given: given(Code::Mark, plan), outcome }
+}
+
+fn write(code: Code, plan: &[u8], record: &[u8], room: usize, result: Result<&[u8], u32>) -> Row {
+    let outcome = match result {
+        Ok(mark) => Outcome { reading: Reading::refused(0), buffer: mark.to_vec() },
+        Err(number) => Outcome { reading: Reading::refused(number), buffer: nines(room) },
+    };
+    let given = Arguments { record: record.to_vec(), mark: nines(room), ..given(code, plan) };
+    Row { call: Call::Write, given, outcome }
+}
+
+/// The answer is D, margin, changed and class.
+fn measure(code: Code, plan: &[u8], record: &[u8], symbols: &[u8], doubts: &[u8], answer: [i32; 4]) -> Row {
+    let outcome = Outcome { reading: said(answer), buffer: Vec::new() };
+    let [record, symbols, doubts] = [record, symbols, doubts].map(<[u8]>::to_vec);
+    Row { call: Call::Measure, given: Arguments { record, symbols, doubts, ..given(code, plan) }, outcome }
+}
+
+/// The record and its answer, or the refusal and the length of the buffer, which is then unchanged.
+fn read(
+    code: Code,
+    plan: &[u8],
+    symbols: &[u8],
+    doubts: &[u8],
+    result: Result<(&[u8], [i32; 4]), (u32, usize)>,
+) -> Row {
+    let outcome = match result {
+        Ok((record, answer)) => Outcome { reading: said(answer), buffer: record.to_vec() },
+        Err((number, room)) => Outcome { reading: Reading::refused(number), buffer: nines(room) },
+    };
+    let [symbols, doubts] = [symbols, doubts].map(<[u8]>::to_vec);
+    let record = nines(outcome.buffer.len());
+    Row { call: Call::Read, given: Arguments { record, symbols, doubts, ..given(code, plan) }, outcome }
+}

@@ -1,0 +1,46 @@
+//! Every buffer of every call empty, one short, one long, and far too long.
+
+use super::faults::sound;
+use independent::Code;
+use traymark_tests::counts::Counts;
+use traymark_tests::library::{hold, Arguments, Call};
+use traymark_tests::random::Random;
+
+pub fn case(seed: u64, random: &mut Random, counts: &mut Counts) -> Result<(), String> {
+    let code = [Code::Strip, Code::Mark][seed as usize % 2];
+    let (_, given) = sound(code, random);
+    for choose in [plan, record, symbols, doubts, mark] {
+        let length = choose(&mut given.clone()).len();
+        for other in [0, 1, length - 1, length, length + 1, 2 * length, 1000] {
+            let mut given = given.clone();
+            choose(&mut given).resize(other, 0);
+            for call in Call::ALL {
+                let number = hold(call, &given, random, counts)?.reading.number;
+                if other == length && number != 0 {
+                    return Err(format!("{call:?} gave {number}; {given:?}"));
+                }
+            }
+        }
+    }
+    Ok(())
+}
+
+fn plan(given: &mut Arguments) -> &mut Vec<u8> {
+    &mut given.plan
+}
+
+fn record(given: &mut Arguments) -> &mut Vec<u8> {
+    &mut given.record
+}
+
+fn symbols(given: &mut Arguments) -> &mut Vec<u8> {
+    &mut given.symbols
+}
+
+fn doubts(given: &mut Arguments) -> &mut Vec<u8> {
+    &mut given.doubts
+}
+
+fn mark(given: &mut Arguments) -> &mut Vec<u8> {
+    &mut given.mark
+}

@@ -1,0 +1,55 @@
+//! Random bytes as plans, records and photographs, of any length or of the right one, and photographs of nothing.
+
+use independent::calls::bytes;
+use independent::{Code, Plan};
+use traymark_tests::counts::Counts;
+use traymark_tests::library::{hold, Arguments, Call};
+use traymark_tests::photo::noise;
+use traymark_tests::plans::{plan, shapes};
+use traymark_tests::random::Random;
+
+pub fn case(_: u64, random: &mut Random, counts: &mut Counts) -> Result<(), String> {
+    let code = random.pick(&[Code::Strip, Code::Mark]);
+    let sound = plan(random.pick(&shapes()), random);
+    let given = match random.below(4) {
+        0 => of_any_length(code, random),
+        1 => of_right_length(code, &sound, random.bytes(24), random),
+        2 => of_right_length(code, &sound, sound.bytes().to_vec(), random),
+        _ => {
+            let photo = noise(code, &sound, random);
+            let [symbols, doubts] = [photo.symbols, photo.doubts].map(|numbers| bytes(&numbers));
+            Arguments { symbols, doubts, ..of_right_length(code, &sound, sound.bytes().to_vec(), random) }
+        }
+    };
+    for call in Call::ALL {
+        hold(call, &given, random, counts)?;
+    }
+    Ok(())
+}
+
+fn of_any_length(code: Code, random: &mut Random) -> Arguments {
+    let any = random.below(300);
+    let plan_length = random.pick(&[24, 24, 23, 25, any]);
+    let plan = random.bytes(plan_length);
+    let [record, symbols, doubts, mark] = [300; 4].map(|bound| {
+        let length = random.below(bound);
+        random.bytes(length)
+    });
+    Arguments { code, plan, record, symbols, doubts, mark }
+}
+
+/// Bytes near the bounds of p and of the doubts are frequent.
+fn of_right_length(code: Code, sound: &Plan, plan: Vec<u8>, random: &mut Random) -> Arguments {
+    let p = sound.p as u8;
+    let mut any = |length: usize| -> Vec<u8> {
+        let byte = |_| match random.below(16) {
+            0 => random.pick(&[0, p - 1, p, 99, 100, 101, 254, 255]),
+            1 => random.byte(),
+            _ => random.below(p.min(101).into()) as u8,
+        };
+        (0..length).map(byte).collect()
+    };
+    let (cells, size) = (code.cells(sound), code.size(sound));
+    let [record, symbols, doubts, mark] = [size, cells, cells, cells].map(|length| any(length));
+    Arguments { code, plan, record, symbols, doubts, mark }
+}
