@@ -1,6 +1,6 @@
 //! Holds the eight calls against the independent decoder, the theory and document 01's own cases.
 //!
-//! `calls` runs everything. `calls SUITE SEED` runs one case again; a failure names both.
+//! `calls` runs everything, `calls SUITE` one suite, `calls SUITE SEED` one case; a failure names both.
 
 mod suites;
 
@@ -13,8 +13,9 @@ fn main() -> ExitCode {
     let words: Vec<String> = std::env::args().skip(1).collect();
     let result = match words.as_slice() {
         [] => run(&suites).and_then(covered),
-        [name, seed] => again(&suites, name, seed),
-        _ => Err(vec!["usage: calls [SUITE SEED]".into()]),
+        [name] => named(&suites, name).and_then(|suite| run(std::slice::from_ref(suite))),
+        [name, seed] => named(&suites, name).and_then(|suite| again(suite, seed)),
+        _ => Err(vec!["usage: calls [SUITE [SEED]]".into()]),
     };
     match result {
         Ok(counts) => {
@@ -35,8 +36,11 @@ fn covered(counts: Counts) -> Result<Counts, Vec<String>> {
     }
 }
 
-fn again(suites: &[Suite], name: &str, seed: &str) -> Result<Counts, Vec<String>> {
-    let suite = suites.iter().find(|suite| suite.name == name).ok_or(vec![format!("no suite {name}")])?;
+fn named<'a>(suites: &'a [Suite], name: &str) -> Result<&'a Suite, Vec<String>> {
+    suites.iter().find(|suite| suite.name == name).ok_or(vec![format!("no suite {name}")])
+}
+
+fn again(suite: &Suite, seed: &str) -> Result<Counts, Vec<String>> {
     let seed = seed.parse().map_err(|_| vec![format!("no seed {seed}")])?;
     let mut counts = Counts::default();
     suite.run(seed, &mut counts).map_err(|failure| vec![failure])?;

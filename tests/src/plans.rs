@@ -26,7 +26,7 @@ pub fn plan((p, n, degree): (u32, usize, usize), random: &mut Random) -> Plan {
     }
     points.truncate(n);
     points.sort_unstable();
-    Plan { season: random.next() as u16, p, degree, points }
+    Plan { season: random.number() as u16, p, degree, points }
 }
 
 /// Any record; often with few coefficients that are not 0.

@@ -11,7 +11,7 @@ impl Random {
         Random((state ^ (state >> 31)) | 1)
     }
 
-    pub fn next(&mut self) -> u64 {
+    pub fn number(&mut self) -> u64 {
         self.0 ^= self.0 >> 12;
         self.0 ^= self.0 << 25;
         self.0 ^= self.0 >> 27;
@@ -20,7 +20,7 @@ impl Random {
 
     /// A number below the bound.
     pub fn below(&mut self, bound: usize) -> usize {
-        ((self.next() >> 32) * bound as u64 >> 32) as usize
+        (((self.number() >> 32) * bound as u64) >> 32) as usize
     }
 
     /// A number from the first to the last, both included.
@@ -29,7 +29,7 @@ impl Random {
     }
 
     pub fn byte(&mut self) -> u8 {
-        (self.next() >> 56) as u8
+        (self.number() >> 56) as u8
     }
 
     pub fn bytes(&mut self, length: usize) -> Vec<u8> {

@@ -34,7 +34,7 @@ pub fn check_plan(plan: &[u8]) -> u32 {
 
 /// The places of all plans of the season.
 pub fn find_plan(file: &[u8], season: u16) -> Result<Vec<usize>, u32> {
-    if file.len() % 24 != 0 {
+    if !file.len().is_multiple_of(24) {
         return Err(11);
     }
     let places: Vec<usize> =

@@ -59,7 +59,7 @@ impl Plan {
 
 /// A number from 2 that is no product of two smaller ones.
 pub fn is_prime(p: u8) -> bool {
-    p >= 2 && (2..p).all(|a| p % a != 0)
+    p >= 2 && !(2..p).any(|a| p.is_multiple_of(a))
 }
 
 #[cfg(test)]

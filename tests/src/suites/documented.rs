@@ -132,14 +132,10 @@ fn measure(code: Code, plan: &[u8], record: &[u8], symbols: &[u8], doubts: &[u8]
     Row { call: Call::Measure, given: Arguments { record, symbols, doubts, ..given(code, plan) }, outcome }
 }
 
-/// The record and its answer, or the refusal and the length of the buffer, which is then unchanged.
-fn read(
-    code: Code,
-    plan: &[u8],
-    symbols: &[u8],
-    doubts: &[u8],
-    result: Result<(&[u8], [i32; 4]), (u32, usize)>,
-) -> Row {
+/// The record and its answer; or the refusal and the length of the buffer, which is then unchanged.
+type Said<'a> = Result<(&'a [u8], [i32; 4]), (u32, usize)>;
+
+fn read(code: Code, plan: &[u8], symbols: &[u8], doubts: &[u8], result: Said) -> Row {
     let outcome = match result {
         Ok((record, answer)) => Outcome { reading: said(answer), buffer: record.to_vec() },
         Err((number, room)) => Outcome { reading: Reading::refused(number), buffer: nines(room) },

@@ -35,6 +35,6 @@ fn season(file: &[u8], random: &mut Random) -> u16 {
         0 if file.len() >= 24 => two(random.below(file.len() / 24) * 24),
         1 if file.len() >= 24 => two(random.below(file.len() / 24) * 24).swap_bytes(),
         2 if file.len() >= 2 => two(random.below(file.len() - 1)),
-        _ => random.next() as u16,
+        _ => random.number() as u16,
     }
 }

@@ -50,6 +50,6 @@ fn of_right_length(code: Code, sound: &Plan, plan: Vec<u8>, random: &mut Random)
         (0..length).map(byte).collect()
     };
     let (cells, size) = (code.cells(sound), code.size(sound));
-    let [record, symbols, doubts, mark] = [size, cells, cells, cells].map(|length| any(length));
+    let [record, symbols, doubts, mark] = [size, cells, cells, cells].map(&mut any);
     Arguments { code, plan, record, symbols, doubts, mark }
 }

@@ -1,0 +1,160 @@
+/* The eight calls from C: the layout of the answer, the cases of document 01, and the refusals at empty buffers. */
+#include <stdio.h>
+#include <stdlib.h>
+#include <string.h>
+
+#include "traymark.h"
+
+_Static_assert(sizeof(traymark_reading) == 20, "five numbers of four bytes");
+_Static_assert(offsetof(traymark_reading, number) == 0, "number");
+_Static_assert(offsetof(traymark_reading, cost) == 4, "cost");
+_Static_assert(offsetof(traymark_reading, margin) == 8, "margin");
+_Static_assert(offsetof(traymark_reading, changed) == 12, "changed");
+_Static_assert(offsetof(traymark_reading, class_) == 16, "class_");
+
+static int tests;
+
+static void expect(int holds, const char *what, int line)
+{
+    tests++;
+    if (!holds) {
+        printf("calls.c:%d: FAILED: %s\n", line, what);
+        exit(1);
+    }
+}
+
+#define EXPECT(condition) expect((condition), #condition, __LINE__)
+
+/* a byte string with its length, as a call takes it; a whole array */
+#define ALL(array) (array), sizeof(array)
+#define NINES {9, 9, 9, 9, 9, 9, 9, 9, 9}
+
+static const uint8_t plan_a[24] = {0, 12, 7, 3, 1, 1, 2, 4};
+static const uint8_t plan_h[24] = {0, 12, 2, 1, 0, 0};
+static const uint8_t plan_j[24] = {0, 12, 2, 2, 1, 0, 1};
+static const uint8_t record_a[3] = {3, 1, 2};
+static const uint8_t mark_a[9] = {6, 1, 5, 0, 2, 6, 2, 4, 1};
+static const uint8_t case_c[9] = {0, 1, 5, 0, 2, 6, 2, 4, 0};
+static const uint8_t case_d[9] = {0, 0, 0, 0, 2, 6, 2, 4, 1};
+static const uint8_t sure[9] = {0};
+
+static int is(traymark_reading r, uint32_t cost, int32_t margin, uint32_t changed, uint32_t class_)
+{
+    return r.number == 0 && r.cost == cost && r.margin == margin && r.changed == changed && r.class_ == class_;
+}
+
+static int refused(traymark_reading r, uint32_t number)
+{
+    return r.number == number && r.cost == 0 && r.margin == 0 && r.changed == 0 && r.class_ == 0;
+}
+
+/* reads a photograph under plan A into a record of 9s, and says whether it is the record of case a, or still the 9s */
+static traymark_reading read_a(const uint8_t symbols[9], const uint8_t doubts[9])
+{
+    uint8_t record[3] = {9, 9, 9};
+    traymark_reading r = traymark_read_mark(ALL(plan_a), symbols, 9, doubts, 9, ALL(record));
+    EXPECT(memcmp(record, r.number == 0 ? record_a : (const uint8_t[3]){9, 9, 9}, 3) == 0);
+    return r;
+}
+
+static void check_plan(void)
+{
+    uint8_t plan[24];
+    memcpy(plan, plan_a, 24);
+    EXPECT(traymark_check_plan(ALL(plan)) == 0);
+    EXPECT(traymark_check_plan(plan, 23) == 1);
+    EXPECT(traymark_check_plan(plan, 0) == 1);
+    plan[2] = 9;
+    EXPECT(traymark_check_plan(ALL(plan)) == 2);
+    plan[2] = 7, plan[3] = 8;
+    EXPECT(traymark_check_plan(ALL(plan)) == 3);
+    plan[3] = 3, plan[4] = 3;
+    EXPECT(traymark_check_plan(ALL(plan)) == 4);
+    plan[4] = 1, plan[6] = 1;
+    EXPECT(traymark_check_plan(ALL(plan)) == 5);
+    plan[23] = 1;
+    EXPECT(traymark_check_plan(ALL(plan)) == 1);
+}
+
+static void find_plan(void)
+{
+    uint8_t file[72] = {0, 30};
+    size_t offset = 77;
+    memcpy(file + 24, plan_a, 24);
+    file[48] = 12;
+    EXPECT(traymark_find_plan(ALL(file), 12, &offset) == 0 && offset == 24);
+    EXPECT(traymark_find_plan(ALL(file), 30, &offset) == 0 && offset == 0);
+    EXPECT(traymark_find_plan(ALL(file), 12 * 256, &offset) == 0 && offset == 48);
+    EXPECT(traymark_find_plan(ALL(file), 13, &offset) == 12 && offset == 0);
+    offset = 77;
+    EXPECT(traymark_find_plan(file, 71, 12, &offset) == 11 && offset == 0);
+    EXPECT(traymark_find_plan(file, 0, 12, &offset) == 12 && offset == 0);
+}
+
+static void write_and_measure(void)
+{
+    uint8_t mark[9] = NINES, strip[3] = {9, 9, 9};
+    const uint8_t nines[9] = NINES, far[3] = {3, 1, 7};
+    EXPECT(traymark_write_mark(ALL(plan_a), ALL(far), mark, 8) == 6);
+    EXPECT(traymark_write_mark(ALL(plan_a), ALL(far), ALL(mark)) == 9);
+    EXPECT(memcmp(mark, nines, 9) == 0);
+    EXPECT(traymark_write_mark(ALL(plan_a), ALL(record_a), ALL(mark)) == 0);
+    EXPECT(memcmp(mark, mark_a, 9) == 0); /* a */
+    EXPECT(traymark_write_strip(ALL(plan_a), record_a, 2, strip, 0) == 6);
+    EXPECT(traymark_write_strip(ALL(plan_a), record_a, 2, ALL(strip)) == 0);
+    EXPECT(strip[0] == 4 && strip[1] == 5 && strip[2] == 0);
+
+    EXPECT(is(traymark_measure_mark(ALL(plan_a), ALL(record_a), ALL(case_d), ALL(sure)), 600, 0, 3, 1)); /* k */
+    EXPECT(refused(traymark_measure_mark(ALL(plan_a), ALL(far), ALL(case_d), ALL(sure)), 9));
+    EXPECT(refused(traymark_measure_mark(ALL(plan_a), ALL(record_a), case_d, 8, ALL(sure)), 6));
+    EXPECT(is(traymark_measure_strip(ALL(plan_a), record_a, 2, case_d, 3, sure, 3), 400, -200, 2, 1));
+    EXPECT(refused(traymark_measure_strip(ALL(plan_a), record_a, 2, case_d, 3, sure, 4), 6));
+}
+
+static void read_marks(void)
+{
+    uint8_t symbols[9], doubts[9] = {1, 1, 1}, record[3] = {9, 9, 9};
+    const uint8_t one[4] = {1}, doubt[2] = {99, 100};
+    EXPECT(is(read_a(mark_a, sure), 0, 600, 0, 0));     /* b */
+    EXPECT(is(read_a(case_c, sure), 400, 200, 2, 1));   /* c */
+    EXPECT(refused(read_a(case_d, sure), 10));          /* d */
+    EXPECT(is(read_a(case_d, doubts), 597, 3, 3, 1));   /* e */
+    memcpy(symbols, mark_a, 9);
+    memset(symbols, 255, 5), memset(doubts, 100, 5);
+    EXPECT(is(read_a(symbols, doubts), 500, 100, 5, 2)); /* f */
+    symbols[5] = 255;
+    EXPECT(refused(read_a(symbols, doubts), 8));
+    doubts[5] = 100;
+    EXPECT(refused(read_a(symbols, doubts), 10)); /* g */
+    symbols[8] = 7;
+    EXPECT(refused(read_a(symbols, doubts), 7));
+    EXPECT(refused(traymark_read_mark(ALL(plan_h), one, 1, doubt + 1, 1, record, 1), 10)); /* i */
+    EXPECT(record[0] == 9);
+    EXPECT(is(traymark_read_mark(ALL(plan_h), one, 1, doubt, 1, record, 1), 99, 1, 0, 0)); /* h */
+    EXPECT(record[0] == 1 && record[1] == 9);
+    EXPECT(refused(traymark_read_mark(ALL(plan_j), one, 4, sure, 4, ALL(record)), 10)); /* j */
+    EXPECT(refused(traymark_read_mark(ALL(plan_j), one, 4, sure, 4, record, 2), 6));
+}
+
+static void read_strips(void)
+{
+    const uint8_t symbols[3] = {4, 5, 255}, doubts[3] = {0, 0, 100};
+    uint8_t record[3] = {9, 9, 9};
+    EXPECT(is(traymark_read_strip(ALL(plan_a), ALL(symbols), ALL(doubts), record, 2), 100, 100, 1, 1));
+    EXPECT(record[0] == 3 && record[1] == 1 && record[2] == 9);
+    EXPECT(refused(traymark_read_strip(ALL(plan_a), ALL(symbols), sure, 3, record, 2), 8));
+    EXPECT(refused(traymark_read_strip(ALL(plan_a), ALL(symbols), ALL(doubts), record, 0), 6));
+    EXPECT(refused(traymark_read_strip(plan_a, 0, symbols, 0, doubts, 0, record, 0), 1));
+    EXPECT(record[0] == 3 && record[1] == 1 && record[2] == 9);
+}
+
+int main(void)
+{
+    check_plan();
+    find_plan();
+    write_and_measure();
+    read_marks();
+    read_strips();
+    printf("calls.c: ok: %d tests\n", tests);
+    return 0;
+}
