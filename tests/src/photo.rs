@@ -10,8 +10,8 @@ pub struct Photo {
 }
 
 /// Which cells are damaged first.
-#[derive(Clone, Copy)]
-enum Place {
+#[derive(Clone, Copy, Debug)]
+pub enum Place {
     Anywhere,
     /// row by row
     Rows,
@@ -24,8 +24,8 @@ enum Place {
 }
 
 /// What a damaged cell costs.
-#[derive(Clone, Copy)]
-enum Harm {
+#[derive(Clone, Copy, Debug)]
+pub enum Harm {
     /// sure errors: 200
     Error,
     /// unread, or of full doubt: 100
@@ -43,28 +43,39 @@ enum Harm {
 const PLACES: [Place; 5] = [Place::Anywhere, Place::Rows, Place::Columns, Place::Corner, Place::Rival];
 const HARMS: [Harm; 6] = [Harm::Error, Harm::Loss, Harm::Doubt, Harm::DoubtfulError, Harm::Few, Harm::Any];
 
-/// A photograph of the word that costs exactly so much against it. Wrong cells have the rival's value where that differs and
-/// `towards` says so, else any other.
+/// A way to damage a mark. Where `towards_rival` says so, wrong cells have the rival's value.
+#[derive(Clone, Copy, Debug)]
+pub struct Damage {
+    pub place: Place,
+    pub harm: Harm,
+    pub towards_rival: bool,
+}
+
+/// A photograph of the word that costs exactly so much against it, damaged in any way.
 pub fn photograph(plan: &Plan, word: &[u32], rival: &[u32], target: u32, random: &mut Random) -> Photo {
-    let order = order(random.pick(&PLACES), plan.side(), word, rival, random);
+    let place = random.pick(&PLACES);
     let harm = random.pick(&HARMS);
-    let costs = costs(&order, harm, target, random);
-    let towards_rival = random.one_in(2);
-    let mut photo = Photo { symbols: Vec::new(), doubts: Vec::new() };
-    for (cell, &cost) in costs.iter().enumerate() {
-        let wrong = match towards_rival && rival[cell] != word[cell] {
+    let damage = Damage { place, harm, towards_rival: random.one_in(2) };
+    damaged(plan, word, rival, target, damage, random)
+}
+
+/// A photograph of the word that costs exactly so much against it, damaged in this way.
+pub fn damaged(plan: &Plan, word: &[u32], rival: &[u32], target: u32, damage: Damage, random: &mut Random) -> Photo {
+    let order = order(damage.place, plan.side(), word, rival, random);
+    let costs = costs(&order, damage.harm, target, random);
+    let cell = |(cell, cost): (usize, u32)| {
+        let wrong = match damage.towards_rival && rival[cell] != word[cell] {
             true => rival[cell],
             false => (word[cell] + random.between(1, plan.p - 1)) % plan.p,
         };
-        let (symbol, doubt) = match cost {
+        match cost {
             FULL_DOUBT => (random.pick(&[UNREAD, UNREAD, word[cell], wrong]), FULL_DOUBT),
             doubt if doubt < FULL_DOUBT => (word[cell], doubt),
             _ => (wrong, 2 * FULL_DOUBT - cost),
-        };
-        photo.symbols.push(symbol);
-        photo.doubts.push(doubt);
-    }
-    photo
+        }
+    };
+    let (symbols, doubts) = costs.into_iter().enumerate().map(cell).unzip();
+    Photo { symbols, doubts }
 }
 
 /// A photograph of nothing: any symbols, some of them unread, and any doubts or none.

@@ -1,0 +1,68 @@
+//! Streams of distinct marks: repeating one mark would hide mispredicted branches.
+
+use independent::calls::bytes;
+use independent::Code;
+use traymark_tests::photo::{damaged, noise, rival, Damage, Harm, Place};
+use traymark_tests::plans;
+use traymark_tests::random::Random;
+
+#[derive(Debug)]
+pub struct Mark {
+    pub plan: [u8; 24],
+    pub record: Vec<u8>,
+    pub symbols: Vec<u8>,
+    pub doubts: Vec<u8>,
+}
+
+#[derive(Clone, Copy)]
+pub enum Kind {
+    Clean,
+    Errors,
+    Doubts,
+    Rivals,
+    Noise,
+}
+
+impl Kind {
+    pub const ALL: [Kind; 5] = [Kind::Clean, Kind::Errors, Kind::Doubts, Kind::Rivals, Kind::Noise];
+
+    pub fn name(self) -> &'static str {
+        match self {
+            Kind::Clean => "clean",
+            Kind::Errors => "half the radius of sure errors",
+            Kind::Doubts => "under the radius, mixed doubts",
+            Kind::Rivals => "rows of rival records",
+            Kind::Noise => "noise",
+        }
+    }
+}
+
+/// So many marks of one plan.
+pub fn marks(shape: (u32, usize, usize), kind: Kind, number: usize) -> Vec<Mark> {
+    let random = &mut Random::new(kind as u64);
+    let plan = plans::plan(shape, random);
+    let radius = Code::Mark.radius(&plan);
+    let mut mark = || {
+        let record = plans::record(Code::Mark, &plan, random);
+        let word = Code::Mark.word(&plan, &record);
+        let rival = rival(Code::Mark, &plan, &word, random);
+        let mut photo = |cost: u32, place: Place, harm: Harm| {
+            let damage = Damage { place, harm, towards_rival: matches!(kind, Kind::Rivals) };
+            damaged(&plan, &word, &rival, cost, damage, random)
+        };
+        let photo = match kind {
+            Kind::Clean => photo(0, Place::Anywhere, Harm::Error),
+            Kind::Errors => photo(radius / 2, Place::Anywhere, Harm::Error),
+            Kind::Doubts => photo(radius - 1, Place::Anywhere, Harm::Any),
+            Kind::Rivals => photo(radius - 1, Place::Rows, Harm::Error),
+            Kind::Noise => noise(Code::Mark, &plan, random),
+        };
+        Mark {
+            plan: plan.bytes(),
+            record: bytes(&record),
+            symbols: bytes(&photo.symbols),
+            doubts: bytes(&photo.doubts),
+        }
+    };
+    (0..number).map(|_| mark()).collect()
+}
