@@ -1,7 +1,8 @@
 //! Who is timed.
 
 use crate::stream::Mark;
-use independent::Code;
+use independent::calls::{by_equations, bytes, numbers};
+use independent::{Code, Plan};
 
 /// Room for any record and any mark.
 const RECORD: usize = 136;
@@ -32,14 +33,17 @@ pub const LIBRARY: Contender = Contender {
     },
 };
 
-pub const INDEPENDENT: Contender = Contender {
-    name: "independent",
+/// The tests' decoder, by Berlekamp and Welch's equations for small plans too.
+pub const EQUATIONS: Contender = Contender {
+    name: "equations",
     marks: 100,
     write: |plan, record, mark| independent::write(Code::Mark, plan, record, mark),
     measure: |plan, record, symbols, doubts| independent::measure(Code::Mark, plan, record, symbols, doubts).cost,
     read: |plan, symbols, doubts, record| {
-        let reading = independent::read(Code::Mark, plan, symbols, doubts, record);
-        reading.number + reading.cost
+        let Ok(plan) = Plan::parse(plan) else { return 1 };
+        let Some(found) = by_equations(Code::Mark, &plan, &numbers(symbols), &numbers(doubts)) else { return 10 };
+        record.copy_from_slice(&bytes(&found.record));
+        found.cost
     },
 };
 

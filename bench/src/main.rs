@@ -1,12 +1,12 @@
-//! Times of reading, writing and measuring beside those of the independent decoder, over streams of distinct marks.
+//! Times of reading, writing and measuring beside those of the tests' decoder, over streams of distinct marks.
 //!
-//! Each line is a plan and a stream: the median microseconds of a call, and how many times longer the independent decoder
+//! Each line is a plan and a stream: the median microseconds of a call, and how many times longer the other decoder
 //! takes. Absolute times move with the machine; compare lines of one run. `bench N` takes at most N marks of each stream.
 
 mod contender;
 mod stream;
 
-use contender::{Contender, INDEPENDENT, LIBRARY};
+use contender::{Contender, EQUATIONS, LIBRARY};
 use std::time::Instant;
 use stream::{Kind, Mark};
 
@@ -16,11 +16,11 @@ const PLANS: [(u32, usize, usize); 5] = [(251, 16, 0), (251, 16, 7), (251, 16, 1
 fn main() {
     let most = std::env::args().nth(1).map_or(usize::MAX, |word| word.parse().expect("a number of marks"));
     let number = LIBRARY.marks.min(most);
-    println!("{:<14} {:<34} {:>12} {:>12} {:>8}", "plan", "call and marks", LIBRARY.name, INDEPENDENT.name, "ratio");
+    println!("{:<14} {:<34} {:>12} {:>12} {:>8}", "plan", "call and marks", LIBRARY.name, EQUATIONS.name, "ratio");
     for shape in PLANS {
         for kind in Kind::ALL {
             let marks = stream::marks(shape, kind, number);
-            agree(&marks[..INDEPENDENT.marks.min(number)]);
+            agree(&marks[..EQUATIONS.marks.min(number)]);
             line(shape, &format!("read {}", kind.name()), &marks, |contender, mark| contender.read(mark));
         }
         let marks = stream::marks(shape, Kind::Clean, number);
@@ -32,10 +32,10 @@ fn main() {
 
 /// Prints the medians of a call over a stream.
 fn line(shape: (u32, usize, usize), what: &str, marks: &[Mark], call: fn(&Contender, &Mark) -> u32) {
-    let [library, independent] = [LIBRARY, INDEPENDENT].map(|contender| median(&contender, marks, call));
+    let [library, equations] = [LIBRARY, EQUATIONS].map(|contender| median(&contender, marks, call));
     let (p, n, d) = shape;
     let plan = format!("p {p} n {n} d {d}");
-    println!("{plan:<14} {what:<34} {library:>12.2} {independent:>12.2} {:>8.1}", independent / library);
+    println!("{plan:<14} {what:<34} {library:>12.2} {equations:>12.2} {:>8.1}", equations / library);
 }
 
 /// The median time of a call in microseconds.
@@ -55,7 +55,7 @@ fn median(contender: &Contender, marks: &[Mark], call: fn(&Contender, &Mark) -> 
 /// Both read alike, so that both did the work.
 fn agree(marks: &[Mark]) {
     for mark in marks {
-        let [library, independent] = [LIBRARY, INDEPENDENT].map(|contender| contender.read(mark));
-        assert_eq!(library, independent, "{mark:?}");
+        let [library, equations] = [LIBRARY, EQUATIONS].map(|contender| contender.read(mark));
+        assert_eq!(library, equations, "{mark:?}");
     }
 }
