@@ -74,3 +74,21 @@ impl fmt::Display for Refusal {
 }
 
 impl Error for Refusal {}
+
+#[cfg(test)]
+mod tests {
+    use super::*;
+
+    #[test]
+    fn numbers_go_from_1_to_12() {
+        let numbers: Vec<u32> = Refusal::ALL.iter().map(|refusal| refusal.number()).collect();
+        assert_eq!(numbers, (1..=12).collect::<Vec<u32>>());
+        assert!(Refusal::ALL.iter().all(|&refusal| Refusal::from_number(refusal.number()) == Some(refusal)));
+        assert_eq!([0, 13].map(Refusal::from_number), [None, None]);
+    }
+
+    #[test]
+    fn messages_name_the_number() {
+        assert_eq!(Refusal::NoRecord.to_string(), "refusal 10: no record is within the radius");
+    }
+}

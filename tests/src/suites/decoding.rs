@@ -2,7 +2,9 @@
 //! where something costs exactly the radius nothing may: two records cost twice the radius together at least.
 
 use independent::calls::{by_equations, bytes, numbers, SEARCHED};
-use independent::{cost::cost, exhaustive, Code, Plan, FULL_DOUBT};
+use independent::cost::cost;
+use independent::plan::is_prime;
+use independent::{exhaustive, Code, Plan, FULL_DOUBT};
 use traymark_tests::counts::Counts;
 use traymark_tests::library::{hold, Arguments, Call, Outcome};
 use traymark_tests::photo::{noise, photograph, rival, Photo};
@@ -21,6 +23,15 @@ pub fn strip(seed: u64, random: &mut Random, counts: &mut Counts) -> Result<(), 
 pub fn large_mark(seed: u64, random: &mut Random, counts: &mut Counts) -> Result<(), String> {
     let plan = plans::plan((251, 16, [0, 7, 15][seed as usize % 3]), random);
     planted(Code::Mark, &plan, random, counts)
+}
+
+/// Every prime, as division differs between them.
+pub fn every_prime(seed: u64, random: &mut Random, counts: &mut Counts) -> Result<(), String> {
+    let primes: Vec<u8> = (2..=251).filter(|&p| is_prime(p)).collect();
+    let p = primes[seed as usize % primes.len()];
+    let n = random.between(1, p.min(16).into()) as usize;
+    let plan = plans::plan((p.into(), n, random.below(n)), random);
+    planted(random.pick(&[Code::Strip, Code::Mark]), &plan, random, counts)
 }
 
 /// The seeds go through all shapes of plans.

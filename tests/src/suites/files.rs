@@ -21,11 +21,14 @@ pub fn case(_: u64, random: &mut Random, counts: &mut Counts) -> Result<(), Stri
     Ok(())
 }
 
-/// Few different bytes, so that seasons repeat and stand at other places too.
+/// Mostly few different bytes, so that seasons repeat and stand at other places too; else any bytes.
 fn file(random: &mut Random) -> Vec<u8> {
-    let bytes = random.pick(&[&[0, 12][..], &[0, 1, 2, 3], &[7, 255, 30]]);
     let length = random.below(12) * 24 + random.pick(&[0, 0, 0, 1, 12, 23]);
-    (0..length).map(|_| random.pick(bytes)).collect()
+    let few = random.pick(&[&[0, 12][..], &[0, 1, 2, 3], &[7, 255, 30], &[]]);
+    match few {
+        [] => random.bytes(length),
+        few => (0..length).map(|_| random.pick(few)).collect(),
+    }
 }
 
 /// One of the file's own, one with its bytes the other way round, one that stands elsewhere in the file, or any.

@@ -18,6 +18,7 @@ pub fn all() -> Vec<Suite> {
         Suite { name: "large-marks", cases: 3_000, case: decoding::large_mark },
         Suite { name: "marks", cases: 52_000, case: decoding::mark },
         Suite { name: "strips", cases: 60_000, case: decoding::strip },
+        Suite { name: "every-prime", cases: 54 * 20, case: decoding::every_prime },
         Suite { name: "plan-fields", cases: 256, case: plans::fields },
         Suite { name: "plan-bytes", cases: 60, case: plans::bytes },
         Suite { name: "files", cases: 20_000, case: files::case },
