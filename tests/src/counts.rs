@@ -1,6 +1,6 @@
 //! What was seen, so that tests that test nothing show.
 
-use crate::library::Call;
+use crate::calls::Call;
 use independent::{Code, Reading};
 use std::fmt;
 

@@ -1,5 +1,6 @@
 //! What the tests of the calls and of the program share: random plans, photographs of a chosen cost, lent buffers.
 
+pub mod calls;
 pub mod counts;
 pub mod lent;
 pub mod library;

@@ -81,3 +81,14 @@ extern "C" {
         record_len: usize,
     ) -> RawReading;
 }
+
+/// Writing a mark or a strip: plan, record, mark.
+pub type Write = unsafe extern "C" fn(*const u8, usize, *const u8, usize, *mut u8, usize) -> u32;
+
+/// Measuring: plan, record, symbols, doubts.
+pub type Measure =
+    unsafe extern "C" fn(*const u8, usize, *const u8, usize, *const u8, usize, *const u8, usize) -> RawReading;
+
+/// Reading: plan, symbols, doubts, record.
+pub type Read =
+    unsafe extern "C" fn(*const u8, usize, *const u8, usize, *const u8, usize, *mut u8, usize) -> RawReading;

@@ -91,19 +91,17 @@ pub fn read_strip(plan: &[u8], symbols: &[u8], doubts: &[u8], record: &mut [u8])
 
 // Safety of the calls below: every pointer and its length come from one slice, and a `&mut` slice overlaps no other.
 
-type Write = unsafe extern "C" fn(*const u8, usize, *const u8, usize, *mut u8, usize) -> u32;
-
-type Measure =
-    unsafe extern "C" fn(*const u8, usize, *const u8, usize, *const u8, usize, *const u8, usize) -> ffi::RawReading;
-
-type Read =
-    unsafe extern "C" fn(*const u8, usize, *const u8, usize, *const u8, usize, *mut u8, usize) -> ffi::RawReading;
-
-fn write_by(call: Write, plan: &[u8], record: &[u8], mark: &mut [u8]) -> Result<(), Refusal> {
+fn write_by(call: ffi::Write, plan: &[u8], record: &[u8], mark: &mut [u8]) -> Result<(), Refusal> {
     accepted(unsafe { call(plan.as_ptr(), plan.len(), record.as_ptr(), record.len(), mark.as_mut_ptr(), mark.len()) })
 }
 
-fn measure_by(call: Measure, plan: &[u8], record: &[u8], symbols: &[u8], doubts: &[u8]) -> Result<Reading, Refusal> {
+fn measure_by(
+    call: ffi::Measure,
+    plan: &[u8],
+    record: &[u8],
+    symbols: &[u8],
+    doubts: &[u8],
+) -> Result<Reading, Refusal> {
     reading(unsafe {
         call(
             plan.as_ptr(),
@@ -118,7 +116,7 @@ fn measure_by(call: Measure, plan: &[u8], record: &[u8], symbols: &[u8], doubts:
     })
 }
 
-fn read_by(call: Read, plan: &[u8], symbols: &[u8], doubts: &[u8], record: &mut [u8]) -> Result<Reading, Refusal> {
+fn read_by(call: ffi::Read, plan: &[u8], symbols: &[u8], doubts: &[u8], record: &mut [u8]) -> Result<Reading, Refusal> {
     reading(unsafe {
         call(
             plan.as_ptr(),

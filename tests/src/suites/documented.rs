@@ -1,8 +1,8 @@
 //! Cases a to l of document 01, word for word, and some more whose answers were worked out by hand.
 
 use independent::{Code, Reading};
+use traymark_tests::calls::{hold, Arguments, Call, Outcome};
 use traymark_tests::counts::Counts;
-use traymark_tests::library::{hold, Arguments, Call, Outcome};
 use traymark_tests::random::Random;
 
 pub const CASES: u64 = 28;

@@ -2,8 +2,8 @@
 
 use independent::calls::bytes;
 use independent::{Code, Plan, UNREAD};
+use traymark_tests::calls::{hold, Arguments, Call};
 use traymark_tests::counts::Counts;
-use traymark_tests::library::{hold, Arguments, Call};
 use traymark_tests::plans;
 use traymark_tests::random::Random;
 

@@ -3,8 +3,8 @@
 use independent::calls::bytes;
 use independent::plan::is_prime;
 use independent::{Code, Plan};
+use traymark_tests::calls::{hold, Arguments, Call};
 use traymark_tests::counts::Counts;
-use traymark_tests::library::{hold, Arguments, Call};
 use traymark_tests::photo::{photograph, rival};
 use traymark_tests::plans;
 use traymark_tests::random::Random;

@@ -2,8 +2,8 @@
 
 use super::faults::sound;
 use independent::Code;
+use traymark_tests::calls::{hold, Arguments, Call};
 use traymark_tests::counts::Counts;
-use traymark_tests::library::{hold, Arguments, Call};
 use traymark_tests::random::Random;
 
 pub fn case(seed: u64, random: &mut Random, counts: &mut Counts) -> Result<(), String> {

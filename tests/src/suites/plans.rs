@@ -1,8 +1,8 @@
 //! Checking plans: every p with many n and d, and every value of every byte of sound plans.
 
 use independent::Code;
+use traymark_tests::calls::{hold, Arguments, Call};
 use traymark_tests::counts::Counts;
-use traymark_tests::library::{hold, Arguments, Call};
 use traymark_tests::plans::{plan, shapes};
 use traymark_tests::random::Random;
 
