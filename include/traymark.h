@@ -2,6 +2,7 @@
  * traymark: square marks on fruit trays, written and read.
  *
  * Eight calls over plain bytes. Each is proved to give what its comment says, for any bytes and any lengths.
+ * `make lib` writes the library, and `cc -Iinclude program.c target/staticlib/libtraymark.a` links a program with it.
  *
  * Words
  *   plan     24 bytes: season (2, high byte first), p, n, d, sixteen points, three zeros. p is a prime from 2 to 251,

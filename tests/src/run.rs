@@ -2,6 +2,7 @@
 
 use crate::counts::Counts;
 use crate::random::Random;
+use std::panic::{catch_unwind, AssertUnwindSafe};
 use std::sync::atomic::{AtomicUsize, Ordering};
 use std::sync::Mutex;
 use std::thread;
@@ -19,7 +20,9 @@ impl Suite {
     pub fn run(&self, seed: u64, counts: &mut Counts) -> Result<(), String> {
         let name = self.name.bytes().fold(0, |hash: u64, byte| hash.wrapping_mul(0x100_0000_01b3) ^ u64::from(byte));
         let mut random = Random::new(name.wrapping_add(seed));
-        (self.case)(seed, &mut random, counts).map_err(|what| format!("{} {seed}: {what}", self.name))
+        let case = AssertUnwindSafe(|| (self.case)(seed, &mut random, counts));
+        let result = catch_unwind(case).unwrap_or(Err("panicked".into()));
+        result.map_err(|what| format!("suite {}, seed {seed}: {what}", self.name))
     }
 }
 

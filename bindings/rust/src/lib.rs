@@ -3,6 +3,9 @@
 //! Plans, records, marks, strips and photographs are plain bytes; `include/traymark.h` says what each holds. A call that
 //! writes takes the buffer to write into, of the exact length; a refusal changes no byte of it.
 //!
+//! The package links `libtraymark.a` from the folder that the variable `TRAYMARK_LIB_DIR` names when it is built, else from
+//! the repository's `target/staticlib`, where `make lib` writes it.
+//!
 //! ```
 //! let plan = [0, 12, 7, 3, 1, 1, 2, 4, 0, 0, 0, 0, 0, 0, 0, 0, 0, 0, 0, 0, 0, 0, 0, 0];
 //! let mut mark = [0; 9];
