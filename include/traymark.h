@@ -9,8 +9,8 @@
  *            n (1 to 16, at most p) the number of points, d (0 to n - 1) the degree; the first n points are below p and
  *            strictly rising, the other point bytes 0. Point 0 may be used.
  *   record   the coefficients of a polynomial, each below p. Of a mark: K = (d + 1)(d + 2) / 2 bytes, a polynomial in X
- *            and Y, by total degree from 0 to d and within one degree by rising power of Y. Of a strip: K = d + 1 bytes,
- *            a polynomial in X, lowest power first.
+ *            and Y, by total degree from 0 to d and within one degree by rising power of Y. Of a strip: K = d + 1
+ *            bytes, a polynomial in X, lowest power first.
  *   mark     N = n * n bytes: at i * n + j the polynomial's value modulo p for X the i-th point and Y the j-th.
  *   strip    N = n bytes: at i the polynomial's value modulo p for X the i-th point.
  *   symbols  N bytes of a photograph: each below p, or 255 for an unread cell.
@@ -73,8 +73,8 @@ uint32_t traymark_check_plan(const uint8_t *plan, size_t plan_len);
  * Only the season bytes are compared; the plan found is not checked. An empty file has no plan.
  *
  *   file     read
- *   offset   always written: where the number is 0, the place of the plan in the file, a multiple of 24, so that the plan
- *            is the 24 bytes from file + *offset; else 0. Where several plans have the season it may be any of them.
+ *   offset   always written: where the number is 0, the place of the plan in the file, a multiple of 24, so that the
+ *            plan is the 24 bytes from file + *offset; else 0. Where several plans have the season it may be any of them.
  *   result   0; refusals 11 12
  */
 uint32_t traymark_find_plan(const uint8_t *file, size_t file_len, uint16_t season, size_t *offset);

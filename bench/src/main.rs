@@ -1,7 +1,8 @@
 //! Times of reading, writing and measuring beside those of the tests' decoder, over streams of distinct marks.
 //!
 //! Each line is a plan and a stream: the median microseconds of a call, and how many times longer the other decoder
-//! takes. Absolute times move with the machine; compare lines of one run. `bench N` takes at most N marks of each stream.
+//! takes. Absolute times move with the machine; compare lines of one run. `bench N` takes at most N marks of each
+//! stream.
 
 mod contender;
 mod stream;

@@ -1,4 +1,5 @@
-//! The inputs: document 01's cases with what it says that they print, and others with what the independent decoder says.
+//! The inputs: document 01's cases with what it says that they print, and others with what the independent decoder
+//! says.
 
 use crate::printed::printed;
 use independent::calls::bytes;

@@ -1,10 +1,10 @@
 //! Square marks on fruit trays, written and read: a safe wrapper over the proved static library.
 //!
-//! Plans, records, marks, strips and photographs are plain bytes; `include/traymark.h` says what each holds. A call that
-//! writes takes the buffer to write into, of the exact length; a refusal changes no byte of it.
+//! Plans, records, marks, strips and photographs are plain bytes; `include/traymark.h` says what each holds. A call
+//! that writes takes the buffer to write into, of the exact length; a refusal changes no byte of it.
 //!
-//! The package links `libtraymark.a` from the folder that the variable `TRAYMARK_LIB_DIR` names when it is built, else from
-//! the repository's `target/staticlib`, where `make lib` writes it.
+//! The package links `libtraymark.a` from the folder that the variable `TRAYMARK_LIB_DIR` names when it is built,
+//! else from the repository's `target/staticlib`, where `make lib` writes it.
 //!
 //! ```
 //! let plan = [0, 12, 7, 3, 1, 1, 2, 4, 0, 0, 0, 0, 0, 0, 0, 0, 0, 0, 0, 0, 0, 0, 0, 0];
@@ -52,8 +52,8 @@ pub fn check_plan(plan: &[u8]) -> Result<(), Refusal> {
     accepted(unsafe { ffi::traymark_check_plan(plan.as_ptr(), plan.len()) })
 }
 
-/// A plan of the season: 24 bytes of `file` itself, at a multiple of 24; any of them where several have the season. Only
-/// the season bytes are compared; the plan is not checked. Refusals 11 and 12.
+/// A plan of the season: 24 bytes of `file` itself, at a multiple of 24; any of them where several have the season.
+/// Only the season bytes are compared; the plan is not checked. Refusals 11 and 12.
 pub fn find_plan(file: &[u8], season: u16) -> Result<&[u8], Refusal> {
     let mut offset = 0;
     accepted(unsafe { ffi::traymark_find_plan(file.as_ptr(), file.len(), season, &mut offset) })?;
@@ -70,8 +70,8 @@ pub fn measure_mark(plan: &[u8], record: &[u8], symbols: &[u8], doubts: &[u8]) -
     measure_by(ffi::traymark_measure_mark, plan, record, symbols, doubts)
 }
 
-/// Reads a photographed mark: the one record within the radius goes into `record`. Refusals 1 to 8, and 10 exactly where
-/// no record is within the radius.
+/// Reads a photographed mark: the one record within the radius goes into `record`. Refusals 1 to 8, and 10 exactly
+/// where no record is within the radius.
 pub fn read_mark(plan: &[u8], symbols: &[u8], doubts: &[u8], record: &mut [u8]) -> Result<Reading, Refusal> {
     read_by(ffi::traymark_read_mark, plan, symbols, doubts, record)
 }
@@ -86,8 +86,8 @@ pub fn measure_strip(plan: &[u8], record: &[u8], symbols: &[u8], doubts: &[u8]) 
     measure_by(ffi::traymark_measure_strip, plan, record, symbols, doubts)
 }
 
-/// Reads a photographed strip: the one record within the radius goes into `record`. Refusals 1 to 8, and 10 exactly where
-/// no record is within the radius.
+/// Reads a photographed strip: the one record within the radius goes into `record`. Refusals 1 to 8, and 10 exactly
+/// where no record is within the radius.
 pub fn read_strip(plan: &[u8], symbols: &[u8], doubts: &[u8], record: &mut [u8]) -> Result<Reading, Refusal> {
     read_by(ffi::traymark_read_strip, plan, symbols, doubts, record)
 }

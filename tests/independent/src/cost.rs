@@ -1,6 +1,7 @@
 //! What a word costs against symbols and doubts.
 
-/// The sum over the cells of the doubt where the symbol is the word's value, else of twice the full doubt less the doubt.
+/// The sum over the cells of the doubt where the symbol is the word's value, else of twice the full doubt less the
+/// doubt.
 pub fn cost(full: u32, symbols: &[u32], doubts: &[u32], word: &[u32]) -> u32 {
     let cells = symbols.iter().zip(doubts).zip(word);
     cells.map(|((symbol, &doubt), value)| if symbol == value { doubt } else { 2 * full - doubt }).sum()

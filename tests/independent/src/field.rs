@@ -56,8 +56,8 @@ impl Field {
         rest.iter().all(|&c| c == 0).then_some(quotient)
     }
 
-    /// A solution of linear equations, by elimination: for each equation its coefficients and then, at `unknowns`, its right
-    /// side. An unknown that the equations leave free is 0.
+    /// A solution of linear equations, by elimination: for each equation its coefficients and then, at `unknowns`,
+    /// its right side. An unknown that the equations leave free is 0.
     pub fn solve(&self, mut rows: Vec<Equation>, unknowns: usize) -> Option<Vec<u32>> {
         let mut pivots = Vec::new();
         for column in 0..unknowns {

@@ -1,8 +1,8 @@
 //! Document 01 once more, by other methods than those of the proved library: what the tests hold it against.
 //!
 //! Small plans are read by going through all their records (`exhaustive`), others by Berlekamp and Welch's linear
-//! equations at every level of doubt, for every number of errors (`strip`), and for marks one coefficient of Y at a time
-//! over that (`mark`). Everything is written for being seen to be right; nothing is written for speed.
+//! equations at every level of doubt, for every number of errors (`strip`), and for marks one coefficient of Y at a
+//! time over that (`mark`). Everything is written for being seen to be right; nothing is written for speed.
 
 pub mod calls;
 pub mod code;

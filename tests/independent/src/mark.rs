@@ -7,8 +7,8 @@ use crate::plan::Plan;
 use crate::strip::Strip;
 use crate::{Found, FULL_DOUBT, UNREAD};
 
-/// The record within the radius. The coefficients of Y^d, Y^(d - 1), ... are found in turn and subtracted; what comes out is
-/// measured against the photograph, since they come out for many words that have no answer.
+/// The record within the radius. The coefficients of Y^d, Y^(d - 1), ... are found in turn and subtracted; what comes
+/// out is measured against the photograph, since they come out for many words that have no answer.
 pub fn nearest(plan: &Plan, symbols: &[u32], doubts: &[u32]) -> Option<Found> {
     let field = Field::new(plan.p);
     let mut left = symbols.to_vec();
@@ -24,8 +24,8 @@ pub fn nearest(plan: &Plan, symbols: &[u32], doubts: &[u32]) -> Option<Found> {
 }
 
 /// The polynomial in X before Y^y_power, where no higher power of Y is left. Each row is read as a strip; the leading
-/// coefficients of the answers, with the answers' costs as doubts, are a strip over the row points. A row without an answer
-/// is unread there. The full doubt of that strip is the rows' radius, so no doubt is divided or rounded.
+/// coefficients of the answers, with the answers' costs as doubts, are a strip over the row points. A row without an
+/// answer is unread there. The full doubt of that strip is the rows' radius, so no doubt is divided or rounded.
 fn y_coefficient(field: &Field, plan: &Plan, y_power: usize, left: &[u32], doubts: &[u32]) -> Option<Vec<u32>> {
     let n = plan.side();
     let row = Strip { field, points: &plan.points, degree: y_power, full: FULL_DOUBT };

@@ -37,8 +37,8 @@ impl Strip<'_> {
         None
     }
 
-    /// The polynomial Q / E, where Q(x) = y E(x) at each kept cell (x, y), E has degree `errors` and leading coefficient
-    /// 1, and Q has degree `errors + degree` at most.
+    /// The polynomial Q / E, where Q(x) = y E(x) at each kept cell (x, y), E has degree `errors` and leading
+    /// coefficient 1, and Q has degree `errors + degree` at most.
     fn candidate(&self, kept: &[(u32, u32)], errors: usize) -> Option<Vec<u32>> {
         let p = self.field.p;
         let in_q = errors + self.degree + 1;

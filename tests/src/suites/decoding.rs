@@ -1,5 +1,6 @@
-//! Photographs of planted records: each is written, measured and read. Whatever costs under the radius must come back, and
-//! where something costs exactly the radius nothing may: two records cost twice the radius together at least.
+//! Photographs of planted records: each is written, measured and read. Whatever costs under the radius must come
+//! back, and where something costs exactly the radius nothing may: two records cost twice the radius together at
+//! least.
 
 use independent::calls::{by_equations, bytes, numbers, SEARCHED};
 use independent::cost::cost;

@@ -121,7 +121,7 @@ const FAULTS: &[&Fault] = &[
     fault!("d n", "d", 4, ON_PLAN, |g, plan, _| g.plan[4] = plan.side() as u8),
     fault!("d above n", "d", 4, ON_PLAN, |g, plan, r| g.plan[4] = r.between(plan.side() as u32, 255) as u8),
     fault!("a point p", "last point", 5, ON_PLAN, |g, plan, _| g.plan[4 + plan.side()] = plan.p as u8),
-    fault!("a point above p", "last point", 5, ON_PLAN, |g, plan, r| g.plan[4 + plan.side()] = r.between(plan.p, 255) as u8),
+    fault!("a point above p", "last point", 5, ON_PLAN, |g, plan, r| g.plan[4 + plan.side()] = large(plan, r)),
     fault!("a point twice", "points", 5, ON_PLAN, |g, _, _| g.plan[6] = g.plan[5]),
     fault!("points fall", "points", 5, ON_PLAN, |g, _, _| g.plan.swap(5, 6)),
     fault!("an unused point", "unused", 5, ON_PLAN, |g, plan, r| g.plan[5 + plan.side()] = r.between(1, 255) as u8),
@@ -140,14 +140,14 @@ const FAULTS: &[&Fault] = &[
     fault!("mark one long", "mark length", 6, ON_MARK, |g, _, _| g.mark.push(0)),
     fault!("symbol p", "a symbol", 7, ON_PHOTO, |g, plan, r| *even(&mut g.symbols, r) = plan.p as u8),
     fault!("symbol 254", "a symbol", 7, ON_PHOTO, |g, _, r| *even(&mut g.symbols, r) = 254),
-    fault!("symbol above p", "a symbol", 7, ON_PHOTO, |g, plan, r| *even(&mut g.symbols, r) = r.between(plan.p, 254) as u8),
+    fault!("symbol above p", "a symbol", 7, ON_PHOTO, |g, plan, r| *even(&mut g.symbols, r) = large(plan, r).min(254)),
     fault!("doubt 101", "a doubt", 8, ON_PHOTO, |g, _, r| *odd(&mut g.doubts, r) = 101),
     fault!("doubt above 100", "a doubt", 8, ON_PHOTO, |g, _, r| *odd(&mut g.doubts, r) = r.between(101, 255) as u8),
     fault!("unread with doubt 99", "a doubt", 8, ON_PHOTO, |g, _, r| half_read(g, 99, r)),
     fault!("unread with doubt 0", "a doubt", 8, ON_PHOTO, |g, _, r| half_read(g, 0, r)),
     fault!("unread with doubt 101", "a doubt", 8, ON_PHOTO, |g, _, r| half_read(g, 101, r)),
     fault!("coefficient p", "a coefficient", 9, ON_GIVEN_RECORD, |g, plan, r| *any(&mut g.record, r) = plan.p as u8),
-    fault!("coefficient above p", "a coefficient", 9, ON_GIVEN_RECORD, |g, plan, r| *any(&mut g.record, r) = r.between(plan.p, 255) as u8),
+    fault!("coefficient above p", "a coefficient", 9, ON_GIVEN_RECORD, |g, plan, r| *any(&mut g.record, r) = large(plan, r)),
     fault!("at the radius", "a photograph", 10, READING, |g, plan, r| photographed(g, plan, g.code.radius(plan), r)),
 ];
 
@@ -155,6 +155,11 @@ const FAULTS: &[&Fault] = &[
 fn product(random: &mut Random) -> u8 {
     let products: Vec<u8> = (4..=250).filter(|&p| !is_prime(p)).collect();
     random.pick(&products)
+}
+
+/// Any byte that is p or more.
+fn large(plan: &Plan, random: &mut Random) -> u8 {
+    random.between(plan.p, 255) as u8
 }
 
 fn half_read(given: &mut Arguments, doubt: u8, random: &mut Random) {

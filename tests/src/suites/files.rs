@@ -1,5 +1,5 @@
-//! Finding plans in files: seasons that are there never, once or often, lengths that are no multiple of 24, seasons that
-//! stand only across or inside plans.
+//! Finding plans in files: seasons that are there never, once or often, lengths that are no multiple of 24, seasons
+//! that stand only across or inside plans.
 
 use independent::find_plan;
 use traymark_tests::counts::Counts;
