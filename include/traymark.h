@@ -74,7 +74,7 @@ uint32_t traymark_check_plan(const uint8_t *plan, size_t plan_len);
  *
  *   file     read
  *   offset   always written: where the number is 0, the place of the plan in the file, a multiple of 24, so that the
- *            plan is the 24 bytes from file + *offset; else 0. Where several plans have the season it may be any of them.
+ *            plan is the 24 bytes from file + *offset; else 0. Where several have the season it may be any of them.
  *   result   0; refusals 11 12
  */
 uint32_t traymark_find_plan(const uint8_t *file, size_t file_len, uint16_t season, size_t *offset);

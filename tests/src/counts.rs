@@ -72,7 +72,7 @@ impl fmt::Display for Counts {
         let list = |counts: &[u64]| counts.iter().map(u64::to_string).collect::<Vec<_>>().join(" ");
         write!(
             f,
-            "{} calls, {} marks, {} strips; costs R - 1, R, R + 1: {} {} {}; both methods: {}; numbers: {}; classes: {}",
+            "{} calls, {} marks, {} strips; cost R - 1, R, R + 1: {} {} {}; both methods: {}; numbers: {}; classes: {}",
             self.calls,
             self.marks,
             self.strips,

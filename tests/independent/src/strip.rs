@@ -46,7 +46,7 @@ impl Strip<'_> {
             let mut row = [0; 17];
             for (k, power) in powers(x, p).take(in_q).enumerate() {
                 row[k] = power;
-                if k <= errors {
+                if k < errors {
                     row[in_q + k] = power * (p - y) % p;
                 }
             }

@@ -2,7 +2,7 @@
 
 use independent::calls::bytes;
 use independent::{Code, Plan, UNREAD};
-use traymark_tests::calls::{hold, Arguments, Call};
+use traymark_tests::calls::{hold, Arguments, Call, Outcome};
 use traymark_tests::counts::Counts;
 use traymark_tests::plans;
 use traymark_tests::random::Random;
@@ -54,9 +54,10 @@ fn damaged(code: Code, plan: &Plan, changed: usize, random: &mut Random, counts:
         if said != (cost, code.radius(plan) as i32 - cost as i32, changed as u32, class) {
             return Err(format!("{changed} cells changed, measured {reading:?}; {given:?}"));
         }
-        let within = hold(Call::Read, &given, random, counts)?.reading == reading;
-        if cost < code.radius(plan) && !within {
-            return Err(format!("{changed} cells changed, read otherwise; {given:?}"));
+        let given = Arguments { record: random.bytes(record.len()), ..given };
+        let outcome = hold(Call::Read, &given, random, counts)?;
+        if cost < code.radius(plan) && outcome != (Outcome { reading, buffer: bytes(&record) }) {
+            return Err(format!("{changed} cells changed, read {outcome:?}; {given:?}"));
         }
     }
     Ok(())

@@ -94,7 +94,7 @@ const ON_PLAN: &[Call] = &[Call::Check, Call::Write, Call::Measure, Call::Read];
 const ON_RECORD: &[Call] = &[Call::Write, Call::Measure, Call::Read];
 const ON_PHOTO: &[Call] = &[Call::Measure, Call::Read];
 const ON_MARK: &[Call] = &[Call::Write];
-const ON_GIVEN_RECORD: &[Call] = &[Call::Write, Call::Measure];
+const GIVEN_RECORD: &[Call] = &[Call::Write, Call::Measure];
 const READING: &[Call] = &[Call::Read];
 
 macro_rules! fault {
@@ -146,8 +146,8 @@ const FAULTS: &[&Fault] = &[
     fault!("unread with doubt 99", "a doubt", 8, ON_PHOTO, |g, _, r| half_read(g, 99, r)),
     fault!("unread with doubt 0", "a doubt", 8, ON_PHOTO, |g, _, r| half_read(g, 0, r)),
     fault!("unread with doubt 101", "a doubt", 8, ON_PHOTO, |g, _, r| half_read(g, 101, r)),
-    fault!("coefficient p", "a coefficient", 9, ON_GIVEN_RECORD, |g, plan, r| *any(&mut g.record, r) = plan.p as u8),
-    fault!("coefficient above p", "a coefficient", 9, ON_GIVEN_RECORD, |g, plan, r| *any(&mut g.record, r) = large(plan, r)),
+    fault!("coefficient p", "a coefficient", 9, GIVEN_RECORD, |g, plan, r| *any(&mut g.record, r) = plan.p as u8),
+    fault!("coefficient above p", "a coefficient", 9, GIVEN_RECORD, |g, plan, r| *any(&mut g.record, r) = large(plan, r)),
     fault!("at the radius", "a photograph", 10, READING, |g, plan, r| photographed(g, plan, g.code.radius(plan), r)),
 ];
 
