@@ -95,11 +95,11 @@ static void write_and_measure(void)
 {
     uint8_t mark[9] = NINES, strip[3] = {9, 9, 9};
     const uint8_t nines[9] = NINES, far[3] = {3, 1, 7};
-    EXPECT(traymark_write_mark(ALL(plan_a), ALL(far), mark, 8) == 6);
-    EXPECT(traymark_write_mark(ALL(plan_a), ALL(far), ALL(mark)) == 9);
-    EXPECT(memcmp(mark, nines, 9) == 0);
+    EXPECT(traymark_write_mark(ALL(plan_a), ALL(far), mark, 8) == 6 && memcmp(mark, nines, 9) == 0);
+    EXPECT(traymark_write_mark(ALL(plan_a), ALL(far), ALL(mark)) == 9 && memcmp(mark, nines, 9) == 0);
     EXPECT(traymark_write_mark(ALL(plan_a), ALL(record_a), ALL(mark)) == 0);
     EXPECT(memcmp(mark, mark_a, 9) == 0); /* a */
+    EXPECT(traymark_write_strip(ALL(plan_a), record_a, 2, strip, 2) == 6 && memcmp(strip, nines, 3) == 0);
     EXPECT(traymark_write_strip(ALL(plan_a), record_a, 2, strip, 0) == 6);
     EXPECT(traymark_write_strip(ALL(plan_a), record_a, 2, ALL(strip)) == 0);
     EXPECT(strip[0] == 4 && strip[1] == 5 && strip[2] == 0);
