@@ -1,0 +1,115 @@
+// Writing and measuring at work: cases a and k of document 01, plan A with the record 3 1 2; a strip of that plan; a record beyond the
+// radius; and refusals 6 to 9. Each line says what was asked, the number that was answered, and then the buffer or the reading; the
+// file stdout has the numbers of document 01.
+use definitions::Reading;
+use distance::summary::magnitude;
+use traymark::measuring::traymark_measure_mark;
+use traymark::measuring::traymark_measure_strip;
+use traymark::writing::traymark_write_mark;
+use traymark::writing::traymark_write_strip;
+
+fn main() {
+    let record = [3u8, 1, 2];
+    let mut mark = [9u8; 9];
+    write(b"a write 3 1 2", &record, &mut mark);
+    measure(b"measure it", &record, &mark);
+    let mut photo = mark;
+    photo[0] = 0;
+    photo[1] = 0;
+    photo[2] = 0;
+    measure(b"k first three cells 0", &record, &photo);
+    measure(b"measure 0 0 0", &[0u8; 3], &mark);
+    strips();
+    refusals();
+}
+
+// The same on one row: the record 3 1 at the points 1 2 4.
+fn strips() {
+    let plan = plan_a();
+    let record = [3u8, 1];
+    let mut strip = [9u8; 3];
+    let number = traymark_write_strip(&plan, &record, &mut strip);
+    written(b"write the strip 3 1", number, &strip);
+    measured(
+        b"measure it",
+        traymark_measure_strip(&plan, &record, &strip, &[0u8; 3]),
+    );
+}
+
+// Refusals 6 to 9. The buffers of 9s stay as they were.
+fn refusals() {
+    let mut short = [9u8; 8];
+    let six = traymark_write_mark(&plan_a(), &[3u8, 1, 2], &mut short);
+    written(b"8 bytes for the mark", six, &short);
+    let mut photo = [0u8; 9];
+    photo[4] = 7;
+    measure(b"a symbol 7", &[3u8, 1, 2], &photo);
+    photo[4] = 255;
+    measure(b"unread with doubt 0", &[3u8, 1, 2], &photo);
+    measure(b"measure 3 1 7", &[3u8, 1, 7], &[0u8; 9]);
+    let mut mark = [9u8; 9];
+    write(b"write 3 1 7", &[3u8, 1, 7], &mut mark);
+}
+
+// Writes a record under plan A.
+fn write(name: &[u8], record: &[u8; 3], mark: &mut [u8; 9]) {
+    let number = traymark_write_mark(&plan_a(), record, mark);
+    written(name, number, mark);
+}
+
+// Measures a record under plan A against a photograph with all doubts 0.
+fn measure(name: &[u8], record: &[u8; 3], photo: &[u8; 9]) {
+    measured(
+        name,
+        traymark_measure_mark(&plan_a(), record, photo, &[0u8; 9]),
+    );
+}
+
+// Plan A: season 12, p 7, three points, degree 1, points 1 2 4.
+fn plan_a() -> [u8; 24] {
+    let mut plan = [0u8; 24];
+    plan[1] = 12;
+    plan[2] = 7;
+    plan[3] = 3;
+    plan[4] = 1;
+    plan[5] = 1;
+    plan[6] = 2;
+    plan[7] = 4;
+    plan
+}
+
+// A line: the number and the bytes of the buffer.
+fn written(name: &[u8], number: u32, bytes: &[u8]) {
+    io::write_all(1, name);
+    text(b": ", number);
+    io::write_all(1, b",");
+    for i in 0..bytes.len() {
+        text(b" ", wide(bytes[i]));
+    }
+    io::write_all(1, b"\n");
+}
+
+fn wide(byte: u8) -> u32 {
+    byte as u32
+}
+
+// A line: the number and the reading.
+fn measured(name: &[u8], reading: Reading) {
+    io::write_all(1, name);
+    text(b": ", reading.number);
+    text(b", D ", reading.cost);
+    let margin = reading.margin;
+    if margin < 0 {
+        text(b", margin -", magnitude(margin));
+    } else {
+        text(b", margin ", magnitude(margin));
+    }
+    text(b", changed ", reading.changed);
+    text(b", class ", reading.class);
+    io::write_all(1, b"\n");
+}
+
+fn text(name: &[u8], number: u32) {
+    io::write_all(1, name);
+    io::print_decimal(1, number as u64);
+}
