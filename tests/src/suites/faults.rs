@@ -35,9 +35,12 @@ pub fn alone(seed: u64, random: &mut Random, counts: &mut Counts) -> Result<(), 
 pub fn together(seed: u64, random: &mut Random, counts: &mut Counts) -> Result<(), String> {
     let code = [Code::Strip, Code::Mark][seed as usize % 2];
     let (plan, mut given) = sound(code, random);
+    // in every other case the plan stays sound, so that the higher numbers are seen
+    let lowest = random.pick(&[1, 6]);
+    let choice: Vec<&Fault> = FAULTS.iter().copied().filter(|fault| fault.number >= lowest).collect();
     let mut faults: Vec<&Fault> = Vec::new();
     for _ in 0..random.between(2, 6) {
-        let fault = &FAULTS[random.below(FAULTS.len())];
+        let fault = random.pick(&choice);
         if faults.iter().all(|other| other.place != fault.place) {
             faults.push(fault);
         }
