@@ -21,6 +21,7 @@ pub fn outcome(call: Call, given: &Arguments, random: &mut Random) -> Result<Out
 fn check(given: &Arguments, random: &mut Random) -> Result<Outcome, String> {
     let plan = Lent::new(&given.plan, random);
     let raw = unsafe { ffi::traymark_check_plan(plan.bytes().as_ptr(), plan.bytes().len()) };
+    untouched(&[&plan])?;
     alike(Reading::refused(raw), || refused(traymark::check_plan(plan.bytes())))?;
     untouched(&[&plan])?;
     Ok(Outcome { reading: Reading::refused(raw), buffer: Vec::new() })
@@ -39,6 +40,7 @@ fn write(given: &Arguments, random: &mut Random) -> Result<Outcome, String> {
     };
     let outcome = Outcome { reading: Reading::refused(number), buffer: mark.bytes().to_vec() };
     guarded(&mark)?;
+    untouched(&[&plan, &record])?;
     mark.restore();
     alike(outcome.reading, || refused(by_rust(plan.bytes(), record.bytes(), mark.bytes_mut())))?;
     guarded(&mark)?;
@@ -66,6 +68,7 @@ fn measure(given: &Arguments, random: &mut Random) -> Result<Outcome, String> {
             doubts.len(),
         )
     };
+    untouched(&lent.each_ref())?;
     alike(reading(raw), || answered(by_rust(plan, record, symbols, doubts)))?;
     untouched(&lent.each_ref())?;
     Ok(Outcome { reading: reading(raw), buffer: Vec::new() })
@@ -94,6 +97,7 @@ fn read(given: &Arguments, random: &mut Random) -> Result<Outcome, String> {
     };
     let outcome = Outcome { reading: reading(raw), buffer: buffer.to_vec() };
     guarded(&record)?;
+    untouched(&lent.each_ref())?;
     record.restore();
     alike(outcome.reading, || answered(by_rust(plan, symbols, doubts, record.bytes_mut())))?;
     guarded(&record)?;
@@ -108,6 +112,7 @@ pub fn find(file: &[u8], season: u16, random: &mut Random) -> Result<(u32, usize
     let bytes = file.bytes();
     let mut offset = usize::MAX;
     let number = unsafe { ffi::traymark_find_plan(bytes.as_ptr(), bytes.len(), season, &mut offset) };
+    untouched(&[&file])?;
     if number == 0 && (offset > bytes.len() || bytes.len() - offset < traymark::PLAN_LENGTH) {
         return Err(format!("found a plan at {offset}, beyond the file"));
     }
