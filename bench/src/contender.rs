@@ -1,16 +1,17 @@
 //! Who is timed.
 
+use crate::port::{self, Plain, Tuned};
 use crate::stream::Mark;
 use independent::calls::{by_equations, bytes, numbers};
 use independent::{Code, Plan};
+use traymark::Refusal;
 
 /// Room for any record and any mark.
-const RECORD: usize = 136;
-const CELLS: usize = 256;
+const ROOM: usize = 256;
 
-type Write = fn(&[u8], &[u8], &mut [u8]) -> u32;
-type Measure = fn(&[u8], &[u8], &[u8], &[u8]) -> u32;
-type Read = fn(&[u8], &[u8], &[u8], &mut [u8]) -> u32;
+type Write = fn(&[u8], &[u8], &mut [u8]) -> Result<(), Refusal>;
+type Measure = fn(&[u8], &[u8], &[u8], &[u8]) -> Result<u32, Refusal>;
+type Read = fn(&[u8], &[u8], &[u8], &mut [u8]) -> Result<u32, Refusal>;
 
 pub struct Contender {
     pub name: &'static str,
@@ -21,43 +22,87 @@ pub struct Contender {
     read: Read,
 }
 
+#[derive(Clone, Copy, Debug, PartialEq, Eq)]
+pub enum Call {
+    Read,
+    Write,
+    Measure,
+}
+
+/// The cost, 0 for writing, or the refusal; and what the call wrote.
+#[derive(Debug, PartialEq, Eq)]
+pub struct Outcome {
+    answer: Result<u32, Refusal>,
+    written: [u8; ROOM],
+}
+
+/// How many marks the library and the ports are timed on.
+pub const MARKS: usize = 2_000;
+
+/// The proved library.
 pub const LIBRARY: Contender = Contender {
     name: "library",
-    marks: 4_000,
-    write: |plan, record, mark| traymark::write_mark(plan, record, mark).map_or_else(|r| r.number(), |()| 0),
-    measure: |plan, record, symbols, doubts| {
-        traymark::measure_mark(plan, record, symbols, doubts).map_or_else(|r| r.number(), |reading| reading.cost)
-    },
-    read: |plan, symbols, doubts, record| {
-        traymark::read_mark(plan, symbols, doubts, record).map_or_else(|r| r.number(), |reading| reading.cost)
-    },
+    marks: MARKS,
+    write: traymark::write_mark,
+    measure: |plan, record, symbols, doubts| Ok(traymark::measure_mark(plan, record, symbols, doubts)?.cost),
+    read: |plan, symbols, doubts, record| Ok(traymark::read_mark(plan, symbols, doubts, record)?.cost),
 };
 
-/// The tests' decoder, by Berlekamp and Welch's equations for small plans too.
+/// Its method in Rust, with division.
+pub const PLAIN: Contender = Contender {
+    name: "plain",
+    marks: MARKS,
+    write: port::write_mark::<Plain>,
+    measure: |plan, record, symbols, doubts| Ok(port::measure_mark::<Plain>(plan, record, symbols, doubts)?.cost),
+    read: |plan, symbols, doubts, record| Ok(port::read_mark::<Plain>(plan, symbols, doubts, record)?.cost),
+};
+
+/// The same with the reciprocal.
+pub const TUNED: Contender = Contender {
+    name: "tuned",
+    marks: MARKS,
+    write: port::write_mark::<Tuned>,
+    measure: |plan, record, symbols, doubts| Ok(port::measure_mark::<Tuned>(plan, record, symbols, doubts)?.cost),
+    read: |plan, symbols, doubts, record| Ok(port::read_mark::<Tuned>(plan, symbols, doubts, record)?.cost),
+};
+
+/// The tests' decoder, by Berlekamp and Welch's equations for small plans too. Its plans and photographs are sound.
 pub const EQUATIONS: Contender = Contender {
     name: "equations",
     marks: 100,
-    write: |plan, record, mark| independent::write(Code::Mark, plan, record, mark),
-    measure: |plan, record, symbols, doubts| independent::measure(Code::Mark, plan, record, symbols, doubts).cost,
+    write: |plan, record, mark| accepted(independent::write(Code::Mark, plan, record, mark)),
+    measure: |plan, record, symbols, doubts| {
+        let reading = independent::measure(Code::Mark, plan, record, symbols, doubts);
+        accepted(reading.number).map(|()| reading.cost)
+    },
     read: |plan, symbols, doubts, record| {
-        let Ok(plan) = Plan::parse(plan) else { return 1 };
-        let Some(found) = by_equations(Code::Mark, &plan, &numbers(symbols), &numbers(doubts)) else { return 10 };
+        let plan = Plan::parse(plan).map_err(refusal)?;
+        let found = by_equations(Code::Mark, &plan, &numbers(symbols), &numbers(doubts)).ok_or(Refusal::NoRecord)?;
         record.copy_from_slice(&bytes(&found.record));
-        found.cost
+        Ok(found.cost)
     },
 };
 
 impl Contender {
-    /// Each call answers with the cost or the refusal's number.
-    pub fn write(&self, mark: &Mark) -> u32 {
-        (self.write)(&mark.plan, &mark.record, &mut [0; CELLS][..mark.symbols.len()])
+    pub fn call(&self, call: Call, mark: &Mark) -> Outcome {
+        let Mark { plan, record, symbols, doubts } = mark;
+        let mut written = [0; ROOM];
+        let answer = match call {
+            Call::Read => (self.read)(plan, symbols, doubts, &mut written[..record.len()]),
+            Call::Write => (self.write)(plan, record, &mut written[..symbols.len()]).map(|()| 0),
+            Call::Measure => (self.measure)(plan, record, symbols, doubts),
+        };
+        Outcome { answer, written }
     }
+}
 
-    pub fn measure(&self, mark: &Mark) -> u32 {
-        (self.measure)(&mark.plan, &mark.record, &mark.symbols, &mark.doubts)
+fn accepted(number: u32) -> Result<(), Refusal> {
+    match number {
+        0 => Ok(()),
+        _ => Err(refusal(number)),
     }
+}
 
-    pub fn read(&self, mark: &Mark) -> u32 {
-        (self.read)(&mark.plan, &mark.symbols, &mark.doubts, &mut [0; RECORD][..mark.record.len()])
-    }
+fn refusal(number: u32) -> Refusal {
+    Refusal::from_number(number).expect("a refusal's number")
 }

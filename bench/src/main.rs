@@ -1,62 +1,115 @@
-//! Times of reading, writing and measuring beside those of the tests' decoder, over streams of distinct marks.
+//! Times of the proved library beside those of its method in plain Rust and of the tests' decoder, all in one run and
+//! over the same streams of distinct marks.
 //!
-//! Each line is a plan and a stream: the median microseconds of a call, and how many times longer the other decoder
-//! takes. Absolute times move with the machine; compare lines of one run. `bench N` takes at most N marks of each
-//! stream.
+//! - `bench [N]` prints the table and whether the targets are met; of each stream it takes at most N marks.
+//! - `bench check` holds the ports in Rust against the tests' decoder.
+//! - `bench profile P N D KIND COUNT` lets the library alone read COUNT marks of one stream, for a profiler. KIND is
+//!   clean, errors, doubts, rivals or noise.
+//!
+//! Each line of the table is a plan and a stream: the median microseconds of a call by the library, by the port with
+//! division (`plain`), by the port with the reciprocal (`tuned`) and by the tests' decoder (`equations`); how many times
+//! the library's time the others take; and of the marks that the library reads the slowest, by the least of several
+//! rounds, with how many of the plan's clean marks it lasts. Absolute times move with the machine; compare those of one
+//! run.
 
+mod check;
 mod contender;
+mod port;
 mod stream;
+mod table;
+mod timing;
 
-use contender::{Contender, EQUATIONS, LIBRARY};
-use std::time::Instant;
-use stream::{Kind, Mark};
+use contender::{Call, EQUATIONS, LIBRARY, MARKS, PLAIN, TUNED};
+use std::hint::black_box;
+use std::process::ExitCode;
+use std::str::FromStr;
+use stream::{Kind, Mark, Shape};
+use table::Line;
 
-/// (p, n, d)
-const PLANS: [(u32, usize, usize); 5] = [(251, 16, 0), (251, 16, 7), (251, 16, 15), (101, 8, 3), (17, 16, 7)];
+const PLANS: [Shape; 5] = [(251, 16, 0), (251, 16, 7), (251, 16, 15), (101, 8, 3), (17, 16, 7)];
 
-fn main() {
-    let most = std::env::args().nth(1).map_or(usize::MAX, |word| word.parse().expect("a number of marks"));
-    let number = LIBRARY.marks.min(most);
-    println!("{:<14} {:<34} {:>12} {:>12} {:>8}", "plan", "call and marks", LIBRARY.name, EQUATIONS.name, "ratio");
-    for shape in PLANS {
-        for kind in Kind::ALL {
-            let marks = stream::marks(shape, kind, number);
-            agree(&marks[..EQUATIONS.marks.min(number)]);
-            line(shape, &format!("read {}", kind.name()), &marks, |contender, mark| contender.read(mark));
-        }
-        let marks = stream::marks(shape, Kind::Clean, number);
-        line(shape, "write", &marks, |contender, mark| contender.write(mark));
-        let marks = stream::marks(shape, Kind::Doubts, number);
-        line(shape, "measure", &marks, |contender, mark| contender.measure(mark));
-    }
-}
+/// The lines of a plan. Reading clean marks comes first: the slowest marks of the others are compared with it.
+const CALLS: [(Call, Kind); 7] = [
+    (Call::Read, Kind::Clean),
+    (Call::Read, Kind::Errors),
+    (Call::Read, Kind::Doubts),
+    (Call::Read, Kind::Rivals),
+    (Call::Read, Kind::Noise),
+    (Call::Write, Kind::Clean),
+    (Call::Measure, Kind::Doubts),
+];
 
-/// Prints the medians of a call over a stream.
-fn line(shape: (u32, usize, usize), what: &str, marks: &[Mark], call: fn(&Contender, &Mark) -> u32) {
-    let [library, equations] = [LIBRARY, EQUATIONS].map(|contender| median(&contender, marks, call));
-    let (p, n, d) = shape;
-    let plan = format!("p {p} n {n} d {d}");
-    println!("{plan:<14} {what:<34} {library:>12.2} {equations:>12.2} {:>8.1}", equations / library);
-}
+const USAGE: &str = "usage: bench [N] | bench check | bench profile P N D KIND COUNT";
 
-/// The median time of a call in microseconds.
-fn median(contender: &Contender, marks: &[Mark], call: fn(&Contender, &Mark) -> u32) -> f64 {
-    let marks = &marks[..contender.marks.min(marks.len())];
-    let time = |mark: &Mark| {
-        let start = Instant::now();
-        std::hint::black_box(call(contender, std::hint::black_box(mark)));
-        start.elapsed()
+fn main() -> ExitCode {
+    let words: Vec<String> = std::env::args().skip(1).collect();
+    let words: Vec<&str> = words.iter().map(String::as_str).collect();
+    let result = match words.as_slice() {
+        [] => compare(MARKS),
+        ["check"] => check(),
+        ["profile", p, n, d, kind, count] => profile([p, n, d], kind, count),
+        [most] => number(most).and_then(|most: usize| compare(most.clamp(1, MARKS))),
+        _ => Err(USAGE.into()),
     };
-    // the first round warms up
-    let [_, mut times] = [0, 1].map(|_| marks.iter().map(time).collect::<Vec<_>>());
-    times.sort_unstable();
-    times[times.len() / 2].as_secs_f64() * 1e6
+    match result {
+        Ok(()) => ExitCode::SUCCESS,
+        Err(what) => {
+            eprintln!("bench: {what}");
+            ExitCode::FAILURE
+        }
+    }
 }
 
-/// Both read alike, so that both did the work.
-fn agree(marks: &[Mark]) {
-    for mark in marks {
-        let [library, equations] = [LIBRARY, EQUATIONS].map(|contender| contender.read(mark));
-        assert_eq!(library, equations, "{mark:?}");
+fn number<T: FromStr>(word: &str) -> Result<T, String> {
+    word.parse().map_err(|_| format!("no number: {word}; {USAGE}"))
+}
+
+/// Prints the table of all plans, and the targets.
+fn compare(number: usize) -> Result<(), String> {
+    table::print_head();
+    let mut lines = Vec::new();
+    for shape in PLANS {
+        let mut clean = None;
+        for (call, kind) in CALLS {
+            let marks = stream::marks(shape, kind, number);
+            agree(&marks, call);
+            let mut times = timing::times([&LIBRARY, &PLAIN, &TUNED, &EQUATIONS], &marks, call);
+            let [library, plain, tuned, equations] = times.each_mut().map(|times| times.median());
+            let slowest = times[0].slowest();
+            let clean = *clean.get_or_insert(library);
+            let line = Line { shape, call, kind, library, plain, tuned, equations, slowest, clean };
+            line.print();
+            lines.push(line);
+        }
     }
+    table::print_targets(&lines);
+    Ok(())
+}
+
+/// All answer alike and write the same bytes, so that all did the work.
+fn agree(marks: &[Mark], call: Call) {
+    for (place, mark) in marks.iter().enumerate() {
+        let outcome = LIBRARY.call(call, mark);
+        for contender in [PLAIN, TUNED, EQUATIONS].iter().filter(|contender| place < contender.marks) {
+            assert_eq!(contender.call(call, mark), outcome, "{} and the library: {call:?} {mark:?}", contender.name);
+        }
+    }
+}
+
+/// Holds the ports against the tests' decoder.
+fn check() -> Result<(), String> {
+    let counts = traymark_tests::run::run(&[check::SUITE]).map_err(|failures| failures.join("\n"))?;
+    println!("bench check: ok: {counts}");
+    Ok(())
+}
+
+/// The library reads the marks of one stream.
+fn profile(shape: [&str; 3], kind: &str, count: &str) -> Result<(), String> {
+    let [p, n, d] = shape;
+    let kind = Kind::ALL.into_iter().find(|known| known.name() == kind).ok_or(USAGE)?;
+    let shape = (number(p)?, number(n)?, number(d)?);
+    for mark in stream::marks(shape, kind, number(count)?) {
+        black_box(LIBRARY.call(Call::Read, black_box(&mark)));
+    }
+    Ok(())
 }

@@ -6,6 +6,9 @@ use traymark_tests::photo::{damaged, noise, rival, Damage, Harm, Place};
 use traymark_tests::plans;
 use traymark_tests::random::Random;
 
+/// (p, n, d)
+pub type Shape = (u32, usize, usize);
+
 #[derive(Debug)]
 pub struct Mark {
     pub plan: [u8; 24],
@@ -14,7 +17,7 @@ pub struct Mark {
     pub doubts: Vec<u8>,
 }
 
-#[derive(Clone, Copy)]
+#[derive(Clone, Copy, PartialEq, Eq)]
 pub enum Kind {
     Clean,
     Errors,
@@ -26,7 +29,18 @@ pub enum Kind {
 impl Kind {
     pub const ALL: [Kind; 5] = [Kind::Clean, Kind::Errors, Kind::Doubts, Kind::Rivals, Kind::Noise];
 
+    /// Its name, a word.
     pub fn name(self) -> &'static str {
+        match self {
+            Kind::Clean => "clean",
+            Kind::Errors => "errors",
+            Kind::Doubts => "doubts",
+            Kind::Rivals => "rivals",
+            Kind::Noise => "noise",
+        }
+    }
+
+    pub fn described(self) -> &'static str {
         match self {
             Kind::Clean => "clean",
             Kind::Errors => "half the radius of sure errors",
@@ -38,7 +52,7 @@ impl Kind {
 }
 
 /// So many marks of one plan.
-pub fn marks(shape: (u32, usize, usize), kind: Kind, number: usize) -> Vec<Mark> {
+pub fn marks(shape: Shape, kind: Kind, number: usize) -> Vec<Mark> {
     let random = &mut Random::new(kind as u64);
     let plan = plans::plan(shape, random);
     let radius = Code::Mark.radius(&plan);

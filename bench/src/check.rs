@@ -1,0 +1,116 @@
+//! The ports held against the tests' decoder: cheap random plans and photographs, and faults in what is lent.
+
+use crate::port::{self, Plain, Tuned};
+use independent::calls::bytes;
+use independent::{Code, Plan, Reading};
+use traymark::Refusal;
+use traymark_tests::calls::{expected, Arguments, Call, Outcome};
+use traymark_tests::counts::Counts;
+use traymark_tests::photo::{noise, photograph, rival};
+use traymark_tests::plans;
+use traymark_tests::random::Random;
+use traymark_tests::run::Suite;
+
+pub const SUITE: Suite = Suite { name: "port", cases: 6_000, case };
+
+/// One plan and photograph; every fourth time something lent is spoiled.
+fn case(seed: u64, random: &mut Random, counts: &mut Counts) -> Result<(), String> {
+    let shapes = plans::shapes();
+    let plan = plans::plan(shapes[seed as usize % shapes.len()], random);
+    let mut given = arguments(&plan, random);
+    if random.one_in(4) {
+        spoil(&mut given, random);
+    }
+    for call in [Call::Write, Call::Measure, Call::Read] {
+        let expected = expected(call, &given);
+        for (name, outcome) in [("plain", plain(call, &given)), ("tuned", tuned(call, &given))] {
+            if outcome != expected {
+                return Err(format!("{name} {call:?} gave {outcome:?}, expected {expected:?}; {given:?}"));
+            }
+        }
+        counts.answer(call, Code::Mark, expected.reading);
+    }
+    Ok(())
+}
+
+/// A record, its mark and a photograph that costs about the radius, or one of nothing.
+fn arguments(plan: &Plan, random: &mut Random) -> Arguments {
+    let code = Code::Mark;
+    let record = plans::record(code, plan, random);
+    let word = code.word(plan, &record);
+    let rival = rival(code, plan, &word, random);
+    let radius = code.radius(plan);
+    let target = match random.below(4) {
+        0 => 0,
+        1 => random.between(0, radius),
+        _ => random.between(radius - 1, radius + 1),
+    };
+    let photo = match random.one_in(8) {
+        true => noise(code, plan, random),
+        false => photograph(plan, &word, &rival, target, random),
+    };
+    Arguments {
+        code,
+        plan: plan.bytes().to_vec(),
+        record: bytes(&record),
+        symbols: bytes(&photo.symbols),
+        doubts: bytes(&photo.doubts),
+        mark: random.bytes(word.len()),
+    }
+}
+
+/// Changes a byte or the length of some of what is lent.
+fn spoil(given: &mut Arguments, random: &mut Random) {
+    let Arguments { plan, record, symbols, doubts, mark, .. } = given;
+    for lent in [plan, record, symbols, doubts, mark] {
+        match random.below(6) {
+            0 => lent.push(random.byte()),
+            1 => lent.truncate(random.below(lent.len())),
+            2 | 3 => {
+                let place = random.below(lent.len());
+                lent[place] = random.pick(&[0, 1, 100, 101, 250, 251, 254, 255]);
+            }
+            _ => (),
+        }
+    }
+}
+
+fn plain(call: Call, given: &Arguments) -> Outcome {
+    outcome(call, given, port::write_mark::<Plain>, port::measure_mark::<Plain>, port::read_mark::<Plain>)
+}
+
+fn tuned(call: Call, given: &Arguments) -> Outcome {
+    outcome(call, given, port::write_mark::<Tuned>, port::measure_mark::<Tuned>, port::read_mark::<Tuned>)
+}
+
+/// What a port answers, and what the buffer that it writes holds afterwards.
+fn outcome(
+    call: Call,
+    given: &Arguments,
+    write: fn(&[u8], &[u8], &mut [u8]) -> Result<(), Refusal>,
+    measure: fn(&[u8], &[u8], &[u8], &[u8]) -> Result<traymark::Reading, Refusal>,
+    read: fn(&[u8], &[u8], &[u8], &mut [u8]) -> Result<traymark::Reading, Refusal>,
+) -> Outcome {
+    let Arguments { plan, record, symbols, doubts, mark, .. } = given;
+    match call {
+        Call::Write => {
+            let mut buffer = mark.clone();
+            let number = write(plan, record, &mut buffer).map_or_else(Refusal::number, |()| 0);
+            Outcome { reading: Reading::refused(number), buffer }
+        }
+        Call::Measure => Outcome { reading: reading(measure(plan, record, symbols, doubts)), buffer: Vec::new() },
+        Call::Read => {
+            let mut buffer = record.clone();
+            let reading = reading(read(plan, symbols, doubts, &mut buffer));
+            Outcome { reading, buffer }
+        }
+        Call::Check => unreachable!("the ports have no such call"),
+    }
+}
+
+fn reading(answer: Result<traymark::Reading, Refusal>) -> Reading {
+    match answer {
+        Ok(traymark::Reading { cost, margin, changed, class }) => Reading { number: 0, cost, margin, changed, class },
+        Err(refusal) => Reading::refused(refusal.number()),
+    }
+}

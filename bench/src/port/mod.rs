@@ -1,0 +1,75 @@
+//! The library's method once more, in plain Rust and unproved: what its times are held against.
+//!
+//! The three calls take the same bytes as those of `traymark`, make the same checks and give the same answers. Below
+//! them the layers are those of the library: numbers modulo p (`field`), polynomials (`polynomial`, `newton`), the
+//! strip decoder (`interpolation`, `strip`), the mark decoder (`guess`, `steps`, `mark`). Nothing is allocated.
+//!
+//! All is generic over how a number is taken modulo p: by division (`Plain`) or with a reciprocal (`Tuned`).
+
+mod checks;
+mod field;
+mod guess;
+mod interpolation;
+mod mark;
+mod newton;
+mod plan;
+mod polynomial;
+mod steps;
+mod strip;
+mod tally;
+
+pub use field::{Plain, Tuned};
+
+use field::Reduction;
+use plan::Plan;
+use polynomial::Powers;
+use tally::Tally;
+use traymark::{Reading, Refusal};
+
+/// Writes the mark of a record, as `traymark::write_mark`.
+pub fn write_mark<R: Reduction>(plan: &[u8], record: &[u8], mark: &mut [u8]) -> Result<(), Refusal> {
+    let plan: Plan<R> = Plan::parse(plan)?;
+    checks::lengths(&[(record.len(), plan.size()), (mark.len(), plan.cells())])?;
+    checks::record(&plan, record)?;
+    let powers = Powers::new(&plan);
+    let in_y = powers.put_in_x(&polynomial::columns(record, plan.degree));
+    for (r, row) in mark.chunks_exact_mut(plan.n).enumerate() {
+        for (cell, value) in row.iter_mut().zip(powers.row(&in_y, r)) {
+            *cell = value as u8;
+        }
+    }
+    Ok(())
+}
+
+/// Measures a record against a photographed mark, as `traymark::measure_mark`.
+pub fn measure_mark<R: Reduction>(
+    plan: &[u8],
+    record: &[u8],
+    symbols: &[u8],
+    doubts: &[u8],
+) -> Result<Reading, Refusal> {
+    let plan: Plan<R> = Plan::parse(plan)?;
+    checks::photograph(&plan, symbols, doubts, record.len())?;
+    checks::record(&plan, record)?;
+    let powers = Powers::new(&plan);
+    let in_y = powers.put_in_x(&polynomial::columns(record, plan.degree));
+    let mut tally = Tally::default();
+    for (r, (symbols, doubts)) in symbols.chunks_exact(plan.n).zip(doubts.chunks_exact(plan.n)).enumerate() {
+        tally += Tally::of_values(symbols, doubts, &powers.row(&in_y, r));
+    }
+    Ok(tally.reading(plan.radius()))
+}
+
+/// Reads a photographed mark, as `traymark::read_mark`.
+pub fn read_mark<R: Reduction>(
+    plan: &[u8],
+    symbols: &[u8],
+    doubts: &[u8],
+    record: &mut [u8],
+) -> Result<Reading, Refusal> {
+    let plan: Plan<R> = Plan::parse(plan)?;
+    checks::photograph(&plan, symbols, doubts, record.len())?;
+    let found = mark::decode(&plan, symbols, doubts).ok_or(Refusal::NoRecord)?;
+    polynomial::put_record(&found.columns, plan.degree, record);
+    Ok(found.tally.reading(plan.radius()))
+}

@@ -1,0 +1,73 @@
+//! Polynomials in X and Y of total degree d at most, as columns: row t has the coefficients of Y^t, by rising power of X.
+
+use super::field::{Field, Reduction, Row, Square};
+use super::plan::Plan;
+use std::array::from_fn;
+
+/// The columns of a record, which goes by total degree and then by rising power of Y.
+pub fn columns(record: &[u8], degree: usize) -> Square {
+    let mut columns = [[0; 16]; 16];
+    for k in 0..=degree {
+        for (t, &coefficient) in record[start(k)..start(k + 1)].iter().enumerate() {
+            columns[t][k - t] = coefficient.into();
+        }
+    }
+    columns
+}
+
+/// Puts the columns' coefficients into a record.
+pub fn put_record(columns: &Square, degree: usize, record: &mut [u8]) {
+    for k in 0..=degree {
+        for (t, coefficient) in record[start(k)..start(k + 1)].iter_mut().enumerate() {
+            *coefficient = columns[t][k - t] as u8;
+        }
+    }
+}
+
+/// Where the coefficients of total degree k begin in a record.
+fn start(k: usize) -> usize {
+    k * (k + 1) / 2
+}
+
+/// The powers of a plan's points, for values at all points at once.
+pub struct Powers<R> {
+    field: Field<R>,
+    degree: usize,
+    powers: Square,
+}
+
+impl<R: Reduction> Powers<R> {
+    pub fn new(plan: &Plan<R>) -> Powers<R> {
+        let mut powers = [[1; 16]; 16];
+        for t in 1..=plan.degree {
+            powers[t] = plan.field.multiply(&powers[t - 1], &plan.points);
+        }
+        Powers { field: plan.field, degree: plan.degree, powers }
+    }
+
+    /// The points to the power t.
+    pub fn power(&self, t: usize) -> &Row {
+        &self.powers[t]
+    }
+
+    /// The values at the points of the polynomial in one variable with these coefficients.
+    fn values(&self, coefficients: &[u16]) -> Row {
+        let terms = coefficients.iter().zip(&self.powers);
+        terms.fold([0; 16], |sum, (&coefficient, power)| self.field.add_multiple(&sum, coefficient, power))
+    }
+
+    /// X is put in, for all rows of the mark at once: row t has the coefficient of Y^t in each row of the mark.
+    pub fn put_in_x(&self, columns: &Square) -> Square {
+        let mut in_y = [[0; 16]; 16];
+        for t in 0..=self.degree {
+            in_y[t] = self.values(&columns[t][..=self.degree - t]);
+        }
+        in_y
+    }
+
+    /// Then Y is put in, in row r of the mark: the row's values.
+    pub fn row(&self, in_y: &Square, r: usize) -> Row {
+        let coefficients: Row = from_fn(|t| in_y[t][r]);
+        self.values(&coefficients[..=self.degree])
+    }
+}

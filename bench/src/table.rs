@@ -1,0 +1,133 @@
+//! The table, a line for each plan and stream, and whether it meets the targets.
+
+use crate::contender::{Call, EQUATIONS, LIBRARY, PLAIN, TUNED};
+use crate::stream::{Kind, Shape};
+
+/// A plan and a stream, with the median microseconds of each contender.
+pub struct Line {
+    pub shape: Shape,
+    pub call: Call,
+    pub kind: Kind,
+    pub library: f64,
+    pub plain: f64,
+    pub tuned: f64,
+    pub equations: f64,
+    /// the library's slowest mark
+    pub slowest: f64,
+    /// the library's median of the plan's clean marks
+    pub clean: f64,
+}
+
+pub fn print_head() {
+    let over = |name: &str| format!("{name}/lib");
+    println!(
+        "{:<14} {:<35} {:>9} {:>9} {:>9} {:>9} {:>9} {:>9} {:>13} {:>9} {:>13}",
+        "plan",
+        "call and marks",
+        LIBRARY.name,
+        PLAIN.name,
+        TUNED.name,
+        EQUATIONS.name,
+        over(PLAIN.name),
+        over(TUNED.name),
+        over(EQUATIONS.name),
+        "slowest",
+        "slowest/clean"
+    );
+}
+
+impl Line {
+    pub fn print(&self) {
+        let Line { library, plain, tuned, equations, slowest, .. } = self;
+        print!("{:<14} {:<35} {library:>9.2} {plain:>9.2} {tuned:>9.2} {equations:>9.2}", self.plan(), self.what());
+        print!(" {:>9.2} {:>9.2} {:>13.1}", self.plain_ratio(), tuned / library, self.equations_ratio());
+        match self.is_reading() {
+            true => println!(" {slowest:>9.2} {:>13.1}", self.slowest_ratio()),
+            false => println!(),
+        }
+    }
+
+    fn plan(&self) -> String {
+        let (p, n, d) = self.shape;
+        format!("p {p} n {n} d {d}")
+    }
+
+    fn what(&self) -> String {
+        match self.call {
+            Call::Read => format!("read {}", self.kind.described()),
+            Call::Write => "write".into(),
+            Call::Measure => "measure".into(),
+        }
+    }
+
+    fn is_reading(&self) -> bool {
+        self.call == Call::Read
+    }
+
+    /// Clean marks of a degree that matters.
+    fn is_clean_reading(&self) -> bool {
+        self.is_reading() && self.kind == Kind::Clean && [7, 15].contains(&self.shape.2)
+    }
+
+    fn plain_ratio(&self) -> f64 {
+        self.plain / self.library
+    }
+
+    fn equations_ratio(&self) -> f64 {
+        self.equations / self.library
+    }
+
+    fn slowest_ratio(&self) -> f64 {
+        self.slowest / self.clean
+    }
+}
+
+/// What every line that it concerns has to reach.
+struct Target {
+    says: &'static str,
+    concerns: fn(&Line) -> bool,
+    ratio: fn(&Line) -> f64,
+    is_met: fn(f64) -> bool,
+}
+
+const TARGETS: [Target; 4] = [
+    Target {
+        says: "the library takes no longer than the plain port",
+        concerns: |_| true,
+        ratio: Line::plain_ratio,
+        is_met: |ratio| ratio >= 1.0,
+    },
+    Target {
+        says: "clean marks with d 7 and 15 are read 100 times as fast as by equations",
+        concerns: Line::is_clean_reading,
+        ratio: Line::equations_ratio,
+        is_met: |ratio| ratio >= 100.0,
+    },
+    Target {
+        says: "all others are read 30 times as fast as by equations",
+        concerns: |line| line.is_reading() && !line.is_clean_reading(),
+        ratio: Line::equations_ratio,
+        is_met: |ratio| ratio >= 30.0,
+    },
+    Target {
+        says: "no mark takes longer than 40 clean marks of its plan",
+        concerns: Line::is_reading,
+        ratio: Line::slowest_ratio,
+        is_met: |ratio| ratio <= 40.0,
+    },
+];
+
+/// For each target that it is met, or the lines that miss it.
+pub fn print_targets(lines: &[Line]) {
+    for target in &TARGETS {
+        let is_missed = |line: &&Line| (target.concerns)(line) && !(target.is_met)((target.ratio)(line));
+        let missed: Vec<&Line> = lines.iter().filter(is_missed).collect();
+        match missed.is_empty() {
+            true => println!("met: {}", target.says),
+            false => println!("MISSED: {}:", target.says),
+        }
+        for line in missed {
+            println!("    {} {}: {:.2}", line.plan(), line.what(), (target.ratio)(line));
+        }
+    }
+}
