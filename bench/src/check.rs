@@ -1,6 +1,6 @@
 //! The ports held against the tests' decoder: cheap random plans and photographs, and faults in what is lent.
 
-use crate::port::{self, Plain, Tuned};
+use crate::port::{self, Plain, Reduction, Tuned};
 use independent::calls::bytes;
 use independent::{Code, Plan, Reading};
 use traymark::Refusal;
@@ -23,7 +23,7 @@ fn case(seed: u64, random: &mut Random, counts: &mut Counts) -> Result<(), Strin
     }
     for call in [Call::Write, Call::Measure, Call::Read] {
         let expected = expected(call, &given);
-        for (name, outcome) in [("plain", plain(call, &given)), ("tuned", tuned(call, &given))] {
+        for (name, outcome) in [("plain", outcome::<Plain>(call, &given)), ("tuned", outcome::<Tuned>(call, &given))] {
             if outcome != expected {
                 return Err(format!("{name} {call:?} gave {outcome:?}, expected {expected:?}; {given:?}"));
             }
@@ -75,33 +75,22 @@ fn spoil(given: &mut Arguments, random: &mut Random) {
     }
 }
 
-fn plain(call: Call, given: &Arguments) -> Outcome {
-    outcome(call, given, port::write_mark::<Plain>, port::measure_mark::<Plain>, port::read_mark::<Plain>)
-}
-
-fn tuned(call: Call, given: &Arguments) -> Outcome {
-    outcome(call, given, port::write_mark::<Tuned>, port::measure_mark::<Tuned>, port::read_mark::<Tuned>)
-}
-
 /// What a port answers, and what the buffer that it writes holds afterwards.
-fn outcome(
-    call: Call,
-    given: &Arguments,
-    write: fn(&[u8], &[u8], &mut [u8]) -> Result<(), Refusal>,
-    measure: fn(&[u8], &[u8], &[u8], &[u8]) -> Result<traymark::Reading, Refusal>,
-    read: fn(&[u8], &[u8], &[u8], &mut [u8]) -> Result<traymark::Reading, Refusal>,
-) -> Outcome {
+fn outcome<R: Reduction>(call: Call, given: &Arguments) -> Outcome {
     let Arguments { plan, record, symbols, doubts, mark, .. } = given;
     match call {
         Call::Write => {
             let mut buffer = mark.clone();
-            let number = write(plan, record, &mut buffer).map_or_else(Refusal::number, |()| 0);
+            let number = port::write_mark::<R>(plan, record, &mut buffer).map_or_else(Refusal::number, |()| 0);
             Outcome { reading: Reading::refused(number), buffer }
         }
-        Call::Measure => Outcome { reading: reading(measure(plan, record, symbols, doubts)), buffer: Vec::new() },
+        Call::Measure => {
+            let reading = reading(port::measure_mark::<R>(plan, record, symbols, doubts));
+            Outcome { reading, buffer: Vec::new() }
+        }
         Call::Read => {
             let mut buffer = record.clone();
-            let reading = reading(read(plan, symbols, doubts, &mut buffer));
+            let reading = reading(port::read_mark::<R>(plan, symbols, doubts, &mut buffer));
             Outcome { reading, buffer }
         }
         Call::Check => unreachable!("the ports have no such call"),

@@ -37,7 +37,7 @@ pub struct Outcome {
 }
 
 /// How many marks the library and the ports are timed on.
-pub const MARKS: usize = 2_000;
+pub const MARKS: usize = 1_000;
 
 /// The proved library.
 pub const LIBRARY: Contender = Contender {

@@ -21,7 +21,7 @@ pub struct Line {
 pub fn print_head() {
     let over = |name: &str| format!("{name}/lib");
     println!(
-        "{:<14} {:<35} {:>9} {:>9} {:>9} {:>9} {:>9} {:>9} {:>13} {:>9} {:>13}",
+        "{:<15} {:<35} {:>9} {:>9} {:>9} {:>9} {:>9} {:>9} {:>13} {:>9} {:>13}",
         "plan",
         "call and marks",
         LIBRARY.name,
@@ -39,7 +39,7 @@ pub fn print_head() {
 impl Line {
     pub fn print(&self) {
         let Line { library, plain, tuned, equations, slowest, .. } = self;
-        print!("{:<14} {:<35} {library:>9.2} {plain:>9.2} {tuned:>9.2} {equations:>9.2}", self.plan(), self.what());
+        print!("{:<15} {:<35} {library:>9.2} {plain:>9.2} {tuned:>9.2} {equations:>9.2}", self.plan(), self.what());
         print!(" {:>9.2} {:>9.2} {:>13.1}", self.plain_ratio(), tuned / library, self.equations_ratio());
         match self.is_reading() {
             true => println!(" {slowest:>9.2} {:>13.1}", self.slowest_ratio()),

@@ -18,12 +18,12 @@ pub fn lengths(lengths: &[(usize, usize)]) -> Result<(), Refusal> {
 /// Refusals 6, 7 and 8 of a photograph with a record or the buffer for one.
 pub fn photograph<R: Reduction>(plan: &Plan<R>, symbols: &[u8], doubts: &[u8], record: usize) -> Result<(), Refusal> {
     lengths(&[(symbols.len(), plan.cells()), (doubts.len(), plan.cells()), (record, plan.size())])?;
-    if symbols.iter().any(|&symbol| u16::from(symbol) >= plan.field.p && symbol != UNREAD) {
+    let p = plan.field.p as u8;
+    if any(symbols.iter().map(|&symbol| (symbol >= p) & (symbol != UNREAD))) {
         return Err(Refusal::Symbol);
     }
-    let is_wrong =
-        |(&symbol, &doubt): (&u8, &u8)| u16::from(doubt) > FULL || symbol == UNREAD && u16::from(doubt) != FULL;
-    if symbols.iter().zip(doubts).any(is_wrong) {
+    let full = FULL as u8;
+    if any(symbols.iter().zip(doubts).map(|(&symbol, &doubt)| (doubt > full) | (symbol == UNREAD) & (doubt != full))) {
         return Err(Refusal::Doubt);
     }
     Ok(())
@@ -31,8 +31,13 @@ pub fn photograph<R: Reduction>(plan: &Plan<R>, symbols: &[u8], doubts: &[u8], r
 
 /// Refusal 9.
 pub fn record<R: Reduction>(plan: &Plan<R>, record: &[u8]) -> Result<(), Refusal> {
-    match record.iter().all(|&coefficient| u16::from(coefficient) < plan.field.p) {
-        true => Ok(()),
-        false => Err(Refusal::Coefficient),
+    match any(record.iter().map(|&coefficient| u16::from(coefficient) >= plan.field.p)) {
+        true => Err(Refusal::Coefficient),
+        false => Ok(()),
     }
+}
+
+/// Whether one is true. All are looked at, so that the loop is vectorised.
+fn any(cells: impl Iterator<Item = bool>) -> bool {
+    cells.fold(false, |any, cell| any | cell)
 }

@@ -84,48 +84,52 @@ impl<R: Reduction> Field<R> {
 
     /// a + c b. A c of p - v subtracts v b.
     pub fn add_multiple(&self, a: &Row, c: u16, b: &Row) -> Row {
-        from_fn(|j| self.reduction.reduce(a[j] + c * b[j]))
+        joined(a, b, |a, b| self.reduction.reduce(a + c * b))
     }
 
     /// a b, place by place.
     pub fn multiply(&self, a: &Row, b: &Row) -> Row {
-        from_fn(|j| self.reduction.reduce(a[j] * b[j]))
+        joined(a, b, |a, b| self.reduction.reduce(a * b))
     }
 
-    /// c a.
-    pub fn scale(&self, c: u16, a: &Row) -> Row {
-        from_fn(|j| self.reduction.reduce(c * a[j]))
+    /// c (a - b).
+    pub fn scale_difference(&self, c: u16, a: &Row, b: &Row) -> Row {
+        joined(a, b, |a, b| self.product(c, self.difference(a, b)))
     }
 
     /// a - b.
     pub fn subtract(&self, a: &Row, b: &Row) -> Row {
-        from_fn(|j| self.difference(a[j], b[j]))
-    }
-
-    /// Minus a.
-    pub fn negate(&self, a: &Row) -> Row {
-        from_fn(|j| self.difference(0, a[j]))
-    }
-
-    /// The inverses of all elements; that of 0 is 0.
-    pub fn inverses(&self) -> Inverses {
-        let mut table = [0; 251];
-        table[1] = 1;
-        for a in 2..self.p {
-            // a (p / a) + p % a = p, so the inverse of a is that of p % a times -(p / a)
-            table[usize::from(a)] = self.product(self.p - self.p / a, table[usize::from(self.p % a)]);
-        }
-        Inverses(table)
+        joined(a, b, |a, b| self.difference(a, b))
     }
 }
 
-/// The inverses modulo p.
-pub struct Inverses([u16; 251]);
+/// The inverses modulo p by the number; 0 has none.
+pub type Inverses = [u16; 251];
 
-impl Inverses {
-    pub fn of(&self, a: u16) -> u16 {
-        self.0[usize::from(a)]
+/// Those modulo 251, the usual prime.
+pub static INVERSES_251: Inverses = inverses(251);
+
+/// The inverses modulo p.
+pub const fn inverses(p: u16) -> Inverses {
+    let mut table = [0; 251];
+    table[1] = 1;
+    let mut a = 2;
+    while a < p {
+        // a (p / a) + p % a = p, so the inverse of a is that of p % a times -(p / a)
+        table[a as usize] = (p - p / a) * table[(p % a) as usize] % p;
+        a += 1;
     }
+    table
+}
+
+/// A function of two rows, place by place. (`array::from_fn` would be shorter, but is not always vectorised.)
+#[inline]
+pub fn joined(a: &Row, b: &Row, f: impl Fn(u16, u16) -> u16) -> Row {
+    let mut row = *a;
+    for (a, &b) in row.iter_mut().zip(b) {
+        *a = f(*a, b);
+    }
+    row
 }
 
 /// Rows and columns exchanged.

@@ -24,8 +24,8 @@ pub fn guess<R: Reduction>(plan: &Plan<R>, inverses: &Inverses, symbols: &Square
 fn divide_differences<R: Reduction>(plan: &Plan<R>, inverses: &Inverses, rows: &mut [Row]) {
     for step in 1..rows.len() {
         for j in (step..rows.len()).rev() {
-            let inverse = inverses.of(plan.points[j] - plan.points[j - step]);
-            rows[j] = plan.field.scale(inverse, &plan.field.subtract(&rows[j], &rows[j - 1]));
+            let inverse = inverses[usize::from(plan.points[j] - plan.points[j - step])];
+            rows[j] = plan.field.scale_difference(inverse, &rows[j], &rows[j - 1]);
         }
     }
 }

@@ -34,7 +34,7 @@ impl Pairs {
     pub fn new<R: Reduction>(field: &Field<R>, symbols: &Row) -> Pairs {
         Pairs {
             first: Pair { d: [1; 16], e: [0; 16] },
-            second: Pair { d: field.negate(symbols), e: [1; 16] },
+            second: Pair { d: field.subtract(&[0; 16], symbols), e: [1; 16] },
             a: 0,
             b: 0,
         }
@@ -59,7 +59,7 @@ impl Pairs {
         };
         let used_grows = used.d[cell] != 0;
         if used_grows {
-            let ratio = field.product(field.p - other.d[cell], inverses.of(used.d[cell]));
+            let ratio = field.product(field.p - other.d[cell], inverses[usize::from(used.d[cell])]);
             other.add_multiple(field, ratio, used);
             used.multiply(field, &factors);
         } else {

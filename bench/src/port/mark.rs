@@ -2,7 +2,7 @@
 //! most one record is under the radius, so what is under it is the answer.
 
 use super::checks::UNREAD;
-use super::field::{Reduction, Square};
+use super::field::{inverses, Reduction, Square, INVERSES_251};
 use super::guess::guess;
 use super::plan::Plan;
 use super::polynomial::Powers;
@@ -22,18 +22,25 @@ pub fn decode<R: Reduction>(plan: &Plan<R>, symbols: &[u8], doubts: &[u8]) -> Op
         return None;
     }
     let mut left = load(symbols, plan.n, |symbol| if symbol == UNREAD { 0 } else { symbol });
-    let inverses = plan.field.inverses();
+    let made;
+    let inverses = match plan.field.p {
+        251 => &INVERSES_251,
+        p => {
+            made = inverses(p);
+            &made
+        }
+    };
     let powers = Powers::new(plan);
     let photo = Photo { n: plan.n, radius, symbols, doubts };
 
-    let columns = guess(plan, &inverses, &left);
+    let columns = guess(plan, inverses, &left);
     let in_y = powers.put_in_x(&columns);
     if let Some(tally) = photo.measure(|r, symbols, doubts| Tally::of_values(symbols, doubts, &powers.row(&in_y, r))) {
         return Some(Found { columns, tally });
     }
 
     let doubts = load(doubts, plan.n, |doubt| doubt);
-    let columns = steps::solve(plan, &powers, &inverses, &mut left, &doubts)?;
+    let columns = steps::solve(plan, &powers, inverses, &mut left, &doubts)?;
     let tally = photo.measure(|r, symbols, doubts| Tally::of_left(symbols, doubts, &left[r]))?;
     Some(Found { columns, tally })
 }

@@ -18,9 +18,8 @@ mod steps;
 mod strip;
 mod tally;
 
-pub use field::{Plain, Tuned};
+pub use field::{Plain, Reduction, Tuned};
 
-use field::Reduction;
 use plan::Plan;
 use polynomial::Powers;
 use tally::Tally;

@@ -26,7 +26,7 @@ impl Polynomial {
         let mut product = ONE;
         for cell in cells {
             let missing = field.difference(symbols[cell], sum.values[cell]);
-            let factor = field.product(missing, inverses.of(product.values[cell]));
+            let factor = field.product(missing, inverses[usize::from(product.values[cell])]);
             sum = sum.plus(field, factor, &product);
             product = product.with_root(field, points, points[cell]);
         }

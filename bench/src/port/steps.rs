@@ -16,19 +16,23 @@ pub fn solve<R: Reduction>(
     doubts: &Square,
 ) -> Option<Square> {
     let mut columns = [[0; 16]; 16];
-    let mut answers = [None; 16];
+    let mut answers: [Option<Answer>; 16] = [const { None }; 16];
     for t in (0..=plan.degree).rev() {
         let row = strip(plan, inverses, t, FULL);
         for (r, answer) in answers.iter_mut().enumerate().take(plan.n) {
-            *answer = answer.or_else(|| row.decode(&left[r], &doubts[r]));
+            if answer.is_none() {
+                *answer = row.decode(&left[r], &doubts[r]);
+            }
         }
         let unread = row.radius() as u16;
-        let leading: Row = from_fn(|r| answers[r].map_or(0, |answer: Answer| answer.polynomial.coefficients[t]));
-        let costs: Row = from_fn(|r| answers[r].map_or(unread, |answer: Answer| answer.cost as u16));
+        let leading: Row = from_fn(|r| answers[r].as_ref().map_or(0, |answer| answer.polynomial.coefficients[t]));
+        let costs: Row = from_fn(|r| answers[r].as_ref().map_or(unread, |answer| answer.cost as u16));
         let column = strip(plan, inverses, plan.degree - t, unread).decode(&leading, &costs)?.polynomial;
         subtract(plan, left, &column.values, powers.power(t));
-        for r in 0..plan.n {
-            answers[r] = answers[r].filter(|_| leading[r] == column.values[r]);
+        for (r, answer) in answers.iter_mut().enumerate() {
+            if leading[r] != column.values[r] {
+                *answer = None;
+            }
         }
         columns[t] = column.coefficients;
     }

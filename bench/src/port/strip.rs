@@ -1,6 +1,6 @@
 //! The strip decoder: cells enter by rising doubt, and the first candidate under the radius is the answer.
 
-use super::field::{Field, Inverses, Reduction, Row};
+use super::field::{joined, Field, Inverses, Reduction, Row};
 use super::interpolation::Pairs;
 use super::newton::Polynomial;
 use std::array::from_fn;
@@ -16,7 +16,6 @@ pub struct Strip<'a, R> {
 }
 
 /// The polynomial under the radius and its cost.
-#[derive(Clone, Copy)]
 pub struct Answer {
     pub polynomial: Polynomial,
     pub cost: u32,
@@ -25,8 +24,7 @@ pub struct Answer {
 impl<R: Reduction> Strip<'_, R> {
     /// The polynomial that costs under the radius.
     pub fn decode(&self, symbols: &Row, doubts: &Row) -> Option<Answer> {
-        let total: u32 = doubts[..self.n].iter().map(|&doubt| u32::from(doubt)).sum();
-        if total >= self.radius() {
+        if total(&doubts[..self.n]) >= self.radius() {
             return None;
         }
         let mut cells: [usize; 16] = from_fn(|cell| cell);
@@ -52,18 +50,24 @@ impl<R: Reduction> Strip<'_, R> {
         if pairs.a <= pairs.b + self.degree || right.clone().count() != pairs.a {
             return None;
         }
-        if self.cost(doubts, from_fn(|cell| second.e[cell] != 0 && second.d[cell] == 0)) >= self.radius() {
+        let wrong = joined(&second.d, &second.e, |d, e| u16::from((d != 0) | (e == 0)));
+        if self.cost(doubts, &wrong) >= self.radius() {
             return None;
         }
         let cells = right.take(self.degree + 1);
         let polynomial = Polynomial::through(self.field, self.inverses, self.points, symbols, cells);
-        let cost = self.cost(doubts, from_fn(|cell| symbols[cell] == polynomial.values[cell]));
+        let wrong = joined(symbols, &polynomial.values, |symbol, value| u16::from(symbol != value));
+        let cost = self.cost(doubts, &wrong);
         (cost < self.radius()).then_some(Answer { polynomial, cost })
     }
 
-    /// What a word costs that is right at these cells.
-    fn cost(&self, doubts: &Row, right: [bool; 16]) -> u32 {
-        let cells = doubts.iter().zip(right).take(self.n);
-        cells.map(|(&doubt, right)| u32::from(if right { doubt } else { 2 * self.full - doubt })).sum()
+    /// What a word costs that is wrong at these cells.
+    fn cost(&self, doubts: &Row, wrong: &Row) -> u32 {
+        let costs = joined(doubts, wrong, |doubt, wrong| if wrong == 0 { doubt } else { 2 * self.full - doubt });
+        total(&costs[..self.n])
     }
+}
+
+fn total(numbers: &[u16]) -> u32 {
+    numbers.iter().map(|&number| u32::from(number)).sum()
 }
