@@ -15,16 +15,17 @@ program:
 lib:
 	rt staticlib traymark
 
-# Every call and the program against an independent decoder, from Rust and from C; and the two examples.
+# Every call and the program against an independent decoder, from Rust and from C; the benchmark's ports too; and the two examples.
 tests: lib program
 	$(CARGO) run --quiet --release -p traymark-tests --bin calls
 	$(CARGO) run --quiet --release -p traymark-tests --bin program target/bin/trayread
+	$(CARGO) run --quiet --release -p traymark-bench check
 	cc -std=c11 -Wall -Wextra -Werror -Iinclude tests/c/calls.c target/staticlib/libtraymark.a -o target/calls_c
 	target/calls_c
 	cc -std=c11 -Wall -Wextra -Werror -Iinclude examples/read_case_c.c target/staticlib/libtraymark.a -o target/read_case_c
 	target/read_case_c
 
-# Times beside the independent decoder; not a test.
+# Times beside the same method in Rust and the independent decoder; not a test.
 bench: lib
 	$(CARGO) run --quiet --release -p traymark-bench
 

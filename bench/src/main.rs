@@ -3,8 +3,8 @@
 //!
 //! - `bench [N]` prints the table and whether the targets are met; of each stream it takes at most N marks.
 //! - `bench check` holds the ports in Rust against the tests' decoder.
-//! - `bench profile P N D KIND COUNT` lets the library alone read COUNT marks of one stream, for a profiler. KIND is
-//!   clean, errors, doubts, rivals or noise.
+//! - `bench profile P N D KIND COUNT` runs the library alone, on COUNT marks of one line, for a profiler. KIND is clean,
+//!   errors, doubts, rivals or noise for reading such marks, or write or measure.
 //!
 //! Each line of the table is a plan and a stream: the median microseconds of a call by the library, by the port with
 //! division (`plain`), by the port with the reciprocal (`tuned`) and by the tests' decoder (`equations`); how many times
@@ -106,13 +106,18 @@ fn check() -> Result<(), String> {
     Ok(())
 }
 
-/// The library reads the marks of one stream.
-fn profile(shape: [&str; 3], kind: &str, count: &str) -> Result<(), String> {
+/// The library works on the marks of one line.
+fn profile(shape: [&str; 3], word: &str, count: &str) -> Result<(), String> {
     let [p, n, d] = shape;
-    let kind = Kind::ALL.into_iter().find(|known| known.name() == kind).ok_or(USAGE)?;
     let shape = (number(p)?, number(n)?, number(d)?);
+    let named = |&(call, kind): &(Call, Kind)| match call {
+        Call::Read => kind.name() == word,
+        Call::Write => word == "write",
+        Call::Measure => word == "measure",
+    };
+    let (call, kind) = CALLS.into_iter().find(named).ok_or(USAGE)?;
     for mark in stream::marks(shape, kind, number(count)?) {
-        black_box(LIBRARY.call(Call::Read, black_box(&mark)));
+        black_box(LIBRARY.call(call, black_box(&mark)));
     }
     Ok(())
 }

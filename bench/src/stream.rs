@@ -27,8 +27,6 @@ pub enum Kind {
 }
 
 impl Kind {
-    pub const ALL: [Kind; 5] = [Kind::Clean, Kind::Errors, Kind::Doubts, Kind::Rivals, Kind::Noise];
-
     /// Its name, a word.
     pub fn name(self) -> &'static str {
         match self {
