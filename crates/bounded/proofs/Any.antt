@@ -45,3 +45,8 @@ any-start f = refl
 pub any-more : (n : ℕ) (f : ℕ → Bool) → any n f ≡ false → f n ≡ false → any (n + 1) f ≡ false
 unfolding any
 any-more n f e h = rw (add-one n, e) h
+
+-- one more, where the loop goes on whatever it found
+pub any-next : (n : ℕ) (f : ℕ → Bool) {a b : Bool} → a ≡ any n f → b ≡ f n → a || b ≡ any (n + 1) f
+unfolding any
+any-next n f e h = rw (add-one n, e, h)

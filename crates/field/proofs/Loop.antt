@@ -1,4 +1,6 @@
--- The laws of the loop over an array: its start, one element more, an element set anew, and fewer elements. Assumes nothing.
+-- The laws of the loop over an array: its start, one element more, an element set anew, and fewer elements; one element more
+-- where the array is changed as it stands. Assumes nothing.
+use mathlib.Core.Logic.{_≢_}
 use mathlib.Core.Path.{_≡_, _∙_}
 use mathlib.Core.List.{List}
 use Prim.Native.Nat.{ℕ, _+_, _≤_, _<_}
@@ -6,7 +8,7 @@ use native.Mathlib.Omega.{arith}
 use native.Mathlib.Decide.{ℕ-discrete}
 use lib.ListN.{length, set, length-set}
 use lib.Seq.{getD-set-same, getD-set-other}
-use Rattle.field.specs.Loop.{Upto}
+use Rattle.field.specs.Loop.{Upto, Passed}
 
 module _ {A : Type 0} {n : ℕ} {z : A} {T : ℕ → A → Type 0} where
   pub upto-start : {l : List A} → length l ≡ n → Upto n z T l 0
@@ -32,3 +34,14 @@ module _ {A : Type 0} {n : ℕ} {z : A} {T : ℕ → A → Type 0} where
 
   pub upto-less : {l : List A} {i m : ℕ} → m ≤ i → Upto n z T l i → Upto n z T l m
   upto-less h p = record { size = p .size; done = λ j k. p .done j (omega arith) }
+
+module _ {A : Type 0} {n : ℕ} {z : A} {U T : ℕ → A → Type 0} where
+  pub passed-step : {l : List A} {i : ℕ} (v : A) → i < 16 → T i v → Passed n z U T l i → Passed n z U T (set l i v) (i + 1)
+  passed-step {l} {i} v b t p = record {
+    size = length-set l i v ∙ p .size;
+    done = λ j k. elim (ℕ-discrete j i) [
+      | yes e ↦ let h : i < length l = omega (arith, p .size) in rw (e, getD-set-same l i v z h) t
+      | no e ↦ rw (getD-set-other l i j v z e) (p .done j (omega arith))
+    ];
+    todo = λ j k m. let e : j ≢ i = omega arith in rw (getD-set-other l i j v z e) (p .todo j (omega arith) m);
+  }

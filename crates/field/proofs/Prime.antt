@@ -11,7 +11,7 @@ use borrow.Author.Tests.{eqb-false, ne-eqb, le-leb, leb-true}
 use Rattle.bounded.proofs.Any.{any-none, none-any}
 use Rattle.field.specs.Congruence.{Cong}
 use Rattle.field.specs.Prime.{divided, isPrime, Prime, Inverse}
-use Rattle.field.proofs.Congruence.{same, ~sym, _⨾_, ~add, ~mul, ~mul-right, less, rest, remainder, below-eq, difference, to-mod, of-mod, mod-cong}
+use Rattle.field.proofs.Congruence.{same, ~sym, _⨾_, ~add, ~mul, ~mul-right, less, rest, remainder, below-eq, difference, to-mod, of-mod, mod-cong, cong-mod}
 
 -- no number from 2 below m divides p
 abbrev pub Alone : (p m : ℕ) → Type 0
@@ -70,19 +70,21 @@ not-prime p n = go (isPrime p) refl
 pub root-prime : (p s : ℕ) → 2 ≤ p → p < s * s → Alone p s → isPrime p ≡ true
 root-prime p s h l d = prime-is p (record { least = h; alone = below-root p s l d })
 
--- an inverse by division: p = k b + r makes minus k over r the inverse of b
-pub inverse-step : {p b : ℕ} (s a : ℕ) → 0 < p → Cong (p - 1) (s * a) b → Cong (p - 1) (s * (p - p / b) % p * a) (p % b)
-inverse-step {p} {b} s a z h =
-    ~mul-right a (mod-cong z (s * d)) ⨾ same {a = s * d * a} (omega arith) ⨾ ~mul d h ⨾ record { k = 1; l = b; eq = rw whole down }
+-- an inverse by division: p = k a + r makes minus k over r the inverse of a
+pub inverse-step : {p a s : ℕ} → 0 < p → Inverse p (p % a) s → Inverse p a ((p - p / a) * s % p)
+inverse-step {p} {a} {s} z h = record {
+  below = mod-lt (d * s) z;
+  one = cong-mod z (~mul-right a (mod-cong z (d * s)) ⨾ same {a = d * s * a} {b = s * (d * a)} (omega arith) ⨾ ~mul s {a = d * a} (record { k = 1; l = a; eq = rw whole down })) ∙ h .one;
+}
   where
     d : ℕ
-    d = p - p / b
+    d = p - p / a
 
     whole : suc (p - 1) ≡ p
     whole = omega arith
 
-    down : d * b + p * 1 ≡ p % b + p * b
-    down = omega (arith, ap (λ t. t * b) (sub-add-cancel (div-le-self p b)), div-add-mod p b)
+    down : d * a + p * 1 ≡ p % a + p * a
+    down = omega (arith, ap (λ t. t * a) (sub-add-cancel (div-le-self p a)), div-add-mod p a)
 
 module _ {q : ℕ} (prime : Prime (suc q)) where
   euclid : (f a b : ℕ) → a ≤ f → 0 < a → a < suc q → Cong q (a * b) 0 → Cong q b 0

@@ -1,9 +1,10 @@
--- The quotient of t < 65536 by the reciprocal, t * m / 65536, is t / p or 1 less, so that one subtraction is left. Assumes nothing.
-use mathlib.Core.Path.{_≡_, sym, ap, _∙_}
+-- The quotient of t < 65536 by the reciprocal, t * m / 65536, is t / p or 1 less, so that one subtraction is left; larger t go by two quotients. Assumes nothing.
+use mathlib.Core.Path.{_≡_, refl, sym, ap, _∙_}
 use Prim.Native.Nat.{ℕ, _+_, _*_, _/_, _%_, _≤_, _<_}
 use native.Mathlib.Omega.{arith}
 use native.Mathlib.Nat.{mod-lt, mod-eq-of-lt, div-add-mod, mul-le-mul, mul-le-mul-left, mul-le-mul-right, add-mul-mod-self-right}
 use Rattle.field.specs.Row.{Reciprocal}
+use Rattle.field.proofs.Congruence.{same, _⨾_, ~add, ~mul, ~mul-right, mod-cong, cong-mod}
 
 module _ (t p m : ℕ) (r : Reciprocal p m) where
   pub quotient-low : t * m / 65536 * p ≤ t
@@ -25,3 +26,8 @@ remainder-is t p q r h e = sym (ap (λ x. x % p) (e ∙ omega arith) ∙ add-mul
 -- a product of two residues, and of one with the modulus itself, fits 16 bits with a residue added
 pub product-fits : {p x y : ℕ} → p ≤ 251 → x ≤ p → y < p → x * y ≤ 62750
 product-fits {p} {x} {y} h a b = mul-le-mul {n₁ = x} {m₁ = y} {n₂ = 251} {m₂ = 250} (omega arith) (omega arith)
+
+-- a number of three bytes by its high two and its low one
+pub fold-is : {p : ℕ} (t h c : ℕ) → 0 < p → h ≡ t / 256 % p → c ≡ 256 % p → (h * c + t % 256) % p ≡ t % p
+fold-is {p} t h c z e f =
+    cong-mod z (~add (~mul h (same f ⨾ mod-cong z 256) ⨾ ~mul-right 256 (same e ⨾ mod-cong z (t / 256))) (same {a = t % 256} refl) ⨾ same (omega (arith, div-add-mod t 256)))

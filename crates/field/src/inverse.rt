@@ -1,6 +1,7 @@
 // Inverses modulo a prime of at most 251.
-ghost use Prim.Native.Nat.{_<_, _≤_};
-ghost use Rattle.field.specs.Prime.{Prime, Inverse};
+ghost use Prim.Native.Nat.{_≤_};
+ghost use Rattle.field.specs.Prime.{Prime, Inverses};
+ghost use Rattle.field.specs.Row.{Reciprocal};
 
 // The inverses modulo 251 by the number; 0 has none.
 const INVERSES: [u16; 251] = [
@@ -257,35 +258,27 @@ const INVERSES: [u16; 251] = [
     250,
 ];
 
-// The inverse of a modulo 251.
-fn looked_up(a: u16) -> u16
-    requires { ⌜ (0 < a) × (a < 251) ⌝ }
-    ensures { λ r. ⌜ Inverse 251 a r ⌝ }
+// The same by value.
+fn table() -> [u16; 251]
+    ensures { λ r. ⌜ Inverses 251 r ⌝ }
 {
-    INVERSES[a as usize]
+    INVERSES
 }
 
-// The inverse of a modulo p: p = k b + r makes 1 / b the same as -k / r, and r is less than b.
-fn worked_out(a: u16, p: u16) -> u16
-    requires { ⌜ Prime p × (p ≤ 251) × (0 < a) × (a < p) ⌝ }
-    ensures { λ r. ⌜ Inverse p a r ⌝ }
+// The inverses modulo p by the number, from 1 to p - 1; the entries from p are any. At 251, the largest modulus and the
+// usual one, by the table; else each from one before it: p = k a + r makes 1 / a the same as -k / r, and r is less than a.
+pub fn inverses(p: u16, m: u16) -> [u16; 251]
+    requires { ⌜ Prime p × (p ≤ 251) × Reciprocal p m ⌝ }
+    ensures { λ r. ⌜ Inverses p r ⌝ }
 {
-    let mut s: u16 = 1;
-    let mut b = a;
-    while b > 1 {
-        s = s * (p - p / b) % p;
-        b = p % b;
-    }
-    s
-}
-
-// The inverse of a modulo p; by the table at 251, the largest modulus and the usual one.
-pub fn inverse(a: u16, p: u16) -> u16
-    requires { ⌜ Prime p × (p ≤ 251) × (0 < a) × (a < p) ⌝ }
-    ensures { λ r. ⌜ Inverse p a r ⌝ }
-{
+    let mut out = table();
     if p == 251 {
-        return looked_up(a);
+        return out;
     }
-    worked_out(a, p)
+    let mut a: u16 = 2;
+    while a < p {
+        out[a as usize] = crate::rows::reduce((p - p / a) * out[(p % a) as usize], p, m);
+        a += 1;
+    }
+    out
 }

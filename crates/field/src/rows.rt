@@ -2,9 +2,9 @@
 // vectorised. Lanes that a caller does not use hold any number below p.
 //
 // Numbers are u16: a sum of a residue and a product is at most 250 + 251 * 250 = 63,000. A product is divided by p with the
-// reciprocal m = 65536 / p, which a caller makes once.
+// reciprocal m = 65536 / p, which a caller makes once. Longer sums of products are u32, reduced once by `fold_row`.
 ghost use mathlib.Core.Path.{_≡_};
-ghost use Prim.Native.Nat.{_+_, _*_, _%_, _<_, _≤_};
+ghost use Prim.Native.Nat.{ℕ, _+_, _*_, _-_, _%_, _<_, _≤_};
 ghost use Rattle.bounded.specs.Bounded.{at};
 ghost use Rattle.field.specs.Row.{row, Row, Reciprocal};
 
@@ -71,15 +71,64 @@ pub fn scale(c: u16, a: [u16; 16], p: u16, m: u16) -> [u16; 16]
     out
 }
 
+// t modulo p, for t below 2 p.
+fn less(t: u16, p: u16) -> u16
+    requires { ⌜ t < p + p ⌝ }
+    ensures { λ r. ⌜ (r ≡ t % p) × (r < p) ⌝ }
+{
+    if t >= p {
+        return t - p;
+    }
+    t
+}
+
 // a + c in each place. A c of p - v subtracts v.
-pub fn shift(a: [u16; 16], c: u16, p: u16, m: u16) -> [u16; 16]
-    requires { ⌜ Reciprocal p m × Row p a × (c ≤ p) ⌝ }
+pub fn shift(a: [u16; 16], c: u16, p: u16) -> [u16; 16]
+    requires { ⌜ Row p a × (c ≤ p) × (p ≤ 251) ⌝ }
     ensures { λ r. ⌜ r ≡ row (λ j. (at a j + c) % p) ⌝ }
 {
     let mut out = a;
     let mut j = 0;
     while j < 16 {
-        out[j] = reduce(a[j] + c, p, m);
+        out[j] = less(a[j] + c, p);
+        j += 1;
+    }
+    out
+}
+
+// a - b.
+pub fn subtract(a: [u16; 16], b: [u16; 16], p: u16) -> [u16; 16]
+    requires { ⌜ Row p a × Row p b × (p ≤ 251) ⌝ }
+    ensures { λ r. ⌜ r ≡ row (λ j. (at a j + (p - at b j)) % p) ⌝ }
+{
+    let mut out = a;
+    let mut j = 0;
+    while j < 16 {
+        out[j] = less(a[j] + (p - b[j]), p);
+        j += 1;
+    }
+    out
+}
+
+// t modulo p, with c = 256 modulo p: what stands above the low eight bits counts c for each 256.
+fn fold(t: u32, c: u16, p: u16, m: u16) -> u16
+    requires { ⌜ Reciprocal p m × (t < 16777216) × (c ≡ 256 % p) ⌝ }
+    ensures { λ r. ⌜ r ≡ t % p ⌝ }
+{
+    let high = reduce((t / 256) as u16, p, m);
+    reduce(high * c + (t % 256) as u16, p, m)
+}
+
+// t modulo p in each place, for sums of up to 256 products.
+pub fn fold_row(t: [u32; 16], p: u16, m: u16) -> [u16; 16]
+    requires { ⌜ Reciprocal p m × ((j : ℕ) → j < 16 → at t j < 16777216) ⌝ }
+    ensures { λ r. ⌜ r ≡ row (λ j. at t j % p) ⌝ }
+{
+    let c = 256 % p;
+    let mut out = [0u16; 16];
+    let mut j = 0;
+    while j < 16 {
+        out[j] = fold(t[j], c, p, m);
         j += 1;
     }
     out

@@ -11,25 +11,25 @@ use Rattle.field.proofs.rows.shift.Statement.{statement}
 use Rattle.field.proofs.rows.shift.Tie as tie
 
 abbrev Inv-loop : tie.InvT-loop
-Inv-loop c p m a out₀ j₀ out j = (j ≤ 16) × Upto 16 0 (λ k v. v ≡ (at a k + c) % p) out j
+Inv-loop c p a out₀ j₀ out j = (j ≤ 16) × Upto 16 0 (λ k v. v ≡ (at a k + c) % p) out j
 
 abbrev μ-loop : tie.MeasureT-loop
-μ-loop c p m a out₀ j₀ out j = 16 - j
+μ-loop c p a out₀ j₀ out j = 16 - j
 
 loop-holds : tie.Need-loop-holds Inv-loop μ-loop
-loop-holds c = (omega arith, upto-start (c .pre .1 .size))
+loop-holds c = (omega arith, upto-start (c .pre .0 .size))
 
-mul-reduce : tie.Need-mul-reduce Inv-loop μ-loop
-mul-reduce c = search needs
+mul-less : tie.Need-mul-less Inv-loop μ-loop
+mul-less c = search needs
 
-array-read-reduce : tie.Need-array-read-reduce Inv-loop μ-loop
-array-read-reduce c = search needs
+array-read-less : tie.Need-array-read-less Inv-loop μ-loop
+array-read-less c = search needs
 
-add-reduce : tie.Need-add-reduce Inv-loop μ-loop
-add-reduce c = omega (arith, c .before .before .pre .1 .small (c .before .loop .j), c .before .before .pre .0 .most)
+add-less : tie.Need-add-less Inv-loop μ-loop
+add-less c = omega (arith, c .before .before .pre .0 .small (c .before .loop .j))
 
-reduce-requires : tie.Need-reduce-requires Inv-loop μ-loop
-reduce-requires c κs = c .before .before .pre .0
+less-requires : tie.Need-less-requires Inv-loop μ-loop
+less-requires c κs = omega (arith, c .before .before .pre .0 .small (c .before .loop .j))
 
 mul-out : tie.Need-mul-out Inv-loop μ-loop
 mul-out c = search needs
@@ -44,7 +44,7 @@ loop-less : tie.Need-loop-less Inv-loop μ-loop
 loop-less c = search needs
 
 loop-again : tie.Need-loop-again Inv-loop μ-loop
-loop-again c = (omega arith, upto-step (c .reduce .result) (omega arith) (c .reduce .ensures .0) (c .before .before .loop .inv .1))
+loop-again c = (omega arith, upto-step (c .less .result) (omega arith) (c .less .ensures .0) (c .before .before .loop .inv .1))
 
 returns : tie.Need-returns Inv-loop μ-loop
 returns c = upto-row (upto-less (omega arith) (c .before .loop .inv .1))
@@ -56,10 +56,10 @@ shift-spec =
     Inv-loop
     μ-loop
     loop-holds
-    mul-reduce
-    array-read-reduce
-    add-reduce
-    reduce-requires
+    mul-less
+    array-read-less
+    add-less
+    less-requires
     mul-out
     array-write-out
     add-j

@@ -1,4 +1,4 @@
--- `field::inverse::looked_up` meets its contract: one test, which antt computes over the table. Assumes nothing.
+-- `field::inverse::table` meets its contract: one test, which antt computes over the table. Assumes nothing.
 use mathlib.Core.Path.{_≡_, refl}
 use mathlib.Core.Bool.{Bool, true, false, not, _&&_, true≢false}
 use mathlib.Core.List.{List, [], _∷_}
@@ -9,9 +9,8 @@ use borrow.Author.Tests.{eqb-true, ltb-true}
 use Rattle.bounded.specs.Bounded.{at, any}
 use Rattle.bounded.proofs.Any.{any-none}
 use Rattle.field.specs.Prime.{Inverse}
-use borrow.Author.Needs.{needs}
-use Rattle.field.proofs.inverse.looked_up.Statement.{statement}
-use Rattle.field.proofs.inverse.looked_up.Tie as tie
+use Rattle.field.proofs.inverse.table.Statement.{statement}
+use Rattle.field.proofs.inverse.table.Tie as tie
 
 inverses : List ℕ
 inverses =
@@ -48,17 +47,14 @@ right a r h = go (ltb r 251) (eqb (r * a % 251) 1) refl refl h
     go true false l e h = absurd (true≢false h)
     go false y l e h = absurd (true≢false h)
 
-mul-result : tie.Need-mul-result
-mul-result c = search needs
-
-array-read-result : tie.Need-array-read-result
-array-read-result c = search needs
-
 returns : tie.Need-returns
 unfolding inverses wrong
-returns c =
-    let back : suc (c .args .a - 1) ≡ c .args .a = omega arith in
-    rw back at (right (suc (c .args .a - 1)) (at inverses (suc (c .args .a - 1))) (any-none 250 wrong none-wrong (c .args .a - 1) (omega arith)))
+returns c = record {
+  size = refl;
+  each = λ a z l.
+      let back : suc (a - 1) ≡ a = omega arith in
+      rw back at (right (suc (a - 1)) (at inverses (suc (a - 1))) (any-none 250 wrong none-wrong (a - 1) (omega arith)));
+}
 
-pub looked-up-spec : {M : Type 1} → statement M
-looked-up-spec = tie.close (tie.spec mul-result array-read-result returns)
+pub table-spec : {M : Type 1} → statement M
+table-spec = tie.close (tie.spec returns)
