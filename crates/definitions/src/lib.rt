@@ -1,4 +1,5 @@
-// Document 01 as definitions: read specs/ in the order of its Lib.antt. The code here is only the type that the calls answer with.
+// Document 01 as definitions: read specs/ in the order of its Lib.antt. The code here is the type that the calls answer with, and
+// the numbers that a photograph has for what is not known.
 
 // What measuring and reading answer. Of a refusal all but the number is 0.
 #[repr(C)]
@@ -14,3 +15,11 @@ pub struct Reading {
     // 0 to 3, by the changed count
     pub class: u32,
 }
+
+// The doubt of a cell of which nothing is known; and the same as a byte of a photograph.
+pub const FULL: u32 = 100;
+
+pub const FULL_BYTE: u8 = 100;
+
+// The symbol of a cell that was not read: an erasure.
+pub const UNREAD: u8 = 255;

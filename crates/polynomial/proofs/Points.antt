@@ -6,7 +6,7 @@ use Rattle.field.specs.Prime.{Prime}
 use Rattle.field.proofs.Prime.{apart}
 use Rattle.polynomial.specs.Eval.{Apart, Points}
 
-points-rise : {p n : ℕ} {x : ℕ → ℕ} → Points p n x → (j r : ℕ) → j < r → r < n → x j < x r
+pub points-rise : {p n : ℕ} {x : ℕ → ℕ} → Points p n x → (j r : ℕ) → j < r → r < n → x j < x r
 points-rise P j zero l i = absurd (omega arith)
 points-rise {x} P j (suc r) l i = elim (ℕ-discrete j r) [
   | yes e ↦ rw e (P .rising r i)

@@ -70,9 +70,15 @@ fn coefficient_of_y(message: &[u8], d: usize, t: usize) -> [u16; 16]
 }
 
 // Row t has, for each of the row points whose powers are given, the coefficient of Y^t there; the rows above d are 0.
-pub fn columns(message: &[u8], powers: [[u16; 16]; 16], d: usize, p: u16, m: u16) -> [[u16; 16]; 16]
-    requires { ⌜ Reciprocal p m × Rows p powers × Word p (startOf (suc d)) (now message) × (d < 16) ⌝ }
-    ensures { λ r. ⌜ Rows p r × ((x : List ℕ) → Powers p x powers → Columns p d x (now (message .entry)) r) ⌝ }
+pub fn columns(
+    message: &[u8],
+    powers: &[[u16; 16]; 16],
+    d: usize,
+    p: u16,
+    m: u16,
+) -> [[u16; 16]; 16]
+    requires { ⌜ Reciprocal p m × Rows p (now powers) × Word p (startOf (suc d)) (now message) × (d < 16) ⌝ }
+    ensures { λ r. ⌜ Rows p r × ((x : List ℕ) → Powers p x (now (powers .entry)) → Columns p d x (now (message .entry)) r) ⌝ }
 {
     let mut out = [[0u16; 16]; 16];
     let mut t = 0;
@@ -85,9 +91,9 @@ pub fn columns(message: &[u8], powers: [[u16; 16]; 16], d: usize, p: u16, m: u16
 }
 
 // Place r of each row.
-fn place_of_each(rows: [[u16; 16]; 16], r: usize) -> [u16; 16]
+pub fn place_of_each(rows: &[[u16; 16]; 16], r: usize) -> [u16; 16]
     requires { ⌜ r < 16 ⌝ }
-    ensures { λ l. ⌜ l ≡ row (λ t. at (getD rows t []) r) ⌝ }
+    ensures { λ l. ⌜ l ≡ row (λ t. at (getD (now (rows .entry)) t []) r) ⌝ }
 {
     let mut out = [0u16; 16];
     let mut t = 0;
@@ -100,15 +106,15 @@ fn place_of_each(rows: [[u16; 16]; 16], r: usize) -> [u16; 16]
 
 // The values in row r: a polynomial in Y, whose coefficients are place r of the columns, at the column points, whose powers are given.
 pub fn row_values(
-    columns: [[u16; 16]; 16],
-    powers: [[u16; 16]; 16],
+    columns: &[[u16; 16]; 16],
+    powers: &[[u16; 16]; 16],
     r: usize,
     d: usize,
     p: u16,
     m: u16,
 ) -> [u16; 16]
-    requires { ⌜ Reciprocal p m × Rows p columns × Rows p powers × (r < 16) × (d < 16) ⌝ }
-    ensures { λ v. ⌜ Row p v × ((x y F : List ℕ) → Columns p d x F columns → Powers p y powers → v ≡ row (λ j. valueXY p d F (at x r) (at y j))) ⌝ }
+    requires { ⌜ Reciprocal p m × Rows p (now columns) × Rows p (now powers) × (r < 16) × (d < 16) ⌝ }
+    ensures { λ v. ⌜ Row p v × ((x y F : List ℕ) → Columns p d x F (now (columns .entry)) → Powers p y (now (powers .entry)) → v ≡ row (λ j. valueXY p d F (at x r) (at y j))) ⌝ }
 {
     let w = place_of_each(columns, r);
     evaluation::values(powers, d, w, p, m)

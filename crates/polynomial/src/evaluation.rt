@@ -25,17 +25,23 @@ pub fn powers(x: [u16; 16], p: u16, m: u16) -> [[u16; 16]; 16]
     rows
 }
 
-// The values at the points, whose powers are given, of the polynomial with the k + 1 coefficients w.
-pub fn values(powers: [[u16; 16]; 16], k: usize, w: [u16; 16], p: u16, m: u16) -> [u16; 16]
-    requires { ⌜ Reciprocal p m × Rows p powers × Row p w × (k < 16) ⌝ }
-    ensures { λ r. ⌜ Row p r × ((x : List ℕ) → Powers p x powers → r ≡ row (λ j. eval (suc k) (at w) (at x j) % p)) ⌝ }
+// The values at the points, whose powers are given, of the polynomial with the k + 1 coefficients w. The sums of products are
+// reduced once, at the end: sixteen products of numbers below 251 are less than 2^20.
+pub fn values(powers: &[[u16; 16]; 16], k: usize, w: [u16; 16], p: u16, m: u16) -> [u16; 16]
+    requires { ⌜ Reciprocal p m × Rows p (now powers) × Row p w × (k < 16) ⌝ }
+    ensures { λ r. ⌜ Row p r × ((x : List ℕ) → Powers p x (now (powers .entry)) → r ≡ row (λ j. eval (suc k) (at w) (at x j) % p)) ⌝ }
 {
-    let mut sum = [0; 16];
+    let mut sum = [0u32; 16];
     let mut i = 0;
     while i <= k {
-        let next = field::rows::add_multiple(sum, w[i], powers[i], p, m);
-        sum = next;
+        let c = w[i] as u32;
+        let power = powers[i];
+        let mut j = 0;
+        while j < 16 {
+            sum[j] += c * power[j] as u32;
+            j += 1;
+        }
         i += 1;
     }
-    sum
+    field::rows::fold_row(sum, p, m)
 }

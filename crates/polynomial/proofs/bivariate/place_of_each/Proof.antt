@@ -13,10 +13,10 @@ use Rattle.polynomial.proofs.bivariate.place_of_each.Statement.{stateme
 use Rattle.polynomial.proofs.bivariate.place_of_each.Tie as tie
 
 abbrev Inv-loop : tie.InvT-loop
-Inv-loop r rows out₀ t₀ out t = (t ≤ 16) × Upto 16 0 (λ k v. v ≡ at (getD rows k []) r) out t
+Inv-loop rows r out₀ t₀ out t = (t ≤ 16) × Upto 16 0 (λ k v. v ≡ at (getD rows k []) r) out t
 
 abbrev μ-loop : tie.MeasureT-loop
-μ-loop r rows out₀ t₀ out t = 16 - t
+μ-loop rows r out₀ t₀ out t = 16 - t
 
 loop-holds : tie.Need-loop-holds Inv-loop μ-loop
 loop-holds c = (omega arith, upto-start refl)

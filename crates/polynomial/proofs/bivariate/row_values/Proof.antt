@@ -11,12 +11,12 @@ place-of-each-requires c κs = search needs
 values-requires : tie.Need-values-requires
 values-requires c κs =
     let b = c .before in
-    (b .pre .0, b .pre .2, place-row (b .args .r) (b .args .columns) (omega (arith, b .pre .0 .least)) (b .pre .3) (c .place-of-each .ensures) (b .pre .1), b .pre .4)
+    (b .pre .0, b .pre .2, place-row (b .args .r) (b .args .columns .now) (omega (arith, b .pre .0 .least)) (b .pre .3) (c .place-of-each .ensures) (b .pre .1), b .pre .4)
 
 returns : tie.Need-returns
 returns c =
     let b = c .before .before in
-    (c .values .ensures .0, λ x y F C P. row-values-are (b .args .r) (b .args .columns) (omega (arith, b .pre .0 .least)) (b .pre .3) (c .before .place-of-each .ensures) (b .args .d) x y F (b .pre .4) C (c .values .ensures .1 y P))
+    (c .values .ensures .0, λ x y F C P. row-values-are (b .args .r) (b .args .columns .now) (omega (arith, b .pre .0 .least)) (b .pre .3) (c .before .place-of-each .ensures) (b .args .d) x y F (b .pre .4) C (c .values .ensures .1 y P))
 
 pub row-values-spec : {M : Type 1} → statement M
 row-values-spec = tie.close (tie.spec place-of-each-requires values-requires returns)
