@@ -1,16 +1,13 @@
 -- The interpolation's steps keep its degrees: pairs multiplied by X - x r and pairs mixed; and so does the entry of a cell. Assumes nothing.
-use mathlib.Core.Logic.{_≢_}
-use mathlib.Core.Path.{_≡_, refl, sym, _∙_}
+use mathlib.Core.Path.{_≡_, refl}
 use Prim.Native.Nat.{ℕ, zero, suc, _+_, _*_, _-_, _≤_, _<_}
 use native.Mathlib.Omega.{arith}
-use native.Mathlib.Decide.{decLe, ℕ-discrete}
-use Rattle.bounded.specs.Bounded.{sum}
-use Rattle.bounded.proofs.Sum.{sum-put, sum-const}
-use Rattle.field.specs.Congruence.{Cong, Agree}
+use native.Mathlib.Decide.{decLe}
+use Rattle.field.specs.Congruence.{Agree}
 use Rattle.field.proofs.Congruence.{same, _⨾_, ~add, ~mul, less}
 use Rattle.polynomial.specs.Lead.{Lead, con}
 use Rattle.polynomial.proofs.Lead.{lead-eq, mix, wider, zero-to, shift}
-use Rattle.reed_solomon.specs.Interpolation.{residual, Degrees, Interpolates, Entered}
+use Rattle.reed_solomon.specs.Interpolation.{residual, Degrees}
 
 -- the row f with each value multiplied by x - x r, and f + c g
 abbrev pub shifted : (q : ℕ) (x : ℕ → ℕ) (r : ℕ) (f : ℕ → ℕ) → ℕ → ℕ

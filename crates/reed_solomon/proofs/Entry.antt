@@ -1,13 +1,13 @@
 -- A cell enters: both pairs are 0 there and stay so at the cells before, one degree more is counted, and the degrees hold. Assumes nothing.
 use mathlib.Core.Logic.{_≢_}
-use mathlib.Core.Path.{_≡_, refl, sym, _∙_}
+use mathlib.Core.Path.{_≡_, _∙_}
 use Prim.Native.Nat.{ℕ, suc, _+_, _*_, _-_, _≤_, _<_}
 use native.Mathlib.Omega.{arith}
 use native.Mathlib.Decide.{ℕ-discrete}
 use Rattle.bounded.specs.Bounded.{sum}
 use Rattle.bounded.proofs.Sum.{sum-put}
 use Rattle.field.specs.Congruence.{Cong, Agree}
-use Rattle.field.proofs.Congruence.{same, ~sym, _⨾_, ~add, ~mul, less}
+use Rattle.field.proofs.Congruence.{same, _⨾_, ~add, ~mul, less}
 use Rattle.reed_solomon.specs.Interpolation.{Interpolates, Entered}
 use Rattle.reed_solomon.proofs.Degrees.{shifted, mixed, grow1, grow2, mix1, mix2}
 

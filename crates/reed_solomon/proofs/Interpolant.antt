@@ -1,260 +1,275 @@
--- Newton's form: sums of polynomials and products with X - z keep values and coefficients together; a cell is taken, and after k + 1
--- cells there is no other polynomial of degree at most k through them. Assumes nothing.
-use mathlib.Core.Logic.{_≢_, inl, inr}
+-- Newton's form: the multiple of the product that reaches a symbol, one cell more, and the coefficients by Horner's rule. After k + 1
+-- cells the interpolation's pairs are known. Assumes nothing.
+use mathlib.Core.Logic.{_≢_}
 use mathlib.Core.Path.{_≡_, refl, sym, ap, ap₂, _∙_}
 use mathlib.Core.List.{List}
 use mathlib.Core.Bool.{Bool, true, false, cond}
 use Prim.Native.Nat.{ℕ, zero, suc, _+_, _*_, _-_, _%_, _≤_, _<_}
 use native.Mathlib.Omega.{arith}
 use native.Mathlib.Decide.{ℕ-discrete, decLt}
-use native.Mathlib.Nat.{zero-mod, mod-eq-of-lt}
+use native.Mathlib.Nat.{zero-mod, mod-lt, mul-zero}
 use native.Mathlib.Numerals.{add-one}
-use lib.Dec.{eqb, ltb}
-use borrow.Author.Tests.{eq-eqb, eqb-true, ltb-true, ltb-false, lt-ltb, le-ltb}
-use lib.ListN.{length, set, replicate}
-use Rattle.bounded.specs.Bounded.{at, sum}
-use Rattle.bounded.proofs.Sum.{sum-eq, sum-le, sum-add, sum-const}
-use Rattle.bounded.proofs.Tab.{length-tab, tab-is}
+use lib.Dec.{ltb}
+use borrow.Author.Tests.{ltb-true}
+use lib.ListN.{length, set, length-set, replicate}
+use lib.Seq.{getD-set-same, getD-set-other}
+use Rattle.bounded.specs.Bounded.{at}
+use Rattle.bounded.proofs.Sum.{sum-eq, sum-le, sum-const}
+use Rattle.bounded.proofs.Tab.{length-tab}
 use Rattle.field.specs.Congruence.{Cong, Agree}
 use Rattle.field.specs.Row.{row, Row}
-use Rattle.field.proofs.Congruence.{same, ~sym, _⨾_, ~add, ~mul, ~mul-right, less, to-mod, mod-cong, cong-mod, nonzero}
+use Rattle.field.proofs.Congruence.{same, ~sym, _⨾_, ~add, ~mul, less, nonzero}
 use Rattle.field.proofs.Row.{row-of, row-at, beyond, result-row, result-cong}
-use Rattle.definitions.specs.Cost.{changed}
-use Rattle.polynomial.specs.Eval.{eval, values, Apart}
-use Rattle.polynomial.proofs.Eval.{eval-one, eval-front, eval-minus, eval-short, eval-cong, same-or-far}
-use Rattle.reed_solomon.specs.declared.newton.Polynomial.{Polynomial}
+use Rattle.polynomial.specs.Eval.{eval, Apart}
+use Rattle.polynomial.proofs.Eval.{eval-front, eval-minus, eval-short, eval-cong}
 use Rattle.reed_solomon.specs.declared.newton.Newton.{Newton}
-use Rattle.reed_solomon.specs.Newton.{raised, Residues, Poly, Plus, Root, Begins, Takes, Enough, Fits, Through}
-use Rattle.reed_solomon.proofs.State.{minus, zeros-at, ones-at, zeros-row, ones-row}
-
--- a row is 0 beyond its end, and where its function is
-row-zero : (f : ℕ → ℕ) {l : List ℕ} (i : ℕ) → l ≡ row f → (i < 16 → f i ≡ 0) → at l i ≡ 0
-row-zero f {l} i e z = elim (decLt i 16) [
-  | yes k ↦ ap (λ t. at t i) e ∙ row-at f i k ∙ z k
-  | no k ↦ beyond l i (omega (arith, ap length e, length-tab 16 f))
-]
-
-reduced-zero : (p : ℕ) (f : ℕ → ℕ) {l : List ℕ} (i : ℕ) → l ≡ row (λ j. f j % p) → f i ≡ 0 → at l i ≡ 0
-reduced-zero p f i e z = row-zero (λ j. f j % p) i e λ _. ap (λ t. t % p) z ∙ zero-mod p
-
-module _ {p i : ℕ} {x : List ℕ} (pos : 0 < p) where
-  pub plus-poly : {c k : ℕ} {f g h : Polynomial} → i ≤ k → Poly p i x f → Poly p k x g → Plus p c f g h → Poly p k x h
-  plus-poly {c} {k} {f} {g} {h} l F G H = record {
-    rows = record { values = result-row _ pos (H .values); coefs = result-row _ pos (H .coefs) };
-    above = λ j m. reduced-zero p _ j (H .coefs) (omega (arith, F .above j (omega arith), ap (λ t. c * t) (G .above j m)));
-    agree = λ b j m.
-        result-cong _ pos (H .values) j m
-        ⨾ ~add (F .agree (omega arith) j m) (~mul c (G .agree b j m))
-        ⨾ same (ap (λ t. t + c * eval k gc (at x j)) (sym (eval-short i k fc (at x j) l (F .above))) ∙ sym (eval-minus c k fc gc (at x j)))
-        ⨾ ~sym (eval-cong k (at x j) λ o n. result-cong (λ o. fc o + c * gc o) pos (H .coefs) o (omega arith));
-  }
-    where
-      fc : ℕ → ℕ
-      fc = at (f .coefficients)
-
-      gc : ℕ → ℕ
-      gc = at (g .coefficients)
-
-  pub root-poly : {z : ℕ} {f g : Polynomial} → Poly p i x f → Root p x z f g → Poly p (suc i) x g
-  root-poly {z} {f} {g} F G = record {
-    rows = record { values = result-row _ pos (G .values); coefs = result-row _ pos (G .coefs) };
-    above = λ j m. reduced-zero p _ j (G .coefs) (ap₂ _+_ (row-zero (raised a) j (G .raise) λ _. none j m) (ap (λ t. (p - z) * t) (F .above j (omega arith))) ∙ omega arith);
-    agree = λ b j m.
-        result-cong _ pos (G .values) j m
-        ⨾ ~mul-right (at (G .w) j) (F .agree (omega arith) j m)
-        ⨾ ~mul (eval i a (at x j)) (result-cong _ pos (G .differences) j m)
-        ⨾ same (sym (product (p - z) (at x j)))
-        ⨾ ~sym (eval-cong (suc i) (at x j) λ o n. result-cong (λ o. at (G .up) o + (p - z) * a o) pos (G .coefs) o (omega arith)
-        ⨾ ~add (same (ap (λ t. at t o) (G .raise) ∙ row-at (raised a) o (omega arith))) (same refl));
-  }
-    where
-      a : ℕ → ℕ
-      a = at (f .coefficients)
-
-      none : (j : ℕ) → suc i ≤ j → raised a j ≡ 0
-      none zero l = absurd (omega arith)
-      none (suc j) l = F .above j (omega arith)
-
-      -- (X - z) f, as X f less z f
-      product : (m y : ℕ) → eval (suc i) (λ o. raised a o + m * a o) y ≡ eval i a y * (y + m)
-      product m y = omega (
-        arith,
-        eval-minus m (suc i) (raised a) a y,
-        eval-front i (raised a) y,
-        ap (λ t. m * t) (eval-short i (suc i) a y (omega arith) (F .above)),
-      )
-
--- the sum 0 and the product 1
-pub begins : Begins (record {
-  sum = record { values = replicate 16 0; coefficients = replicate 16 0 };
-  product = record { values = replicate 16 1; coefficients = set (replicate 16 0) 0 1 };
-})
-begins = record {
-  sum = λ p x l. record {
-    rows = record { values = zeros-row (omega arith); coefs = zeros-row (omega arith) };
-    above = λ j _. zeros-at 16 j;
-    agree = λ _ j _. same (zeros-at 16 j);
-  };
-  product = λ p x l. record {
-    rows = record { values = ones-row l; coefs = row-of (omega arith) refl λ j _. one p j l };
-    above = above;
-    agree = λ _ j m. same (ones-at j m ∙ sym (eval-one (at (set (replicate 16 0) 0 1)) (at x j)));
-  };
-  one = ones-at;
-}
-  where
-    above : (j : ℕ) → 1 ≤ j → at (set (replicate 16 0) 0 1) j ≡ 0
-    above zero l = absurd (omega arith)
-    above (suc j) l = zeros-at 15 j
-
-    one : (p j : ℕ) → 1 < p → at (set (replicate 16 0) 0 1) j < p
-    one p zero l = l
-    one p (suc j) l = rw (zeros-at 15 j) (omega arith)
-
-pub raised-row : {p : ℕ} {a l : List ℕ} → Row p a → l ≡ row (raised (at a)) → Row p l
-raised-row {p} {a} R e = row-of (omega (arith, R .small 0)) (ap length e ∙ length-tab 16 (raised (at a))) λ j k.
-    rw (ap (λ t. at t j) e ∙ row-at (raised (at a)) j k) (small j)
-  where
-    small : (j : ℕ) → raised (at a) j < p
-    small zero = omega (arith, R .small 0)
-    small (suc j) = R .small j
-
--- the multiple c of the product that takes the sum's value f to the symbol y
-pub take-hit : {p y d : ℕ} (m f c g : ℕ) → m + y ≡ p → 0 < p → d ≡ (f + m) % p → Cong (p - 1) (d + c * g) 0 → Cong (p - 1) (f + c * g) y
-take-hit {y} m f c g e z r h =
-    ~sym (less {a = f + m + c * g + y} 1 (omega arith))
-    ⨾ ~add {c = y} (~add {c = c * g} (~sym (mod-cong z (f + m)) ⨾ same (sym r)) (same refl) ⨾ h) (same refl)
-    ⨾ same (omega arith)
+use Rattle.reed_solomon.specs.Order.{taken, Least}
+use Rattle.reed_solomon.specs.Interpolation.{Entered}
+use Rattle.reed_solomon.specs.Pairs.{Ratio}
+use Rattle.reed_solomon.specs.Newton.{base, form, raised, Enough, Fits, Coefficients}
+use Rattle.reed_solomon.proofs.Cursor.{zeros-at, next-cell, left-above, entering-start, entering-next}
+use Rattle.reed_solomon.proofs.Degrees.{shifted, mixed, degrees-start}
+use Rattle.reed_solomon.proofs.Entry.{freed1}
+use Rattle.reed_solomon.proofs.State.{minus, Times, Plus, reduced, plus, times, ones-at, zeros-row, ones-row, entered-of}
 
 pub positive : {q : ℕ} {a : ℕ} → ¬ (Cong q a 0) → 0 < a
 positive {a = zero} h = absurd (h (same refl))
 positive {a = suc a} h = omega arith
 
 -- two points in either order
-apart-after : {q n : ℕ} {x : ℕ → ℕ} → Apart q n x → (j r b : ℕ) → r < j → j < n → Cong q ((x j + q * x r) * b) 0 → Cong q b 0
-apart-after {q} {x} ax j r b l i h = ax .cancel r j b l i (turned ⨾ ~mul q h ⨾ same (omega arith))
+apart-two : {q n : ℕ} {x : ℕ → ℕ} → Apart q n x → (j r b : ℕ) → r < n → j < n → j ≢ r → Cong q ((x j + q * x r) * b) 0 → Cong q b 0
+apart-two {q} {x} ax j r b l i d h = elim (decLt j r) [
+  | yes o ↦ ax .cancel j r b o l h
+  | no o ↦ ax .cancel r j b (omega arith) i (turned ⨾ ~mul q h ⨾ same (omega arith))
+]
   where
     turned : Cong q ((x r + q * x j) * b) (q * ((x j + q * x r) * b))
     turned = record { k = q * (x r * b); l = x r * b; eq = omega arith }
 
-module _ {p : ℕ} {x y v : List ℕ} (pos : 1 < p) where
-  pub fits-start : {n : ℕ} {t : Newton} → n ≤ 16 → Begins t → Fits p x y v n 0 0 t
-  fits-start {t} b B = record {
-    sum = B .sum p x pos;
-    product = B .product p x pos;
-    taken = refl;
-    hit = λ j l. absurd (omega arith);
-    zero = λ j l. absurd (omega arith);
-    left = λ j _ l z. nonzero 1 (omega arith) (λ e. omega arith) (same (sym (B .one j (omega arith))) ⨾ z);
-  }
+-- the form depends on the slopes and nodes that it has
+base-same : (q : ℕ) {z z′ : ℕ → ℕ} (i X : ℕ) → ((l : ℕ) → l < i → z l ≡ z′ l) → base q z i X ≡ base q z′ i X
+base-same q zero X h = refl
+base-same q (suc i) X h = ap₂ (λ b t. b * (X + q * t)) (base-same q i X λ l m. h l (omega arith)) (h i (omega arith))
 
-  module _ {n r i : ℕ} {t : Newton} (F : Fits p x y v n r i t) where
-    -- while too few were taken there are cells left
-    pub fits-more : {k : ℕ} → i ≤ k → k < sum n (at v) → r ≤ n → r < n
-    fits-more {k} l h b = elim (ℕ-discrete r n) [
-      | yes e ↦ absurd (omega (arith, F .taken, ap (λ t. sum t (at v)) e))
-      | no e ↦ omega arith
-    ]
+form-same : (q : ℕ) {c c′ z z′ : ℕ → ℕ} (i X : ℕ) → ((l : ℕ) → l < i → c l ≡ c′ l) → ((l : ℕ) → l < i → z l ≡ z′ l) → form q c z i X ≡ form q c′ z′ i X
+form-same q zero X g h = refl
+form-same q (suc i) X g h = ap₂ _+_
+    (form-same q i X (λ l m. g l (omega arith)) λ l m. h l (omega arith))
+    (ap₂ _*_ (g i (omega arith)) (base-same q i X λ l m. h l (omega arith)))
 
-    -- a cell that is not marked
-    pub fits-skip : at v r ≡ 0 → Fits p x y v n (r + 1) i t
-    fits-skip e = rw (add-one r) (record {
-      sum = F .sum;
-      product = F .product;
-      taken = omega (arith, F .taken);
-      hit = λ j l m. F .hit j (before j l m) m;
-      zero = λ j l m. F .zero j (before j l m) m;
-      left = λ j l. F .left j (omega arith);
-    })
-      where
-        before : (j : ℕ) → j < suc r → at v j ≢ 0 → j < r
-        before j l m = elim (ℕ-discrete j r) [ yes h ↦ absurd (m (rw h e)) | no h ↦ omega arith ]
+-- a row with one place set
+set-row : {p : ℕ} {l : List ℕ} (i v : ℕ) → i < 16 → v < p → Row p l → Row p (set l i v)
+set-row {p} {l} i v b s R = record {
+  size = length-set l i v ∙ R .size;
+  small = λ j. elim (ℕ-discrete j i) [
+    | yes e ↦ rw (e, getD-set-same l i v 0 (omega (arith, R .size))) s
+    | no e ↦ rw (getD-set-other l i j v 0 e) (R .small j)
+  ];
+}
 
-    pub fits-take : {t′ : Newton} → Apart (p - 1) n (at x) → n ≤ 16 → r < n → at x r ≤ p → at v r ≡ 1 → Takes p x (at y r) r t t′ → Fits p x y v n (r + 1) (i + 1) t′
-    fits-take {t′} ax b l s e T = rw (add-one r, add-one i) (record {
-      sum = plus-poly z (omega arith) (F .sum) (F .product) (T .sum);
-      product = root-poly z (F .product) (T .product);
-      taken = omega (arith, F .taken);
-      hit = λ j o m. result-cong _ z (T .sum .values) j (omega arith) ⨾ elim (ℕ-discrete j r) [
-        | yes h ↦ rw h (T .hit)
-        | no h ↦ ~add (F .hit j (omega arith) m) (~mul (T .c) (F .zero j (omega arith) m)) ⨾ same (omega arith)
-      ];
-      zero = λ j o m. multiplied j (omega arith) ⨾ elim (ℕ-discrete j r) [
-        | yes h ↦ rw h (less (at x r * g r) (omega arith))
-        | no h ↦ ~mul (at x j + (p - 1) * at x r) (F .zero j (omega arith) m) ⨾ same (omega arith)
-      ];
-      left = λ j o m h. F .left j (omega arith) m (apart-after ax j r (g j) (omega arith) m (~sym (multiplied j (omega arith)) ⨾ h));
-    })
-      where
-        z : 0 < p
-        z = omega arith
-
-        g : ℕ → ℕ
-        g = at (t .product .values)
-
-        multiplied : (j : ℕ) → j < 16 → Cong (p - 1) (at (t′ .product .values) j) ((at x j + (p - 1) * at x r) * g j)
-        multiplied j o =
-            result-cong _ z (T .product .values) j o
-            ⨾ ~mul (g j) (result-cong _ z (T .product .differences) j o ⨾ minus (p - at x r) (at x r) (at x j) (omega arith))
-            ⨾ same (omega arith)
-
--- the first r of n terms
-sum-first : (n r : ℕ) (f : ℕ → ℕ) → r ≤ n → sum n (λ j. cond (ltb j r) (f j) 0) ≡ sum r f
-sum-first zero r f l = let e : r ≡ zero = omega arith in rw e
-sum-first (suc n) r f l = elim (ℕ-discrete r (suc n)) [
-  | yes e ↦ rw e (sum-eq (suc n) λ j m. rw (lt-ltb j (suc n) m))
-  | no e ↦ rw (le-ltb n r (omega arith)) (omega (arith, sum-first n r f (omega arith)))
-]
-
-bit : (b : Bool) → cond b 0 1 ≤ 1
+bit : (b : Bool) → cond b 1 0 ≤ 1
 bit true = omega arith
 bit false = omega arith
 
-pub enough-few : {p k : ℕ} {x v : List ℕ} (E : Enough p k x v) → k < E .n
-enough-few E = omega (arith, E .enough, sum-const (E .n) 1, sum-le (E .n) λ j _. E .bit j)
+pub enough-few : {p n k : ℕ} {x l : List ℕ} → Enough p n k x l → k < n
+enough-few {n} {l} E = omega (arith, E .enough, sum-const n 1, sum-le n {f = λ j. cond (ltb (at l j) taken) 1 0} {g = λ j. 1} λ j _. bit (ltb (at l j) taken))
 
--- after k + 1 cells
-module _ {p k : ℕ} {x y v : List ℕ} (pos : 1 < p) (E : Enough p k x v) {r : ℕ} {t : Newton} (l : r ≤ E .n) (F : Fits p x y v (E .n) r (suc k) t) where
-  abbrev f : ℕ → ℕ
-  f = at (t .sum .coefficients)
+-- no cell was taken
+pub fits-start : {p n k : ℕ} {x y l d : List ℕ} → 1 < p → Enough p n k x l → d ≡ row (λ j. (p - 1) * at y j % p) →
+    Fits p n k x y l 0 (record { rest = d; product = replicate 16 1; slopes = replicate 16 0; nodes = replicate 16 0; entered = replicate 16 0; keys = l })
+fits-start {p} {n} {y = y} pos E e = record {
+  holds = record {
+    shaped = record { d1 = ones-row pos; e1 = zeros-row z; d2 = result-row _ z e; e2 = ones-row pos; size = refl };
+    beyond = λ j _. zeros-at 16 j;
+    state = record {
+      degrees = λ P L. degrees-start L ones (λ j _. same (zeros-at 16 j)) (reduced z b (λ j. (p - 1) * at y j) e) ones;
+      bit = λ j. omega (arith, zeros-at 16 j);
+      count = sym (sum-eq n (λ j _. zeros-at 16 j) ∙ sum-const n 0 ∙ mul-zero n);
+      zero1 = λ j _ h. absurd (h (zeros-at 16 j));
+      zero2 = λ j _ h. absurd (h (zeros-at 16 j));
+    };
+  };
+  entering = entering-start (E .placed);
+  left = λ j m _ c. nonzero 1 (omega arith) (λ e. omega arith) (same (sym (ones-at j (omega arith))) ⨾ c);
+  whole = record { rest = result-row _ z e; slopes = zeros-row z; nodes = zeros-row z };
+  based = λ j m. same (ones-at j m);
+  formed = λ j m. ~add {c = at y j} (result-cong _ z e j m) (same refl) ⨾ less (at y j) (omega arith);
+}
+  where
+    z : 0 < p
+    z = omega arith
 
-  -- cells where two polynomials differ are not among those taken
-  differ-taken : (h : ℕ → ℕ) → ((j : ℕ) → at v j ≢ 0 → Cong (p - 1) (eval (suc k) h (at x j)) (at y j)) → (j : ℕ) → j < E .n →
-      cond (eqb (values (p - 1) (suc k) f (at x) j) (values (p - 1) (suc k) h (at x) j)) 0 1 + cond (ltb j r) (at v j) 0 ≤ 1
-  differ-taken h hit j m = go (ltb j r) refl
+    b : n ≤ 16
+    b = omega (arith, E .most)
+
+    ones : Agree (p - 1) n (at (replicate 16 1)) (λ j. 1)
+    ones j m = same (ones-at j (omega arith))
+
+module _ {p n k : ℕ} {x y l : List ℕ} (E : Enough p n k x l) {i : ℕ} {f : Newton} (F : Fits p n k x y l i f) (low : i ≤ k) {c : ℕ} (L : Least 16 (f .keys) c) where
+  -- while too few were taken there are cells left
+  fits-more : c < taken
+  fits-more = elim (decLt c taken) [
+    | yes h ↦ h
+    | no h ↦ absurd (omega (arith, E .enough, F .holds .state .count, sum-le n {g = at (f .entered)} (all h)))
+  ]
     where
-      a : ℕ
-      a = values (p - 1) (suc k) f (at x) j
+      all : ¬ (c < taken) → (j : ℕ) → j < n → cond (ltb (at l j) taken) 1 0 ≤ at (f .entered) j
+      all h j m = go (ltb (at l j) taken) refl
+        where
+          go : (b : Bool) → ltb (at l j) taken ≡ b → cond b 1 0 ≤ at (f .entered) j
+          go false e = omega arith
+          go true e = elim (ℕ-discrete (at (f .entered) j) 0) [
+            | yes z ↦ absurd (omega (arith, left-above (F .entering) (E .placed) L j (omega (arith, E .most)) z, ltb-true (at l j) taken e))
+            | no z ↦ omega arith
+          ]
 
-      b : ℕ
-      b = values (p - 1) (suc k) h (at x) j
+  fits-cell : (c % 16 < n) × (at (f .entered) (c % 16) ≡ 0)
+  fits-cell =
+      let d = next-cell (F .entering) (E .placed) L fits-more in (
+        elim (decLt (c % 16) n) [
+          | yes h ↦ h
+          | no h ↦ absurd (omega (arith, E .beyond (c % 16) (omega arith) (mod-lt c (omega arith)), d .1, fits-more))
+        ],
+        d .0,
+      )
 
-      equal : j < r → at v j ≢ 0 → a ≡ b
-      equal o z = to-mod (~sym (F .sum .agree (omega (arith, enough-few E, E .most)) j (omega (arith, E .most))) ⨾ F .hit j o z ⨾ ~sym (hit j z))
+  pub fits-positive : 0 < at (f .product) (c % 16)
+  fits-positive = positive (F .left (c % 16) (fits-cell .0) (fits-cell .1))
 
-      go : (c : Bool) → ltb j r ≡ c → cond (eqb a b) 0 1 + cond c (at v j) 0 ≤ 1
-      go false e = omega (arith, bit (eqb a b))
-      go true e = elim (ℕ-discrete (at v j) 0) [
-        | yes z ↦ omega (arith, bit (eqb a b))
-        | no z ↦ rw (eq-eqb a b (equal (ltb-true _ _ e) z)) (omega (arith, E .bit j))
-      ]
+  -- the cell of the least key is taken
+  module _ (pos : 1 < p) (small : (j : ℕ) → at x j < p) {v : ℕ} {d w g : List ℕ} (R : Ratio p (at (f .rest) (c % 16)) (at (f .product) (c % 16)) v)
+      (rest : Plus p v (f .rest) (f .product) d) (differences : w ≡ row (λ j. (at x j + (p - at x (c % 16))) % p)) (product : Times p w (f .product) g) where
+    abbrev r : ℕ
+    r = c % 16
 
-  pub fits-through : Through p k x y v (t .sum)
-  fits-through = record {
-    message = F .sum .rows .coefs;
-    above = λ i m. F .sum .above i (omega arith);
-    values = tab-is 16 _ (t .sum .values) (F .sum .rows .values .size) λ j m.
-        sym (mod-eq-of-lt (F .sum .rows .values .small j)) ∙ cong-mod (omega arith) (F .sum .agree (omega (arith, enough-few E, E .most)) j m);
-    only = λ h hit. elim (same-or-far (E .apart) k f h) [
-      | inl e ↦ e
-      | inr e ↦ absurd (omega (
-        arith,
-        enough-few E,
-        F .taken,
-        sum-first (E .n) r (at v) l,
-        sum-const (E .n) 1,
-        sum-add (E .n) (λ j. cond (eqb (values (p - 1) (suc k) f (at x) j) (values (p - 1) (suc k) h (at x) j)) 0 1) (λ j. cond (ltb j r) (at v j) 0),
-        sum-le (E .n) {g = λ j. 1} (differ-taken h hit),
-      ))
+    z : 0 < p
+    z = omega arith
+
+    few : i < 16
+    few = omega (arith, enough-few E, E .most)
+
+    entered : Entered r (at (f .entered)) (at (set (f .entered) r 1))
+    entered = entered-of (f .entered) r refl (F .holds .shaped .size) (mod-lt c (omega arith)) (fits-cell .1)
+
+    inside : at x r ≤ p
+    inside = omega (arith, small r)
+
+    multiplied : (n : ℕ) → n ≤ 16 → Agree (p - 1) n (at g) (shifted (p - 1) (at x) r (at (f .product)))
+    multiplied n b = times z b r x inside differences (f .product) product
+
+    zeros-shifted : {n : ℕ} → Agree (p - 1) n (at (replicate 16 0)) (shifted (p - 1) (at x) r (at (replicate 16 0)))
+    zeros-shifted j m = same (zeros-at 16 j ∙ sym (ap (λ t. (at x j + (p - 1) * at x r) * t) (zeros-at 16 j) ∙ mul-zero _))
+
+    ones-mixed : {n : ℕ} → Agree (p - 1) n (at (replicate 16 1)) (mixed v (at (replicate 16 1)) (at (replicate 16 0)))
+    ones-mixed j m = same (sym (ap (λ t. at (replicate 16 1) j + v * t) (zeros-at 16 j) ∙ omega arith))
+
+    slopes-before : (o : ℕ) → o < i → at (set (f .slopes) i v) o ≡ at (f .slopes) o
+    slopes-before o m = getD-set-other (f .slopes) i o v 0 (omega arith)
+
+    nodes-before : (o : ℕ) → o < i → at (set (f .nodes) i (at x r)) o ≡ at (f .nodes) o
+    nodes-before o m = getD-set-other (f .nodes) i o (at x r) 0 (omega arith)
+
+    pub fits-take : Fits p n k x y l (i + 1)
+        (record { rest = d; product = g; slopes = set (f .slopes) i v; nodes = set (f .nodes) i (at x r); entered = set (f .entered) r 1; keys = set (f .keys) r taken })
+    fits-take = rw (add-one i) (record {
+      holds = record {
+        shaped = record {
+          d1 = result-row _ z product;
+          e1 = zeros-row z;
+          d2 = result-row _ z rest;
+          e2 = ones-row pos;
+          size = length-set (f .entered) r 1 ∙ F .holds .shaped .size;
+        };
+        beyond = λ j o. getD-set-other (f .entered) r j 1 0 (omega (arith, fits-cell .0)) ∙ F .holds .beyond j o;
+        state = freed1 (F .holds .state) entered (fits-cell .0) v (omega arith) (R .zero) (multiplied n (E .most)) zeros-shifted
+            (plus z (E .most) v (f .rest) (f .product) rest) ones-mixed;
+      };
+      entering = entering-next (F .entering) (E .placed) L (F .holds .shaped .size) fits-more;
+      left = λ j m e h. elim (ℕ-discrete j r) [
+        | yes o ↦ absurd (taken-now (ap (at (set (f .entered) r 1)) (sym o) ∙ e))
+        | no o ↦ F .left j m (sym (entered .others j o) ∙ e)
+            (apart-two (E .apart) j r (at (f .product) j) (fits-cell .0) m o (~sym (multiplied n (E .most) j m) ⨾ h))
+      ];
+      whole = record {
+        rest = result-row _ z rest;
+        slopes = set-row i v few (R .below) (F .whole .slopes);
+        nodes = set-row i (at x r) few (small r) (F .whole .nodes);
+      };
+      based = λ j m. multiplied 16 (omega arith) j m ⨾ ~mul (at x j + (p - 1) * at x r) (F .based j m)
+          ⨾ same {b = base (p - 1) (at (f .nodes)) i (at x j) * (at x j + (p - 1) * at x r)} (omega arith)
+          ⨾ same (sym (ap₂ (λ b t. b * (at x j + (p - 1) * t)) (base-same (p - 1) i (at x j) nodes-before) (getD-set-same (f .nodes) i (at x r) 0 (omega (arith, few, F .whole .nodes .size)))));
+      formed = λ j m. ~add {c = at y j} (result-cong _ z rest j m) (same refl)
+          ⨾ same {b = at (f .rest) j + at y j + v * at (f .product) j} (omega arith)
+          ⨾ ~add (F .formed j m) (~mul v (F .based j m))
+          ⨾ same (sym (ap₂ _+_
+          (form-same (p - 1) i (at x j) slopes-before nodes-before)
+          (ap₂ _*_ (getD-set-same (f .slopes) i v 0 (omega (arith, few, F .whole .slopes .size))) (base-same (p - 1) i (at x j) nodes-before))));
+    })
+      where
+        taken-now : at (set (f .entered) r 1) r ≡ 0 → ⊥
+        taken-now e = omega (arith, entered .after)
+
+-- a times X, plus c
+raised-at : (c : ℕ) (a : ℕ → ℕ) {l : List ℕ} → l ≡ row (raised c a) → (j : ℕ) → j < 16 → at l j ≡ raised c a j
+raised-at c a e j m = ap (λ t. at t j) e ∙ row-at (raised c a) j m
+
+pub raised-row : {p c : ℕ} {a l : List ℕ} → c < p → Row p a → l ≡ row (raised c (at a)) → Row p l
+raised-row {p} {c} {a} s R e = row-of (omega arith) (ap length e ∙ length-tab 16 (raised c (at a))) λ j k. rw (raised-at c (at a) e j k) (small j)
+  where
+    small : (j : ℕ) → raised c (at a) j < p
+    small zero = s
+    small (suc j) = R .small j
+
+-- Horner's rule after the terms from i on
+pub record Horner (p k : ℕ) (c z : List ℕ) (i : ℕ) (a : List ℕ) : Type 0 where
+  pub row : Row p a
+  pub above : (j : ℕ) → suc k - i ≤ j → at a j ≡ 0
+  pub rest : (X : ℕ) → Cong (p - 1) (form (p - 1) (at c) (at z) i X + base (p - 1) (at z) i X * eval (suc k) (at a) X) (form (p - 1) (at c) (at z) (suc k) X)
+
+pub horner-start : {p k : ℕ} {c z : List ℕ} → 0 < p → Horner p k c z (k + 1) (replicate 16 0)
+horner-start {p} {k} {c} {z} pos = rw (add-one k) (record {
+  row = zeros-row pos;
+  above = λ j _. zeros-at 16 j;
+  rest = λ X. same (ap (λ t. form (p - 1) (at c) (at z) (suc k) X + base (p - 1) (at z) (suc k) X * t) (none X) ∙ omega arith);
+})
+  where
+    none : (X : ℕ) → eval (suc k) (at (replicate 16 0)) X ≡ 0
+    none X = eval-short 0 (suc k) (at (replicate 16 0)) X (omega arith) λ j _. zeros-at 16 j
+
+module _ {p k : ℕ} {c z : List ℕ} {i : ℕ} {a up b : List ℕ} (pos : 0 < p) (low : k < 16) (here : suc i ≤ suc k) (small : at z i ≤ p)
+    (H : Horner p k c z (suc i) a) (raise : up ≡ row (raised (at c i) (at a))) (e : b ≡ row (λ j. (at up j + (p - at z i) * at a j) % p)) where
+  -- (X - z) a + c, as X a + c less z a
+  product : (m X : ℕ) → eval (suc k) (λ o. raised (at c i) (at a) o + m * at a o) X ≡ at c i + eval (suc k) (at a) X * (X + m)
+  product m X = omega (
+    arith,
+    eval-minus m (suc k) (raised (at c i) (at a)) (at a) X,
+    eval-front k (raised (at c i) (at a)) X,
+    ap (λ t. X * t) (eval-short k (suc k) (at a) X (omega arith) λ j o. H .above j (omega arith)),
+  )
+
+  horner-eval : (X : ℕ) → Cong (p - 1) (eval (suc k) (at b) X) (at c i + eval (suc k) (at a) X * (X + (p - 1) * at z i))
+  horner-eval X =
+      eval-cong (suc k) X (λ o n. result-cong (λ o. at up o + (p - at z i) * at a o) pos e o (omega arith) ⨾ ~add (same (raised-at (at c i) (at a) raise o (omega arith))) (same refl))
+      ⨾ same (product (p - at z i) X)
+      ⨾ ~add {a = at c i} (same refl) (~mul (eval (suc k) (at a) X) (minus (p - at z i) (at z i) X (omega arith)))
+
+  none : (j : ℕ) → suc k - i ≤ j → j < 16 → (at up j + (p - at z i) * at a j) % p ≡ 0
+  none zero o l = absurd (omega arith)
+  none (suc j) o l = ap (λ t. t % p) (ap₂ (λ s t. s + (p - at z i) * t) (raised-at (at c i) (at a) raise (suc j) l ∙ H .above j (omega arith)) (H .above (suc j) (omega arith)) ∙ omega arith) ∙ zero-mod p
+
+  pub horner-step : Horner p k c z i b
+  horner-step = record {
+    row = result-row _ pos e;
+    above = λ j o. elim (decLt j 16) [
+      | yes l ↦ ap (λ t. at t j) e ∙ row-at (λ j. (at up j + (p - at z i) * at a j) % p) j l ∙ none j o l
+      | no l ↦ beyond b j (omega (arith, ap length e, length-tab 16 (λ j. (at up j + (p - at z i) * at a j) % p)))
     ];
+    rest = λ X. ~add {a = form (p - 1) (at c) (at z) i X} (same refl) (~mul (base (p - 1) (at z) i X) (horner-eval X)) ⨾ same (omega arith) ⨾ H .rest X;
   }
+
+pub horner-end : {p k : ℕ} {c z a : List ℕ} → Horner p k c z 0 a → Coefficients p k c z a
+horner-end {p} {k} {c} {z} {a} H = record {
+  row = H .row;
+  above = λ j l. H .above j (omega arith);
+  evaluates = λ X. same (omega arith) ⨾ H .rest X;
+}

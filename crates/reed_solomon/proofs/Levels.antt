@@ -1,39 +1,39 @@
 -- Levels of doubt rise over the cells' doubts: which cells have entered, what failed trials say of the levels passed, and that after
 -- the last level nothing is under the radius, or what was measured is the only one. Assumes nothing.
 use mathlib.Core.Logic.{_≢_}
-use mathlib.Core.Path.{_≡_, refl, sym, ap, ap₂, _∙_}
+use mathlib.Core.Path.{_≡_, refl, sym, ap, _∙_}
 use mathlib.Core.List.{List}
 use mathlib.Core.Bool.{Bool, true, false, cond, true≢false, false≢true}
-use Prim.Native.Nat.{ℕ, suc, _+_, _*_, _-_, _≤_, _<_}
+use Prim.Native.Nat.{ℕ, suc, _+_, _*_, _-_, _/_, _%_, _≤_, _<_}
 use native.Mathlib.Omega.{arith}
-use native.Mathlib.Decide.{ℕ-discrete, decLe}
-use native.Mathlib.Nat.{mul-one}
-use lib.Dec.{eqb, ltb, leb}
-use borrow.Author.Tests.{lt-ltb, le-ltb, ltb-true, ltb-false, leb-true, leb-false}
-use lib.ListN.{replicate, set}
+use native.Mathlib.Decide.{ℕ-discrete, decLe, decLt}
+use native.Mathlib.Nat.{mul-one, mod-lt}
+use native.Mathlib.Numerals.{add-one}
+use lib.Dec.{eqb, leb}
+use borrow.Author.Tests.{leb-true, leb-false}
+use lib.ListN.{set}
 use lib.Seq.{getD-set-same, getD-set-other}
 use Rattle.bounded.specs.Bounded.{at, sum}
-use Rattle.bounded.proofs.Sum.{sum-eq, sum-add, sum-const}
-use Rattle.distance.specs.Level.{differ, wrong, erased, weight}
+use Rattle.bounded.proofs.Sum.{sum-eq, sum-le, sum-add, sum-const}
+use Rattle.field.specs.Row.{row}
+use Rattle.field.proofs.Row.{row-at}
+use Rattle.distance.specs.Level.{erased, weight}
+use Rattle.distance.proofs.Cost.{doubts-cost}
 use Rattle.distance.proofs.Level.{some-cell}
 use Rattle.distance.proofs.Unique.{near-one}
 use Rattle.definitions.specs.Cost.{cost}
 use Rattle.polynomial.specs.Eval.{values}
 use Rattle.reed_solomon.specs.declared.interpolation.Pairs.{Pairs}
+use Rattle.reed_solomon.specs.declared.newton.Newton.{Newton}
 use Rattle.reed_solomon.specs.declared.decoder.Decoded.{Decoded}
-use Rattle.reed_solomon.specs.Pairs.{Holds, Starts, Enters}
+use Rattle.reed_solomon.specs.Order.{taken, key, Placed, Least, Entering}
+use Rattle.reed_solomon.specs.Pairs.{Holds, Enters}
 use Rattle.reed_solomon.specs.Near.{missed, Near, Refuted, Passed}
-use Rattle.reed_solomon.specs.Decoded.{Received, StripDecoded, None, Found, Tried, hit, miss, Next}
-use Rattle.reed_solomon.proofs.State.{zeros-row, zeros-at}
+use Rattle.reed_solomon.specs.Newton.{pairsOf, Fits}
+use Rattle.reed_solomon.specs.Decoded.{Received, StripDecoded, None, Found, Tried, hit, miss}
+use Rattle.reed_solomon.proofs.Cursor.{zeros-at, key-in, key-out, keys-placed, next-cell, entered-below, left-above, entering-next}
+use Rattle.reed_solomon.proofs.State.{zeros-row}
 use Rattle.reed_solomon.proofs.Trial.{cost-values}
-
--- the least doubt of one cell more
-pub next-more : {F j t r r′ : ℕ} {u : List ℕ} → Next F j u t r → t < r′ → r′ ≤ r → (t < at u j → r′ ≤ at u j) → Next F (j + 1) u t r′
-next-more {j} N a l h = record {
-  above = a;
-  most = omega (arith, N .most);
-  least = λ i m o. elim (ℕ-discrete i j) [ yes e ↦ rw e (h (rw e at o)) | no e ↦ omega (arith, N .least i (omega arith) o) ];
-}
 
 -- what a trial says, by its answer
 module _ {p F n k : ℕ} {x s u w : List ℕ} {r : Decoded} where
@@ -41,85 +41,32 @@ module _ {p F n k : ℕ} {x s u w : List ℕ} {r : Decoded} where
   tried-found (hit D) e = D
   tried-found (miss N D) e = absurd (false≢true (sym (N .found) ∙ e))
 
-  pub tried-none : Tried p F n k x s u w r → r .found ≡ false → Refuted (p - 1) F n k (at x) (at s) (at u) (at w)
+  pub tried-none : Tried p F n k x s u w r → r .found ≡ false → None r × Refuted (p - 1) F n k (at x) (at s) (at u) (at w)
   tried-none (hit D) e = absurd (true≢false (sym (D .found) ∙ e))
-  tried-none (miss N D) e = D
+  tried-none (miss N D) e = (N, D)
 
--- 1 for a cell j of doubt u that has entered: its level is passed, or it is at this level and below r
-abbrev pub mark : (level r u j : ℕ) → ℕ
-mark level r u j = cond (ltb (u * 16 + j) (level * 16 + r)) 1 0
+-- a cell that is kept at level t
+abbrev keep : (t u : ℕ) → ℕ
+keep t u = cond (leb u t) 1 0
 
-mark-in : (level r u j : ℕ) → u * 16 + j < level * 16 + r → mark level r u j ≡ 1
-mark-in level r u j l = rw (lt-ltb _ _ l)
-
-mark-out : (level r u j : ℕ) → level * 16 + r ≤ u * 16 + j → mark level r u j ≡ 0
-mark-out level r u j l = rw (le-ltb _ _ l)
-
--- two places with the same cells before them
-mark-same : (level r level′ r′ u j : ℕ) → (u * 16 + j < level′ * 16 + r′ → u * 16 + j < level * 16 + r) → level * 16 + r ≤ level′ * 16 + r′ → mark level r u j ≡ mark level′ r′ u j
-mark-same level r level′ r′ u j h l = go (ltb (u * 16 + j) (level′ * 16 + r′)) refl
+keep-in : (t u : ℕ) → u ≤ t → keep t u ≡ 1
+keep-in t u l = go (leb u t) refl
   where
-    go : (b : Bool) → ltb (u * 16 + j) (level′ * 16 + r′) ≡ b → mark level r u j ≡ cond b 1 0
-    go true e = mark-in level r u j (h (ltb-true _ _ e))
-    go false e = mark-out level r u j (omega (arith, ltb-false (u * 16 + j) (level′ * 16 + r′) e))
+    go : (b : Bool) → leb u t ≡ b → _≡_ {A = ℕ} (cond b 1 0) 1
+    go true e = refl
+    go false e = absurd (omega (arith, leb-false u t e))
 
--- the strip decoder before the cell r at a level
-pub record Going (p F n k : ℕ) (x s u : List ℕ) (level r : ℕ) (t : Pairs) : Type 0 where
-  pub holds : Holds p n k x s t
-  pub marks : (j : ℕ) → j < n → at (t .entered) j ≡ mark level r (at u j) j
-  pub now : Refuted (p - 1) F n k (at x) (at s) (at u) (at (t .entered))
-  pub before : Passed (p - 1) F n k (at x) (at s) (at u) level
+keep-out : (t u : ℕ) → t < u → keep t u ≡ 0
+keep-out t u l = go (leb u t) refl
+  where
+    go : (b : Bool) → leb u t ≡ b → _≡_ {A = ℕ} (cond b 1 0) 0
+    go true e = absurd (omega (arith, leb-true u t e))
+    go false e = refl
 
-module _ {p F n k : ℕ} {x s u : List ℕ} where
-  pub going-start : {t : Pairs} → n ≤ 16 → Starts p s t → Going p F n k x s u 0 0 t
-  going-start {t} b S = record {
-    holds = S .holds n k x b;
-    marks = λ j l. S .marks j ∙ sym (mark-out 0 0 (at u j) j (omega arith));
-    now = record { far = λ h near. absurd (omega (arith, sum-const n 0, sum-eq n {f = at (t .entered)} {g = λ j. 0} λ j _. S .marks j)) };
-    before = record { far = λ h j l m. absurd (omega arith) };
-  }
-
-  module _ {level r : ℕ} {t : Pairs} (G : Going p F n k x s u level r t) (b : n ≤ 16) where
-    -- the cell r is not of this level
-    pub going-skip : r < n → at u r ≢ level → Going p F n k x s u level (r + 1) t
-    going-skip l d = record {
-      holds = G .holds;
-      marks = λ j m. G .marks j m ∙ mark-same level r level (r + 1) (at u j) j (skipped j m) (omega arith);
-      now = G .now;
-      before = G .before;
-    }
-      where
-        skipped : (j : ℕ) → j < n → at u j * 16 + j < level * 16 + (r + 1) → at u j * 16 + j < level * 16 + r
-        skipped j m h = elim (ℕ-discrete j r) [ yes e ↦ omega (arith, ap (at u) e) | no e ↦ omega arith ]
-
-    -- it is: so it has not entered before
-    module _ {t′ : Pairs} (l : r < n) (e : at u r ≡ level) (E : Enters p k x r t t′) where
-      pub going-holds : Holds p n k x s t′
-      going-holds = E .holds n s b l (G .marks r l ∙ mark-out level r (at u r) r (omega arith)) (G .holds)
-
-      -- and the trial after its entry failed
-      pub going-enter : Refuted (p - 1) F n k (at x) (at s) (at u) (at (t′ .entered)) → Going p F n k x s u level (r + 1) t′
-      going-enter now = record {
-        holds = going-holds;
-        marks = λ j m. ap (λ w. at w j) (E .marks) ∙ elim (ℕ-discrete j r) [
-          | yes i ↦ rw i (getD-set-same (t .entered) r 1 0 (omega (arith, G .holds .shaped .size)) ∙ sym (mark-in level (r + 1) (at u r) r (omega arith)))
-          | no i ↦ getD-set-other (t .entered) r j 1 0 i ∙ G .marks j m ∙ mark-same level r level (r + 1) (at u j) j (λ h. omega arith) (omega arith)
-        ];
-        now = now;
-        before = G .before;
-      }
-
--- after a level, when its cells and those below have entered, a cell weighs what it is missed
-module _ (n k t : ℕ) (s u v w : ℕ → ℕ) (full : (j : ℕ) → j < n → w j ≡ mark t n (u j) j) (b : n ≤ 16) where
-  kept-mark : (j : ℕ) → j < n → w j ≡ cond (leb (u j) t) 1 0
-  kept-mark j l = full j l ∙ go (leb (u j) t) refl
-    where
-      go : (c : Bool) → leb (u j) t ≡ c → mark t n (u j) j ≡ cond c 1 0
-      go true e = mark-in t n (u j) j (omega (arith, leb-true (u j) t e))
-      go false e = mark-out t n (u j) j (omega (arith, leb-false (u j) t e))
-
-  missed-weight : 2 * missed n w s v + sum n (λ j. erased t (u j)) ≡ weight n t s u v
-  missed-weight = ap (λ m. 2 * m + sum n (λ j. erased t (u j))) (sum-eq n λ j l. ap (cond (eqb (s j) (v j)) 0) (kept-mark j l) ∙ turned (eqb (s j) (v j)) (leb (u j) t))
+-- at a level a cell weighs what it is missed among those that are kept
+module _ (n k t : ℕ) (s u v : ℕ → ℕ) where
+  missed-weight : 2 * missed n (λ j. keep t (u j)) s v + sum n (λ j. erased t (u j)) ≡ weight n t s u v
+  missed-weight = ap (λ m. 2 * m + sum n (λ j. erased t (u j))) (sum-eq n λ j l. turned (eqb (s j) (v j)) (leb (u j) t))
     where
       turned : (c d : Bool) → _≡_ {A = ℕ} (cond c 0 (cond d 1 0)) (cond d (cond c 0 1) 0)
       turned true true = refl
@@ -127,55 +74,177 @@ module _ (n k t : ℕ) (s u v w : ℕ → ℕ) (full : (j : ℕ) → j < n → w
       turned false true = refl
       turned false false = refl
 
-  marked-erased : sum n w + sum n (λ j. erased t (u j)) ≡ n
-  marked-erased = sym (sum-add n w λ j. erased t (u j)) ∙ sum-eq n (λ j l. ap (λ m. m + erased t (u j)) (kept-mark j l) ∙ one (leb (u j) t)) ∙ sum-const n 1 ∙ mul-one n
+  marked-erased : sum n (λ j. keep t (u j)) + sum n (λ j. erased t (u j)) ≡ n
+  marked-erased = sym (sum-add n (λ j. keep t (u j)) λ j. erased t (u j)) ∙ sum-eq n (λ j l. one (leb (u j) t)) ∙ sum-const n 1 ∙ mul-one n
     where
       one : (c : Bool) → cond c 1 0 + cond c 0 1 ≡ 1
       one true = refl
       one false = refl
 
-  weight-near : weight n t s u v + k < n → Near n k w s v
+  weight-near : weight n t s u v + k < n → Near n k (λ j. keep t (u j)) s v
   weight-near l = omega (arith, missed-weight, marked-erased)
 
-module _ {p F n k : ℕ} {x s u : List ℕ} {level : ℕ} {t : Pairs} (G : Going p F n k x s u level n t) (b : n ≤ 16) where
-  -- from one level to the next
-  pub going-next : {level′ : ℕ} → Next F n u level level′ → Going p F n k x s u level′ 0 t
-  going-next {level′} N = record {
-    holds = G .holds;
-    marks = λ j m. G .marks j m ∙ mark-same level n level′ 0 (at u j) j (between j m) (omega (arith, N .above));
-    now = G .now;
-    before = record {
-      far = λ h j l m w. elim (decLe level (at u j)) [
-        | yes i ↦
-            let e : at u j ≡ level = omega (arith, below j l m) in
-            G .now .far h (weight-near n k level (at s) (at u) (values (p - 1) (suc k) h (at x)) (at (t .entered)) (G .marks) b (rw e at w))
-        | no i ↦ G .before .far h j l (omega arith) w
-      ];
-    };
-  }
-    where
-      below : (j : ℕ) → j < n → at u j < level′ → at u j ≤ level
-      below j l m = elim (decLe (at u j) level) [ yes i ↦ i | no i ↦ absurd (omega (arith, N .least j l (omega arith))) ]
+-- near for all of at most k + 1 marked cells, from near for some of them
+near-more : (n k : ℕ) (w w′ s v : ℕ → ℕ) → ((j : ℕ) → j < n → w j ≤ w′ j) → sum n w′ ≤ suc k → Near n k w s v → Near n k w′ s v
+near-more n k w w′ s v h l near = omega (
+  arith,
+  near,
+  sum-le n h,
+  sum-add n (λ j. cond (eqb (s j) (v j)) 0 (w′ j)) w,
+  sum-add n (λ j. cond (eqb (s j) (v j)) 0 (w j)) w′,
+  sum-le n {f = λ j. cond (eqb (s j) (v j)) 0 (w′ j) + w j} {g = λ j. cond (eqb (s j) (v j)) 0 (w j) + w′ j} λ j m. go (eqb (s j) (v j)) (h j m),
+)
+  where
+    go : (b : Bool) {c d : ℕ} → c ≤ d → cond b 0 d + c ≤ cond b 0 c + d
+    go true l = omega arith
+    go false l = omega arith
 
-      between : (j : ℕ) → j < n → at u j * 16 + j < level′ * 16 + 0 → at u j * 16 + j < level * 16 + n
-      between j l h = omega (arith, below j l (omega arith))
+-- near for the same cells
+near-same : (n k : ℕ) (w w′ s v : ℕ → ℕ) → ((j : ℕ) → j < n → w j ≡ w′ j) → Near n k w s v → Near n k w′ s v
+near-same n k w w′ s v h near = omega (arith, near, sum-eq n h, sum-eq n {f = λ j. cond (eqb (s j) (v j)) 0 (w j)} {g = λ j. cond (eqb (s j) (v j)) 0 (w′ j)} λ j l. ap (cond (eqb (s j) (v j)) 0) (h j l))
+
+-- the strip decoder before the cell of the key c; r are the keys of the cells that have not entered
+pub record Going (p F n k : ℕ) (x s u l r : List ℕ) (c : ℕ) (t : Pairs) : Type 0 where
+  pub holds : Holds p n k x s t
+  pub entering : Entering l (t .entered) r
+  pub next : Least 16 r c
+  pub now : Refuted (p - 1) F n k (at x) (at s) (at u) (at (t .entered))
+
+-- no cell over the level has entered
+abbrev pub Within : (n : ℕ) (u : List ℕ) (level : ℕ) (t : Pairs) → Type 0
+Within n u level t = (j : ℕ) → j < n → at (t .entered) j ≢ 0 → at u j ≤ level
+
+module _ {p m n k F : ℕ} {x s : List ℕ} (u : List ℕ) (R : Received p m x n k F s u) {l : List ℕ} (K : l ≡ row (λ j. key n (at u j) j)) where
+  placed : Placed l
+  placed = keys-placed n (at u) K
+
+  key-at : (j : ℕ) → j < n → at l j ≡ at u j * 16 + j
+  key-at j i = ap (λ t. at t j) K ∙ row-at (λ j. key n (at u j) j) j (omega (arith, R .4)) ∙ key-in n (at u j) j i
+
+  module _ {r : List ℕ} {c : ℕ} {t : Pairs} (G : Going p F n k x s u l r c t) where
+    entered-key : (j : ℕ) → j < n → at (t .entered) j ≢ 0 → at u j * 16 + j < c
+    entered-key j i z = omega (arith, key-at j i, entered-below (G .entering) placed (G .next) j (omega (arith, R .4)) z)
+
+    left-key : (j : ℕ) → j < n → at (t .entered) j ≡ 0 → c ≤ at u j * 16 + j
+    left-key j i z = omega (arith, key-at j i, left-above (G .entering) placed (G .next) j (omega (arith, R .4)) z)
+
+    pub going-within : Within n u (c / 16) t
+    going-within j i z = omega (arith, entered-key j i z)
+
+    -- the cell of the least key
+    module _ (h : c < F * 16) where
+      small : c < taken
+      small = omega (arith, R .6)
+
+      going-cell : (c % 16 < n) × (at (t .entered) (c % 16) ≡ 0) × (at u (c % 16) * 16 + c % 16 ≡ c)
+      going-cell =
+          let d = next-cell (G .entering) placed (G .next) small in
+          let i : c % 16 < n = elim (decLt (c % 16) n) [
+            | yes o ↦ o
+            | no o ↦ absurd (omega (arith, d .1, small, ap (λ t. at t (c % 16)) K ∙ row-at (λ j. key n (at u j) j) (c % 16) (mod-lt c (omega arith)) ∙ key-out n (at u (c % 16)) (c % 16) (omega arith)))
+          ] in
+          (i, d .0, sym (key-at (c % 16) i) ∙ d .1)
+
+      module _ {t′ : Pairs} (E : Enters p k x (c % 16) t t′) where
+        pub going-holds : Holds p n k x s t′
+        going-holds = E .holds n s (R .4) (going-cell .0) (going-cell .1) (G .holds)
+
+        -- it enters, and the trial after its entry failed
+        pub going-enter : {c′ : ℕ} → Least 16 (set r (c % 16) taken) c′ → Refuted (p - 1) F n k (at x) (at s) (at u) (at (t′ .entered)) →
+            Going p F n k x s u l (set r (c % 16) taken) c′ t′
+        going-enter L now = record {
+          holds = going-holds;
+          entering = rw (E .marks) (entering-next (G .entering) placed (G .next) (G .holds .shaped .size) small);
+          next = L;
+          now = now;
+        }
+
+        entered-other : (j : ℕ) → j ≢ c % 16 → at (t′ .entered) j ≡ at (t .entered) j
+        entered-other j d = ap (λ w. at w j) (E .marks) ∙ getD-set-other (t .entered) (c % 16) j 1 0 d
+
+        pub within-enter : {level : ℕ} → c / 16 ≡ level → Within n u level t → Within n u level t′
+        within-enter e W j i z = elim (ℕ-discrete j (c % 16)) [
+          | yes o ↦ omega (arith, ap (at u) o, going-cell .2)
+          | no o ↦ W j i λ a. z (entered-other j o ∙ a)
+        ]
+
+        -- the next key is a later one
+        pub going-later : {r′ : List ℕ} {c′ : ℕ} → Going p F n k x s u l r′ c′ t′ → c < c′
+        going-later G′ =
+            let d = next-cell (G .entering) placed (G .next) small in
+            let o : at (t′ .entered) (c % 16) ≡ 1 =
+            ap (λ w. at w (c % 16)) (E .marks) ∙ getD-set-same (t .entered) (c % 16) 1 0 (omega (arith, mod-lt c {m = 16} (omega arith), G .holds .shaped .size)) in
+            omega (arith, d .1, entered-below (G′ .entering) placed (G′ .next) (c % 16) (mod-lt c (omega arith)) λ z. omega (arith, o, z))
+
+    -- after a level its cells and those below have entered
+    pub going-passed : {level : ℕ} → Within n u level t → level < c / 16 → Passed (p - 1) F n k (at x) (at s) (at u) level → Passed (p - 1) F n k (at x) (at s) (at u) (c / 16)
+    going-passed {level} W h P = record {
+      far = λ g j i o w. elim (decLt (at u j) level) [
+        | yes b ↦ P .far g j i b w
+        | no b ↦
+            let e : at u j ≡ level = omega (arith, W j i (there j i o)) in
+            G .now .far g (near-same n k (λ j. keep level (at u j)) (at (t .entered)) (at s) (values (p - 1) (suc k) g (at x)) same
+            (weight-near n k level (at s) (at u) (values (p - 1) (suc k) g (at x)) (rw e at w)))
+      ];
+    }
+      where
+        there : (j : ℕ) → j < n → at u j < c / 16 → at (t .entered) j ≢ 0
+        there j i o z = omega (arith, left-key j i z, R .4)
+
+        same : (j : ℕ) → j < n → keep level (at u j) ≡ at (t .entered) j
+        same j i = elim (ℕ-discrete (at (t .entered) j) 0) [
+          | yes z ↦ keep-out level (at u j) (omega (arith, left-key j i z, R .4)) ∙ sym z
+          | no z ↦ keep-in level (at u j) (W j i z) ∙ omega (arith, G .holds .state .bit j)
+        ]
+
+    -- of the first k + 1 cells none can be missed
+    pub first-passed : t .a + t .b ≤ suc k → Passed (p - 1) F n k (at x) (at s) (at u) (c / 16)
+    first-passed h = record {
+      far = λ g j i o w. G .now .far g (near-more n k (λ i. keep (at u j) (at u i)) (at (t .entered)) (at s) (values (p - 1) (suc k) g (at x)) (less j o)
+          (omega (arith, G .holds .state .count)) (weight-near n k (at u j) (at s) (at u) (values (p - 1) (suc k) g (at x)) w));
+    }
+      where
+        less : (j : ℕ) → at u j < c / 16 → (i : ℕ) → i < n → keep (at u j) (at u i) ≤ at (t .entered) i
+        less j o i b = elim (ℕ-discrete (at (t .entered) i) 0) [
+          | yes z ↦ omega (arith, keep-out (at u j) (at u i) (omega (arith, left-key i b z, R .4)))
+          | no z ↦ omega (arith, bit (leb (at u i) (at u j)))
+        ]
+          where
+            bit : (b : Bool) → cond b 1 0 ≤ 1
+            bit true = omega arith
+            bit false = omega arith
+
+  -- the state after the first k + 1 cells
+  pub going-first : {f : Newton} {c : ℕ} {t : Pairs} → Fits p n k x s l (suc k) f → t ≡ pairsOf (k + 1) f → Least 16 (f .keys) c → Refuted (p - 1) F n k (at x) (at s) (at u) (at (f .entered)) →
+      Going p F n k x s u l (f .keys) c t
+  going-first G e L D = rw (e, add-one k) (record { holds = G .holds; entering = G .entering; next = L; now = D })
 
 module _ {p m n k F : ℕ} {x s : List ℕ} (u : List ℕ) (R : Received p m x n k F s u) {r : Decoded} where
-  -- after the last level
-  pub none-decoded : None r → {level : ℕ} → F ≤ level → Passed (p - 1) F n k (at x) (at s) (at u) level →
-      StripDecoded p F n k x s u (r .found) (r .message) (r .values) (r .cost)
-  none-decoded N l P = record {
+  none-of : None r → ((h : ℕ → ℕ) → F * (n - k) ≤ cost F n (at s) (at u) (values (p - 1) (suc k) h (at x))) → StripDecoded p F n k x s u (r .found) (r .message) (r .values) (r .cost)
+  none-of N far = record {
     strip = record {
       sound = λ e. absurd (false≢true (sym (N .found) ∙ e));
-      only = λ h near.
-          let c = some-cell F (n - k) n (at s) (at u) (values (p - 1) (suc k) h (at x)) (R .8) (omega arith) near in
-          absurd (omega (arith, P .far h (c .0) (c .1) (omega (arith, c .2)) (omega (arith, c .3, R .5))));
+      only = λ h near. absurd (omega (arith, far h));
     };
     small = rw (N .message) (zeros-row (omega (arith, R .1 .least)));
     above = λ i _. ap (λ w. at w i) (N .message) ∙ zeros-at 16 i;
     values = λ e. absurd (false≢true (sym (N .found) ∙ e));
     none = λ _. (N .message, N .values, N .cost);
   }
+
+  -- no polynomial costs less than the doubts
+  pub doubtful-decoded : None r → F * (n - k) ≤ sum n (at u) → StripDecoded p F n k x s u (r .found) (r .message) (r .values) (r .cost)
+  doubtful-decoded N l = none-of N λ h. omega (arith, doubts-cost F n (at s) (at u) (values (p - 1) (suc k) h (at x)) (R .8))
+
+  -- after the last level
+  pub none-decoded : None r → {level : ℕ} → F ≤ level → Passed (p - 1) F n k (at x) (at s) (at u) level →
+      StripDecoded p F n k x s u (r .found) (r .message) (r .values) (r .cost)
+  none-decoded N l P = none-of N λ h. elim (decLe (F * (n - k)) (cost F n (at s) (at u) (values (p - 1) (suc k) h (at x)))) [
+    | yes i ↦ i
+    | no i ↦
+        let c = some-cell F (n - k) n (at s) (at u) (values (p - 1) (suc k) h (at x)) (R .8) (omega arith) (omega arith) in
+        P .far h (c .0) (c .1) (omega (arith, c .2)) (omega (arith, c .3, R .5))
+  ]
 
   pub found-decoded : Found p F n k x s u r → StripDecoded p F n k x s u (r .found) (r .message) (r .values) (r .cost)
   found-decoded D = record {

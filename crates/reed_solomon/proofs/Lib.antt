@@ -1,5 +1,6 @@
 -- The laws of the strip decoder.
 pub mod Plan
+pub mod Cursor
 pub mod Degrees
 pub mod Entry
 pub mod State

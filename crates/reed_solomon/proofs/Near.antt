@@ -1,5 +1,6 @@
 -- Where a polynomial P of degree at most k is near, the interpolation knows it: the first degree is over the second and k, the second
--- pair's E is 0 at the missed cells and at no other marked one, so that all other marked symbols are right. Assumes nothing.
+-- pair's E is 0 at the missed marked cells and nowhere else, so that all other marked symbols are right, and at every cell D and E tell
+-- whether the symbol is. Assumes nothing.
 use mathlib.Core.Logic.{_≢_}
 use mathlib.Core.Path.{_≡_, refl, sym, ap, _∙_}
 use mathlib.Core.Bool.{Bool, true, false, cond}
@@ -12,21 +13,21 @@ use Rattle.bounded.specs.Bounded.{sum}
 use Rattle.bounded.proofs.Sum.{sum-eq, sum-le, sum-add}
 use Rattle.field.specs.Congruence.{Cong, Agree}
 use Rattle.field.specs.Prime.{Prime}
-use Rattle.field.proofs.Congruence.{same, ~sym, _⨾_, ~add, ~mul, less, rest, below-eq, difference, nonzero}
+use Rattle.field.proofs.Congruence.{same, _⨾_, ~add, less, rest, below-eq, difference, nonzero}
 use Rattle.field.proofs.Prime.{divide-out}
 use Rattle.polynomial.specs.Eval.{Apart}
 use Rattle.polynomial.specs.Lead.{Lead}
 use Rattle.polynomial.proofs.Lead.{narrow}
 use Rattle.polynomial.proofs.Roots.{roots}
-use Rattle.reed_solomon.specs.Interpolation.{residual, Degrees, Interpolates}
-use Rattle.reed_solomon.specs.Near.{missed, Near, usable}
+use Rattle.reed_solomon.specs.Interpolation.{residual, Interpolates}
+use Rattle.reed_solomon.specs.Near.{missed, Near, usable, suspect}
 
 -- a choice that is not 0
 pub chosen : (b : Bool) (m : ℕ) → cond b m 0 ≢ 0 → (b ≡ true) × (m ≢ 0)
 chosen true m h = (refl, h)
 chosen false m h = absurd (h refl)
 
-pub left-out : (b : Bool) (m : ℕ) → cond b 0 m ≢ 0 → (b ≡ false) × (m ≢ 0)
+left-out : (b : Bool) (m : ℕ) → cond b 0 m ≢ 0 → (b ≡ false) × (m ≢ 0)
 left-out true m h = absurd (h refl)
 left-out false m h = (refl, h)
 
@@ -38,17 +39,35 @@ both false m = omega arith
 split : (n : ℕ) (f : ℕ → Bool) (w : ℕ → ℕ) → sum n (λ j. cond (f j) (w j) 0) + sum n (λ j. cond (f j) 0 (w j)) ≡ sum n w
 split n f w = sym (sum-add n (λ j. cond (f j) (w j) 0) (λ j. cond (f j) 0 (w j))) ∙ sum-eq n λ j _. both (f j) (w j)
 
+-- smaller terms with a sum as large are the same
+sum-tight : (n : ℕ) {f g : ℕ → ℕ} → ((i : ℕ) → i < n → f i ≤ g i) → sum n g ≤ sum n f → (i : ℕ) → i < n → g i ≤ f i
+sum-tight zero h l i m = absurd (omega arith)
+sum-tight (suc n) {f} {g} h l i m = elim (ℕ-discrete i n) [
+  | yes e ↦ rw e (omega (arith, sum-le n {f = f} {g = g} λ j o. h j (omega arith)))
+  | no e ↦ sum-tight n (λ j o. h j (omega arith)) (omega (arith, h n (omega arith))) i (omega arith)
+]
+
+-- two tests that say the same
+pub eqb-same : (a b c d : ℕ) → (a ≡ b → c ≡ d) → (c ≡ d → a ≡ b) → eqb a b ≡ eqb c d
+eqb-same a b c d f g = elim (ℕ-discrete a b) [
+  | yes e ↦ eq-eqb a b e ∙ sym (eq-eqb c d (f e))
+  | no e ↦ ne-eqb a b e ∙ sym (ne-eqb c d λ i. e (g i))
+]
+
 part : (b : Bool) (m : ℕ) → m ≤ 1 → cond b m 0 ≤ 1
 part b m l = omega (arith, both b m)
 
 module _ {q n k a b o : ℕ} {x y w P D1 E1 D2 E2 : ℕ → ℕ} (prime : Prime (suc q)) (ax : Apart q n x) (v : Interpolates q n k x y w a b D1 E1 D2 E2)
-    (L : Lead q n x k o P) (small : (j : ℕ) → j < n → (y j < suc q) × (P j < suc q) × (E2 j < suc q)) (near : Near n k w y P) where
+    (L : Lead q n x k o P) (small : (j : ℕ) → j < n → (y j < suc q) × (P j < suc q) × (E2 j < suc q) × (D2 j < suc q)) (near : Near n k w y P) where
   -- the marked cells whose symbol is right, and those where E2 is 0
   abbrev right : ℕ → ℕ
   right j = cond (eqb (y j) (P j)) (w j) 0
 
   abbrev hidden : ℕ → ℕ
   hidden j = cond (eqb (E2 j) 0) (w j) 0
+
+  abbrev zeros : ℕ → ℕ
+  zeros j = cond (eqb (E2 j) 0) 1 0
 
   one : ¬ (Cong q 1 0)
   one = nonzero 1 (prime .least) λ e. omega arith
@@ -83,7 +102,7 @@ module _ {q n k a b o : ℕ} {x y w P D1 E1 D2 E2 : ℕ → ℕ} (prime : Prime 
   pub usable-right : (j : ℕ) → j < n → usable w E2 j ≢ 0 → y j ≡ P j
   usable-right j l h =
       let (e, m) = left-out (eqb (E2 j) 0) (w j) h in
-      let (r, s, t) = small j l in
+      let (r, s, t, _) = small j l in
       below-eq r s (difference (y j) (P j) (divide-out prime (y j + q * P j) (E2 j) (nonzero (E2 j) t (eqb-false _ _ e)) (product-zero j l m)))
 
   missed-hidden : (j : ℕ) → j < n → cond (eqb (y j) (P j)) 0 (w j) ≤ hidden j
@@ -94,12 +113,46 @@ module _ {q n k a b o : ℕ} {x y w P D1 E1 D2 E2 : ℕ → ℕ} (prime : Prime 
       go false true e f = omega arith
       go false false e f = elim (ℕ-discrete (w j) 0) [ yes z ↦ omega arith | no z ↦ absurd (eqb-false _ _ e (usable-right j l (rw f z))) ]
 
-  hidden-few : sum n hidden ≤ b
-  hidden-few = elim (decLe (sum n hidden) b) [
+  -- E2 has no more zeros than its degree, marked or not
+  zeros-few : sum n zeros ≤ b
+  zeros-few = elim (decLe (sum n zeros) b) [
     | yes l ↦ l
-    | no l ↦ absurd (one (roots ax n hidden (omega arith) (v .degrees P L .e2) (λ j _. part (eqb (E2 j) 0) (w j) (v .bit j))
-        (λ j _ h. same (eqb-true _ _ (chosen (eqb (E2 j) 0) (w j) h .0))) (omega arith) .0))
+    | no l ↦ absurd (one (roots ax n zeros (omega arith) (v .degrees P L .e2) (λ j _. part (eqb (E2 j) 0) 1 (omega arith))
+        (λ j _ h. same (eqb-true _ _ (chosen (eqb (E2 j) 0) 1 h .0))) (omega arith) .0))
   ]
 
+  hidden-zeros : (j : ℕ) → j < n → hidden j ≤ zeros j
+  hidden-zeros j _ = go (eqb (E2 j) 0)
+    where
+      go : (c : Bool) → cond c (w j) 0 ≤ cond c 1 0
+      go true = v .bit j
+      go false = omega arith
+
   pub usable-all : sum n (usable w E2) ≡ a
-  usable-all = omega (arith, split n (λ j. eqb (E2 j) 0) w, v .count, hidden-few, second-few, sum-le n missed-hidden)
+  usable-all = omega (arith, split n (λ j. eqb (E2 j) 0) w, v .count, zeros-few, second-few, sum-le n hidden-zeros, sum-le n missed-hidden)
+
+  -- so where E2 is 0 the symbol is missed
+  zero-missed : (j : ℕ) → j < n → eqb (E2 j) 0 ≡ true → eqb (y j) (P j) ≡ false
+  zero-missed j l e =
+      left-out (eqb (y j) (P j)) (w j) (λ z.
+      let h = sum-tight n {f = λ j. cond (eqb (y j) (P j)) 0 (w j)} {g = zeros} (λ j l. omega (arith, missed-hidden j l, hidden-zeros j l)) (omega (arith, zeros-few, second-few)) j l in
+      let i : zeros j ≡ 1 = ap (λ b. cond b 1 0) e in
+      omega (arith, h, i, z)) .0
+
+  -- and elsewhere D2 tells
+  value-zero : (j : ℕ) → j < n → y j ≡ P j → D2 j ≡ 0
+  value-zero j l e =
+      let (_, _, _, t) = small j l in
+      below-eq t (omega arith) (rest (same {b = (y j + q * P j) * E2 j + D2 j} (omega arith)) (residual-zero j l) (same (ap (λ t. (t + q * P j) * E2 j) e) ⨾ less (P j * E2 j) (omega arith)))
+
+  zero-value : (j : ℕ) → j < n → eqb (E2 j) 0 ≡ false → D2 j ≡ 0 → y j ≡ P j
+  zero-value j l e z =
+      let (r, s, t, _) = small j l in
+      below-eq r s (difference (y j) (P j) (divide-out prime (y j + q * P j) (E2 j) (nonzero (E2 j) t (eqb-false _ _ e)) (rest (same refl) (residual-zero j l) (same z))))
+
+  pub suspect-right : (j : ℕ) → j < n → eqb (suspect D2 E2 j) 0 ≡ eqb (y j) (P j)
+  suspect-right j l = go (eqb (E2 j) 0) refl
+    where
+      go : (c : Bool) → eqb (E2 j) 0 ≡ c → eqb (cond c 1 (D2 j)) 0 ≡ eqb (y j) (P j)
+      go true e = sym (zero-missed j l e)
+      go false e = eqb-same (D2 j) 0 (y j) (P j) (zero-value j l e) (value-zero j l)

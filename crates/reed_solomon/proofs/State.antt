@@ -1,28 +1,23 @@
--- The decoder's state by rows of remainders: a quotient frees a value, the differences to a point multiply, and an update of the two
--- pairs lets a cell enter. Assumes nothing.
-use mathlib.Core.Logic.{_≢_}
+-- The decoder's state by rows of remainders: a quotient frees a value, the differences to a point multiply, and each of the four steps
+-- of the interpolation lets a cell enter. Assumes nothing.
 use mathlib.Core.Path.{_≡_, refl, sym, ap, _∙_}
 use mathlib.Core.List.{List}
-use mathlib.Core.Bool.{true, false, true≢false, false≢true}
-use Prim.Native.Nat.{ℕ, zero, suc, _+_, _*_, _-_, _%_, _≤_, _<_}
+use Prim.Native.Nat.{ℕ, suc, _+_, _*_, _-_, _%_, _≤_, _<_}
 use native.Mathlib.Omega.{arith}
 use native.Mathlib.Numerals.{add-one}
 use lib.ListN.{length, set, length-set, replicate, getD-replicate}
 use lib.Seq.{getD-set-same, getD-set-other}
-use native.Mathlib.Nat.{mul-zero}
-use Rattle.bounded.specs.Bounded.{at, sum}
-use Rattle.bounded.proofs.Sum.{sum-eq, sum-const}
+use Rattle.bounded.specs.Bounded.{at}
 use Rattle.field.specs.Congruence.{Cong, Agree}
 use Rattle.field.specs.Prime.{Inverse}
 use Rattle.field.specs.Row.{row, Row}
 use Rattle.field.proofs.Congruence.{same, ~sym, _⨾_, ~add, ~mul, ~mul-right, less, mod-cong}
 use Rattle.field.proofs.Row.{row-of, result-row, result-cong}
-use Rattle.reed_solomon.specs.declared.interpolation.Pair.{Pair}
 use Rattle.reed_solomon.specs.declared.interpolation.Pairs.{Pairs}
-use Rattle.reed_solomon.specs.declared.interpolation.Updated.{Updated}
-use Rattle.reed_solomon.specs.Interpolation.{Interpolates, Entered}
-use Rattle.reed_solomon.specs.Pairs.{Rows, Ratio, Times, Mix, Update, kept, freed, Shaped, State, Holds, Starts, Enters}
-use Rattle.reed_solomon.proofs.Degrees.{shifted, mixed, degrees-start}
+use Rattle.reed_solomon.specs.Interpolation.{Entered}
+use Rattle.reed_solomon.specs.Pairs.{Ratio, Shaped, State, Enters}
+use Rattle.reed_solomon.proofs.Cursor.{zeros-at}
+use Rattle.reed_solomon.proofs.Degrees.{shifted, mixed}
 use Rattle.reed_solomon.proofs.Entry.{kept1, kept2, freed1, freed2}
 
 -- p - a stands for minus a
@@ -37,42 +32,27 @@ ratio-is {p} {b} {i} m a r e z h s l = record {
       ⨾ less 1 (omega arith);
 }
 
-module _ {p : ℕ} (z : 0 < p) where
-  pub times-rows : {w : List ℕ} {f g : Pair} → Times p w f g → Rows p g
-  times-rows T = record { d = result-row _ z (T .d); e = result-row _ z (T .e) }
+-- g is the row f multiplied by w, and h is f + c g
+abbrev pub Times : (p : ℕ) (w f g : List ℕ) → Type 0
+Times p w f g = g ≡ row λ j. at f j * at w j % p
 
-  pub mix-rows : {c : ℕ} {f g h : Pair} → Mix p c f g h → Rows p h
-  mix-rows M = record { d = result-row _ z (M .d); e = result-row _ z (M .e) }
+abbrev pub Plus : (p c : ℕ) (f g h : List ℕ) → Type 0
+Plus p c f g h = h ≡ row λ j. (at f j + c * at g j) % p
 
-  module _ {n : ℕ} (b : n ≤ 16) where
-    reduced : (f : ℕ → ℕ) {l : List ℕ} → l ≡ row (λ j. f j % p) → Agree (p - 1) n (at l) f
-    reduced f e j l = result-cong f z e j (omega arith)
+module _ {p n : ℕ} (z : 0 < p) (b : n ≤ 16) where
+  pub reduced : (f : ℕ → ℕ) {l : List ℕ} → l ≡ row (λ j. f j % p) → Agree (p - 1) n (at l) f
+  reduced f e j l = result-cong f z e j (omega arith)
 
-    mix-d : {c : ℕ} {f g h : Pair} → Mix p c f g h → Agree (p - 1) n (at (h .d)) (mixed c (at (f .d)) (at (g .d)))
-    mix-d {c} {f} {g} M = reduced (mixed c (at (f .d)) (at (g .d))) (M .d)
+  pub plus : (c : ℕ) (f g : List ℕ) {h : List ℕ} → Plus p c f g h → Agree (p - 1) n (at h) (mixed c (at f) (at g))
+  plus c f g e = reduced (mixed c (at f) (at g)) e
 
-    mix-e : {c : ℕ} {f g h : Pair} → Mix p c f g h → Agree (p - 1) n (at (h .e)) (mixed c (at (f .e)) (at (g .e)))
-    mix-e {c} {f} {g} M = reduced (mixed c (at (f .e)) (at (g .e))) (M .e)
-
-    -- w are the differences to the point r
-    module _ (r : ℕ) (x : List ℕ) {w : List ℕ} (i : at x r ≤ p) (d : w ≡ row (λ j. (at x j + (p - at x r)) % p)) where
-      product : (f : List ℕ) {g : List ℕ} → g ≡ row (λ j. at f j * at w j % p) → Agree (p - 1) n (at g) (shifted (p - 1) (at x) r (at f))
-      product f e j l =
-          reduced (λ j. at f j * at w j) e j l
-          ⨾ ~mul (at f j) (reduced (λ j. at x j + (p - at x r)) d j l ⨾ minus (p - at x r) (at x r) (at x j) (omega arith))
-          ⨾ same (omega arith)
-
-      times-d : {f g : Pair} → Times p w f g → Agree (p - 1) n (at (g .d)) (shifted (p - 1) (at x) r (at (f .d)))
-      times-d {f} T = product (f .d) (T .d)
-
-      times-e : {f g : Pair} → Times p w f g → Agree (p - 1) n (at (g .e)) (shifted (p - 1) (at x) r (at (f .e)))
-      times-e {f} T = product (f .e) (T .e)
-
--- the state before any entry
-pub zeros-at : (n j : ℕ) → at (replicate n 0) j ≡ 0
-zeros-at zero j = refl
-zeros-at (suc n) zero = refl
-zeros-at (suc n) (suc j) = zeros-at n j
+  -- w are the differences to the point r
+  pub times : (r : ℕ) (x : List ℕ) {w : List ℕ} → at x r ≤ p → w ≡ row (λ j. (at x j + (p - at x r)) % p) → (f : List ℕ) {g : List ℕ} → Times p w f g →
+      Agree (p - 1) n (at g) (shifted (p - 1) (at x) r (at f))
+  times r x {w} i d f e j l =
+      reduced (λ j. at f j * at w j) e j l
+      ⨾ ~mul (at f j) (reduced (λ j. at x j + (p - at x r)) d j l ⨾ minus (p - at x r) (at x r) (at x j) (omega arith))
+      ⨾ same (omega arith)
 
 pub ones-at : (j : ℕ) → j < 16 → at (replicate 16 1) j ≡ 1
 ones-at j l = getD-replicate {A = ℕ} 16 j 1 0 l
@@ -83,71 +63,51 @@ zeros-row {p} z = record { size = refl; small = λ j. rw (zeros-at 16 j) z }
 pub ones-row : {p : ℕ} → 1 < p → Row p (replicate 16 1)
 ones-row l = row-of (omega arith) refl λ j k. rw (ones-at j k) l
 
-pub starts : {p : ℕ} {y d : List ℕ} → 1 < p → d ≡ row (λ j. (p - 1) * at y j % p) →
-    Starts p y (record { first = record { d = replicate 16 1; e = replicate 16 0 }; second = record { d = d; e = replicate 16 1 }; a = 0; b = 0; entered = replicate 16 0 })
-starts {p} {y} l e = record {
-  marks = zeros-at 16;
-  holds = λ n k x b. record {
-    shaped = record { first = record { d = ones-row l; e = zeros-row z }; second = record { d = result-row _ z e; e = ones-row l }; size = refl };
-    beyond = λ j _. zeros-at 16 j;
-    state = record {
-      degrees = λ P L. degrees-start L (ones b) (λ j _. same (zeros-at 16 j)) (reduced z b (λ j. (p - 1) * at y j) e) (ones b);
-      bit = λ j. omega (arith, zeros-at 16 j);
-      count = sym (sum-eq n (λ j _. zeros-at 16 j) ∙ sum-const n 0 ∙ mul-zero n);
-      zero1 = λ j _ h. absurd (h (zeros-at 16 j));
-      zero2 = λ j _ h. absurd (h (zeros-at 16 j));
-    };
-  };
+-- the marks after an entry
+pub entered-of : (w : List ℕ) {w′ : List ℕ} (r : ℕ) → w′ ≡ set w r 1 → length w ≡ 16 → r < 16 → at w r ≡ 0 → Entered r (at w) (at w′)
+entered-of w r e s l m = record {
+  before = m;
+  after = ap (λ w. at w r) e ∙ getD-set-same w r 1 0 (omega arith);
+  others = λ j n. ap (λ w. at w j) e ∙ getD-set-other w r j 1 0 n;
 }
-  where
-    z : 0 < p
-    z = omega arith
-
-    ones : {n : ℕ} → n ≤ 16 → Agree (p - 1) n (at (replicate 16 1)) (λ j. 1)
-    ones b j k = same (ones-at j (omega arith))
 
 -- what is to be shown of the state after an entry
-enters-of : {p k r : ℕ} {x : List ℕ} {t t′ : Pairs} → Shaped p t → t′ .entered ≡ set (t .entered) r 1 → Rows p (t′ .first) → Rows p (t′ .second) →
+enters-of : {p k r : ℕ} {x : List ℕ} {t t′ : Pairs} → length (t .entered) ≡ 16 → t′ .entered ≡ set (t .entered) r 1 →
+    Row p (t′ .d1) → Row p (t′ .e1) → Row p (t′ .d2) → Row p (t′ .e2) →
     ((n : ℕ) (y : List ℕ) → n ≤ 16 → r < n → Entered r (at (t .entered)) (at (t′ .entered)) → State p n k x y t → State p n k x y t′) → Enters p k x r t t′
-enters-of {r} {t} {t′} h e f g v = record {
+enters-of {r} {t} h e d1 e1 d2 e2 v = record {
   marks = e;
   holds = λ n y b l m H. record {
-    shaped = record { first = f; second = g; size = ap length e ∙ length-set (t .entered) r 1 ∙ h .size };
+    shaped = record { d1 = d1; e1 = e1; d2 = d2; e2 = e2; size = ap length e ∙ length-set (t .entered) r 1 ∙ h };
     beyond = λ j o. ap (λ w. at w j) e ∙ getD-set-other (t .entered) r j 1 0 (omega arith) ∙ H .beyond j o;
-    state = v n y b l
-        (record {
-          before = m;
-          after = ap (λ w. at w r) e ∙ getD-set-same (t .entered) r 1 0 (omega (arith, h .size));
-          others = λ j n. ap (λ w. at w j) e ∙ getD-set-other (t .entered) r j 1 0 n;
-        })
-        (H .state);
+    state = v n y b l (entered-of (t .entered) r e h (omega arith) m) (H .state);
   };
 }
 
 -- the four returns of `enter`
-module _ {p k r : ℕ} {x w : List ℕ} {t : Pairs} {s : Updated} (z : 0 < p) (i : at x r ≤ p) (d : w ≡ row (λ j. (at x j + (p - at x r)) % p)) (h : Shaped p t) where
-  module _ (low : t .a ≤ t .b + k) where
-    pub first-grew : Update p w r (t .first) (t .second) s → s .grew ≡ true →
-        Enters p k x r t (record { first = s .used; second = s .other; a = t .a + 1; b = t .b; entered = set (t .entered) r 1 })
-    first-grew (kept g e u T) o = absurd (false≢true (sym g ∙ o))
-    first-grew (freed c g R T M) o = enters-of h refl (times-rows z T) (mix-rows z M) λ n y b l m v.
-        rw (add-one (t .a)) (freed1 v m l c low (R .zero) (times-d z b r x i d T) (times-e z b r x i d T) (mix-d z b M) (mix-e z b M))
+module _ {p k r : ℕ} {x w : List ℕ} {t : Pairs} (z : 0 < p) (i : at x r ≤ p) (d : w ≡ row (λ j. (at x j + (p - at x r)) % p)) (h : Shaped p t) {D E : List ℕ} where
+  -- the first pair is used
+  pub first-kept : at (t .d1) r ≡ 0 → Times p w (t .d2) D → Times p w (t .e2) E →
+      Enters p k x r t (record { d1 = t .d1; e1 = t .e1; d2 = D; e2 = E; a = t .a; b = t .b + 1; entered = set (t .entered) r 1 })
+  first-kept o f g = enters-of (h .size) refl (h .d1) (h .e1) (result-row _ z f) (result-row _ z g) λ n y b l m v.
+      rw (add-one (t .b)) (kept1 v m l (same o) (times z b r x i d (t .d2) f) (times z b r x i d (t .e2) g))
 
-    pub first-kept : Update p w r (t .first) (t .second) s → s .grew ≡ false →
-        Enters p k x r t (record { first = s .used; second = s .other; a = t .a; b = t .b + 1; entered = set (t .entered) r 1 })
-    first-kept (kept g e u T) o = enters-of h refl (rw u (h .first)) (times-rows z T) λ n y b l m v.
-        rw (add-one (t .b), u) (kept1 v m l (same e) (times-d z b r x i d T) (times-e z b r x i d T))
-    first-kept (freed c g R T M) o = absurd (true≢false (sym g ∙ o))
+  pub first-grew : {F G : List ℕ} (c : ℕ) → t .a ≤ t .b + k → Ratio p (at (t .d2) r) (at (t .d1) r) c →
+      Plus p c (t .d2) (t .d1) F → Plus p c (t .e2) (t .e1) G → Times p w (t .d1) D → Times p w (t .e1) E →
+      Enters p k x r t (record { d1 = D; e1 = E; d2 = F; e2 = G; a = t .a + 1; b = t .b; entered = set (t .entered) r 1 })
+  first-grew c low R F G f g = enters-of (h .size) refl (result-row _ z f) (result-row _ z g) (result-row _ z F) (result-row _ z G) λ n y b l m v.
+      rw (add-one (t .a)) (freed1 v m l c low (R .zero) (times z b r x i d (t .d1) f) (times z b r x i d (t .e1) g)
+      (plus z b c (t .d2) (t .d1) F) (plus z b c (t .e2) (t .e1) G))
 
-  module _ (high : t .b + k < t .a) where
-    pub second-grew : Update p w r (t .second) (t .first) s → s .grew ≡ true →
-        Enters p k x r t (record { first = s .other; second = s .used; a = t .a; b = t .b + 1; entered = set (t .entered) r 1 })
-    second-grew (kept g e u T) o = absurd (false≢true (sym g ∙ o))
-    second-grew (freed c g R T M) o = enters-of h refl (mix-rows z M) (times-rows z T) λ n y b l m v.
-        rw (add-one (t .b)) (freed2 v m l c high (R .zero) (times-d z b r x i d T) (times-e z b r x i d T) (mix-d z b M) (mix-e z b M))
+  -- the second pair is
+  pub second-kept : at (t .d2) r ≡ 0 → Times p w (t .d1) D → Times p w (t .e1) E →
+      Enters p k x r t (record { d1 = D; e1 = E; d2 = t .d2; e2 = t .e2; a = t .a + 1; b = t .b; entered = set (t .entered) r 1 })
+  second-kept o f g = enters-of (h .size) refl (result-row _ z f) (result-row _ z g) (h .d2) (h .e2) λ n y b l m v.
+      rw (add-one (t .a)) (kept2 v m l (same o) (times z b r x i d (t .d1) f) (times z b r x i d (t .e1) g))
 
-    pub second-kept : Update p w r (t .second) (t .first) s → s .grew ≡ false →
-        Enters p k x r t (record { first = s .other; second = s .used; a = t .a + 1; b = t .b; entered = set (t .entered) r 1 })
-    second-kept (kept g e u T) o = enters-of h refl (times-rows z T) (rw u (h .second)) λ n y b l m v.
-        rw (add-one (t .a), u) (kept2 v m l (same e) (times-d z b r x i d T) (times-e z b r x i d T))
-    second-kept (freed c g R T M) o = absurd (true≢false (sym g ∙ o))
+  pub second-grew : {F G : List ℕ} (c : ℕ) → t .b + k < t .a → Ratio p (at (t .d1) r) (at (t .d2) r) c →
+      Plus p c (t .d1) (t .d2) F → Plus p c (t .e1) (t .e2) G → Times p w (t .d2) D → Times p w (t .e2) E →
+      Enters p k x r t (record { d1 = F; e1 = G; d2 = D; e2 = E; a = t .a; b = t .b + 1; entered = set (t .entered) r 1 })
+  second-grew c high R F G f g = enters-of (h .size) refl (result-row _ z F) (result-row _ z G) (result-row _ z f) (result-row _ z g) λ n y b l m v.
+      rw (add-one (t .b)) (freed2 v m l c high (R .zero) (times z b r x i d (t .d2) f) (times z b r x i d (t .e2) g)
+      (plus z b c (t .d1) (t .d2) F) (plus z b c (t .e1) (t .e2) G))

@@ -8,23 +8,29 @@
 --   None r                     the answer r is that there is none
 --   Found p F n k x s u r      the answer r was measured, and costs under the radius F (n - k)
 --   Tried p F n k x s u w r    a trial at the cells that w marks: what it found was measured, or no near polynomial is under the radius
---   Next F n u t r             r is above t, at most F, and no doubt of the n is between them
+--   Hoped k t                  the pairs t may have a candidate: a is over b + k, and there are a usable cells
+--   Hope F n k u t r           r says whether they may: if so they are hoped, if not no near polynomial is under the radius
+--   Measured p m F n k s u f r the answer r is the trial of the polynomial f, which goes through k + 1 cells at some points x
 --
 -- What this file is for: the decoder's contract, on which the readers of strips and of marks rest, and those of its parts.
 use mathlib.Core.Path.{_≡_}
 use mathlib.Core.Bool.{Bool, true, false}
 use mathlib.Core.List.{List}
-use Prim.Native.Nat.{ℕ, suc, _*_, _-_, _%_, _≤_, _<_}
+use Prim.Native.Nat.{ℕ, suc, _+_, _*_, _-_, _%_, _≤_, _<_}
 use lib.ListN.{replicate}
-use Rattle.bounded.specs.Bounded.{at}
+use Rattle.bounded.specs.Bounded.{at, sum}
 use Rattle.field.specs.Prime.{Prime}
 use Rattle.field.specs.Row.{row, Row, Reciprocal}
 use Rattle.definitions.specs.Cost.{cost}
 use Rattle.polynomial.specs.Eval.{eval, Apart}
 use Rattle.distance.specs.Doubts.{Doubts}
 use Rattle.reed_solomon.specs.declared.decoder.Decoded.{Decoded}
+use Rattle.reed_solomon.specs.declared.newton.Newton.{Newton}
 use Rattle.reed_solomon.specs.Strip.{Strip}
-use Rattle.reed_solomon.specs.Near.{Refuted}
+use Rattle.reed_solomon.specs.declared.interpolation.Pairs.{Pairs}
+use Rattle.reed_solomon.specs.Pairs.{Holds}
+use Rattle.reed_solomon.specs.Newton.{Fits}
+use Rattle.reed_solomon.specs.Near.{usable, Refuted}
 
 abbrev pub Received : (p m : ℕ) (x : List ℕ) (n k F : ℕ) (s u : List ℕ) → Type 0
 Received p m x n k F s u =
@@ -55,7 +61,13 @@ pub data Tried (p F n k : ℕ) (x s u w : List ℕ) (r : Decoded) : Type 0 where
   hit : Found p F n k x s u r → Tried p F n k x s u w r
   miss : None r → Refuted (p - 1) F n k (at x) (at s) (at u) (at w) → Tried p F n k x s u w r
 
-pub record Next (F n : ℕ) (u : List ℕ) (t r : ℕ) : Type 0 where
-  pub above : t < r
-  pub most : r ≤ F
-  pub least : (j : ℕ) → j < n → t < at u j → r ≤ at u j
+pub record Measured (p m F n k : ℕ) (s u : List ℕ) (f : Newton) (r : Decoded) : Type 0 where
+  pub tried : (x l : List ℕ) → Received p m x n k F s u → Fits p n k x s l (suc k) f → Tried p F n k x s u (f .entered) r
+
+pub record Hoped (k : ℕ) (t : Pairs) : Type 0 where
+  pub high : t .b + k < t .a
+  pub count : sum 16 (usable (at (t .entered)) (at (t .e2))) ≡ t .a
+
+pub record Hope (F n k : ℕ) (u : List ℕ) (t : Pairs) (r : Bool) : Type 0 where
+  pub yes : r ≡ true → Hoped k t
+  pub no : r ≡ false → (p m : ℕ) (x s : List ℕ) → Received p m x n k F s u → Holds p n k x s t → Refuted (p - 1) F n k (at x) (at s) (at u) (at (t .entered))

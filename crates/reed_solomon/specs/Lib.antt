@@ -1,5 +1,6 @@
 -- The strip decoder: Reed-Solomon codes with doubts.
 pub mod Strip
+pub mod Order
 pub mod Interpolation
 pub mod Pairs
 pub mod Near

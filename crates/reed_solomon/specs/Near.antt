@@ -3,6 +3,7 @@
 --   missed n w s v    how many marked cells have a symbol s other than the value v
 --   Near n k w s v    twice these and k are fewer than the marked cells: then the interpolation finds v
 --   usable w e j      1 at a marked cell where e is not 0, else 0
+--   suspect d e j     not 0 where e is 0 or d is not: there a near polynomial Q / E is missed
 --   Refuted q F n k x s u w
 --                     whatever polynomial of degree at most k is near costs F (n - k) or more
 --   Passed q F n k x s u t
@@ -25,6 +26,9 @@ Near n k w s v = 2 * missed n w s v + k < sum n w
 
 abbrev pub usable : (w e : ℕ → ℕ) → ℕ → ℕ
 usable w e j = cond (eqb (e j) 0) 0 (w j)
+
+abbrev pub suspect : (d e : ℕ → ℕ) → ℕ → ℕ
+suspect d e j = cond (eqb (e j) 0) 1 (d j)
 
 pub record Refuted (q F n k : ℕ) (x s u w : ℕ → ℕ) : Type 0 where
   pub far : (h : ℕ → ℕ) → Near n k w s (values q (suc k) h x) → F * (n - k) ≤ cost F n s u (values q (suc k) h x)

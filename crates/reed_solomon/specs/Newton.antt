@@ -1,87 +1,76 @@
--- Newton's form of a polynomial, kept both by its values at sixteen points x and by its coefficients, modulo p.
+-- Newton's form of a polynomial, modulo p = suc q: a sum of multiples c 0, c 1, .. of the products of X - z over the nodes before.
 --
---   raised a              a times X, by coefficients
---   Residues p f          both rows of f are rows modulo p
---   Poly p i x f          f has i coefficients, 0 from there on, and their values at the points; of more than sixteen nothing is said
---   Plus p c f g h        h is f + c g
---   Root p x z f g        g is f times X - z
---   Whole p t             the rows of both polynomials of t are rows modulo p
---   Begins t              no cell was taken: the sum is 0 and the product 1
---   Takes p x y r t t′    the cell r with the symbol y is taken
---   Enough p k x v        v marks by 1 more than k cells, at points that are apart
---   Fits p x y v n r i t  i of the first r cells were taken, all that v marks: there the sum has the symbols y and the product is 0,
---                         and the product is not 0 at the points that follow
---   Through p k x y v f   f has degree at most k, and is the only such polynomial that may go through all marked cells
+--   base q z i X           the product of X - z over the first i nodes z, at X
+--   form q c z i X         the sum of c l times the product of l nodes, for l below i, at X
+--   raised c a             a times X, plus c, by coefficients
+--   Enough p n k x l       more than k of n cells have a key below `taken` in l, at points that are apart
+--   Cells p k x l          the same for some n
+--   Whole p f              the rows of f are rows modulo p
+--   pairsOf i f            the pairs of the interpolation after the first i cells, E1 = 0 and E2 = 1
+--   Fits p n k x y l i f   f is the polynomial through the i cells of the least keys of l, by its values less the symbols y
+--     holds                what it is and the product of its nodes are pairs that interpolate
+--     entering             which cells have entered, and the keys of the others
+--     left                 the product is not 0 at the other cells
+--     whole                its rows
+--     based, formed        product and polynomial at all sixteen points
+--   Coefficients p k c z a a are the coefficients of the form of k + 1 terms: residues, 0 above the power k
 --
--- What this file is for: the contracts of the interpolation through right symbols.
-use mathlib.Core.Logic.{_≢_}
+-- What this file is for: the contracts of the interpolation through k + 1 cells.
 use mathlib.Core.Path.{_≡_}
+use mathlib.Core.Bool.{cond}
 use mathlib.Core.List.{List}
-use Prim.Native.Nat.{ℕ, zero, suc, _+_, _*_, _-_, _%_, _≤_, _<_}
+use Prim.Native.Nat.{ℕ, zero, suc, _+_, _*_, _-_, _≤_, _<_}
+use lib.Dec.{ltb}
+use lib.ListN.{replicate}
 use Rattle.bounded.specs.Bounded.{at, sum}
-use Rattle.field.specs.Congruence.{Cong, Agree}
-use Rattle.field.specs.Row.{row, Row}
+use Rattle.field.specs.Congruence.{Cong}
+use Rattle.field.specs.Row.{Row}
 use Rattle.polynomial.specs.Eval.{eval, Apart}
-use Rattle.reed_solomon.specs.declared.newton.Polynomial.{Polynomial}
+use Rattle.reed_solomon.specs.declared.interpolation.Pairs.{Pairs}
 use Rattle.reed_solomon.specs.declared.newton.Newton.{Newton}
+use Rattle.reed_solomon.specs.Order.{taken, Placed, Entering}
+use Rattle.reed_solomon.specs.Pairs.{Holds}
 
-abbrev pub raised : (ℕ → ℕ) → ℕ → ℕ
-raised a zero = 0
-raised a (suc i) = a i
+abbrev pub base : (q : ℕ) (z : ℕ → ℕ) (i X : ℕ) → ℕ
+base q z zero X = 1
+base q z (suc i) X = base q z i X * (X + q * z i)
 
-pub record Residues (p : ℕ) (f : Polynomial) : Type 0 where
-  pub values : Row p (f .values)
-  pub coefs : Row p (f .coefficients)
+abbrev pub form : (q : ℕ) (c z : ℕ → ℕ) (i X : ℕ) → ℕ
+form q c z zero X = 0
+form q c z (suc i) X = form q c z i X + c i * base q z i X
 
-pub record Poly (p i : ℕ) (x : List ℕ) (f : Polynomial) : Type 0 where
-  pub rows : Residues p f
-  pub above : (l : ℕ) → i ≤ l → at (f .coefficients) l ≡ 0
-  pub agree : i ≤ 16 → Agree (p - 1) 16 (at (f .values)) (λ j. eval i (at (f .coefficients)) (at x j))
+abbrev pub raised : (c : ℕ) (a : ℕ → ℕ) → ℕ → ℕ
+raised c a zero = c
+raised c a (suc i) = a i
 
-pub record Plus (p c : ℕ) (f g h : Polynomial) : Type 0 where
-  pub values : h .values ≡ row (λ j. (at (f .values) j + c * at (g .values) j) % p)
-  pub coefs : h .coefficients ≡ row (λ j. (at (f .coefficients) j + c * at (g .coefficients) j) % p)
-
-pub record Root (p : ℕ) (x : List ℕ) (z : ℕ) (f g : Polynomial) : Type 0 where
-  pub w : List ℕ
-  pub up : List ℕ
-  pub differences : w ≡ row (λ j. (at x j + (p - z)) % p)
-  pub raise : up ≡ row (raised (at (f .coefficients)))
-  pub values : g .values ≡ row (λ j. at (f .values) j * at w j % p)
-  pub coefs : g .coefficients ≡ row (λ j. (at up j + (p - z) * at (f .coefficients) j) % p)
-
-pub record Whole (p : ℕ) (t : Newton) : Type 0 where
-  pub sum : Residues p (t .sum)
-  pub product : Residues p (t .product)
-
-pub record Begins (t : Newton) : Type 0 where
-  pub sum : (p : ℕ) (x : List ℕ) → 1 < p → Poly p 0 x (t .sum)
-  pub product : (p : ℕ) (x : List ℕ) → 1 < p → Poly p 1 x (t .product)
-  pub one : (j : ℕ) → j < 16 → at (t .product .values) j ≡ 1
-
-pub record Takes (p : ℕ) (x : List ℕ) (y r : ℕ) (t t′ : Newton) : Type 0 where
-  pub c : ℕ
-  pub hit : Cong (p - 1) (at (t .sum .values) r + c * at (t .product .values) r) y
-  pub sum : Plus p c (t .sum) (t .product) (t′ .sum)
-  pub product : Root p x (at x r) (t .product) (t′ .product)
-
-pub record Enough (p k : ℕ) (x v : List ℕ) : Type 0 where
-  pub n : ℕ
+pub record Enough (p n k : ℕ) (x l : List ℕ) : Type 0 where
   pub most : n ≤ 16
   pub apart : Apart (p - 1) n (at x)
-  pub bit : (j : ℕ) → at v j ≤ 1
-  pub enough : k < sum n (at v)
+  pub placed : Placed l
+  pub beyond : (j : ℕ) → n ≤ j → j < 16 → taken ≤ at l j
+  pub enough : k < sum n (λ j. cond (ltb (at l j) taken) 1 0)
 
-pub record Fits (p : ℕ) (x y v : List ℕ) (n r i : ℕ) (t : Newton) : Type 0 where
-  pub sum : Poly p i x (t .sum)
-  pub product : Poly p (suc i) x (t .product)
-  pub taken : Rattle.bounded.specs.Bounded.sum r (at v) ≡ i
-  pub hit : (j : ℕ) → j < r → at v j ≢ 0 → Cong (p - 1) (at (t .sum .values) j) (at y j)
-  pub zero : (j : ℕ) → j < r → at v j ≢ 0 → Cong (p - 1) (at (t .product .values) j) 0
-  pub left : (j : ℕ) → r ≤ j → j < n → ¬ (Cong (p - 1) (at (t .product .values) j) 0)
+pub record Cells (p k : ℕ) (x l : List ℕ) : Type 0 where
+  pub n : ℕ
+  pub enough : Enough p n k x l
 
-pub record Through (p k : ℕ) (x y v : List ℕ) (f : Polynomial) : Type 0 where
-  pub message : Row p (f .coefficients)
-  pub above : (i : ℕ) → k < i → at (f .coefficients) i ≡ 0
-  pub values : f .values ≡ row (λ j. eval (suc k) (at (f .coefficients)) (at x j) % p)
-  pub only : (h : ℕ → ℕ) → ((j : ℕ) → at v j ≢ 0 → Cong (p - 1) (eval (suc k) h (at x j)) (at y j)) → (i : ℕ) → i ≤ k → Cong (p - 1) (at (f .coefficients) i) (h i)
+abbrev pub pairsOf : ℕ → Newton → Pairs
+pairsOf i f = record { d1 = f .product; e1 = replicate 16 0; d2 = f .rest; e2 = replicate 16 1; a = i; b = 0; entered = f .entered }
+
+pub record Whole (p : ℕ) (f : Newton) : Type 0 where
+  pub rest : Row p (f .rest)
+  pub slopes : Row p (f .slopes)
+  pub nodes : Row p (f .nodes)
+
+pub record Fits (p n k : ℕ) (x y l : List ℕ) (i : ℕ) (f : Newton) : Type 0 where
+  pub holds : Holds p n k x y (pairsOf i f)
+  pub entering : Entering l (f .entered) (f .keys)
+  pub left : (j : ℕ) → j < n → at (f .entered) j ≡ 0 → ¬ (Cong (p - 1) (at (f .product) j) 0)
+  pub whole : Whole p f
+  pub based : (j : ℕ) → j < 16 → Cong (p - 1) (at (f .product) j) (base (p - 1) (at (f .nodes)) i (at x j))
+  pub formed : (j : ℕ) → j < 16 → Cong (p - 1) (at (f .rest) j + at y j) (form (p - 1) (at (f .slopes)) (at (f .nodes)) i (at x j))
+
+pub record Coefficients (p k : ℕ) (c z a : List ℕ) : Type 0 where
+  pub row : Row p a
+  pub above : (i : ℕ) → k < i → at a i ≡ 0
+  pub evaluates : (X : ℕ) → Cong (p - 1) (eval (suc k) (at a) X) (form (p - 1) (at c) (at z) (suc k) X)

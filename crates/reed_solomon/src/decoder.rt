@@ -1,20 +1,28 @@
 // The strip decoder (document 004, chapter 4, by generalised minimum distance): levels of doubt rise, the cells of a level enter the
-// interpolation one by one, and after each the candidate, if there is one, is measured against the whole strip. A measured one under
-// the radius is the only one, so that it ends the trial.
+// interpolation one by one, and after each the candidate, if there may be one, is measured against the whole strip. A measured one
+// under the radius is the only one, so that it ends the trial. The first k + 1 cells have one polynomial through them, which is
+// measured first.
 use crate::interpolation;
 use crate::interpolation::Pairs;
 use crate::newton;
+use crate::newton::Newton;
+use crate::order;
+use distance::summary;
 use distance::word;
+use field::rows;
 ghost use mathlib.Core.Path.{_≡_};
 ghost use mathlib.Core.Bool.{cond};
 ghost use Prim.Native.Nat.{ℕ, _<_, _≤_};
 ghost use lib.Dec.{eqb};
-ghost use lib.ListN.{length};
 ghost use Rattle.bounded.specs.Bounded.{at, sum};
-ghost use Rattle.field.specs.Row.{row};
+ghost use Rattle.field.specs.Prime.{Inverses};
+ghost use Rattle.field.specs.Row.{row, Row, Reciprocal};
+ghost use Rattle.distance.specs.Doubts.{Doubts};
+ghost use Rattle.reed_solomon.specs.Newton.{Whole};
+ghost use Rattle.reed_solomon.specs.Order.{key};
 ghost use Rattle.reed_solomon.specs.Pairs.{Holds};
-ghost use Rattle.reed_solomon.specs.Near.{usable};
-ghost use Rattle.reed_solomon.specs.Decoded.{Received, StripDecoded, None, Tried, Next};
+ghost use Rattle.reed_solomon.specs.Near.{usable, suspect};
+ghost use Rattle.reed_solomon.specs.Decoded.{Received, StripDecoded, None, Tried, Measured, Hoped, Hope};
 
 // Of an answer that there is none, all else is 0.
 pub struct Decoded {
@@ -37,14 +45,14 @@ fn none() -> Decoded
     }
 }
 
-// w where e is not 0, else 0.
-fn kept(e: u16, w: u16) -> u16
-    ensures { λ r. ⌜ r ≡ cond (eqb e 0) 0 w ⌝ }
+// v where e is not 0, else z.
+fn chosen(e: u16, z: u16, v: u16) -> u16
+    ensures { λ r. ⌜ r ≡ cond (eqb e 0) z v ⌝ }
 {
     if e == 0 {
-        return 0;
+        return z;
     }
-    w
+    v
 }
 
 // The cells that have entered and where e is not 0.
@@ -54,7 +62,20 @@ fn usable_cells(entered: [u16; 16], e: [u16; 16]) -> [u16; 16]
     let mut out = [0u16; 16];
     let mut j = 0;
     while j < 16 {
-        out[j] = kept(e[j], entered[j]);
+        out[j] = chosen(e[j], 0, entered[j]);
+        j += 1;
+    }
+    out
+}
+
+// Where a near polynomial Q / E has another value than the symbol: where e is 0, or d is not. There it is not 0.
+fn suspect_cells(d: [u16; 16], e: [u16; 16]) -> [u16; 16]
+    ensures { λ r. ⌜ r ≡ row (suspect (at d) (at e)) ⌝ }
+{
+    let mut out = [0u16; 16];
+    let mut j = 0;
+    while j < 16 {
+        out[j] = chosen(e[j], 1, d[j]);
         j += 1;
     }
     out
@@ -74,58 +95,43 @@ fn count(v: [u16; 16]) -> usize
     marked as usize
 }
 
-// The next level of doubt: the least doubt above this level, or the full doubt.
-fn next_level(n: usize, u: [u32; 16], level: u32, full: u32) -> u32
-    requires { ⌜ (n ≤ 16) × (level < full) ⌝ }
-    ensures { λ r. ⌜ Next full n u level r ⌝ }
+// The sum of the n doubts: no polynomial costs less.
+fn doubt_sum(n: usize, u: [u32; 16]) -> u32
+    requires { ⌜ (n ≤ 16) × Doubts 65535 n (at u) ⌝ }
+    ensures { λ r. ⌜ r ≡ sum n (at u) ⌝ }
 {
-    let mut next = full;
+    let mut doubts = 0;
     let mut j = 0;
     while j < n {
-        let doubt = u[j];
-        if level < doubt {
-            if doubt < next {
-                next = doubt;
-            }
-        }
+        doubts += u[j];
         j += 1;
     }
-    next
+    doubts
 }
 
-// The candidate of the cells that have entered, measured. A polynomial that is wrong at few of them makes E2 zero at just these, b in
-// number: so it is missed nowhere else, and goes through the a other cells.
-fn attempt(
-    t: Pairs,
+// The polynomial f, if it costs under the radius.
+fn measured(
+    f: Newton,
     p: u16,
     m: u16,
-    x: [u16; 16],
     n: usize,
     k: usize,
     full: u32,
     s: [u16; 16],
     u: [u32; 16],
 ) -> Decoded
-    requires { ⌜ Received p m x n k full s u × Holds p n k x s t ⌝ }
-    ensures { λ r. ⌜ Tried p full n k x s u (t .entered) r ⌝ }
+    requires { ⌜ Reciprocal p m × Whole p f × Row p s × (n ≤ 16) × (k < n) × (full < 65536) × Doubts full n (at u) ⌝ }
+    ensures { λ r. ⌜ Measured p m full n k s u f r ⌝ }
 {
-    if t.a <= t.b + k {
+    let rest = f.rest;
+    let cost = word::word_cost(n, rest, u, [0; 16], full);
+    if cost >= summary::radius(full, 1, n, k) {
         return none();
     }
-    let entered = t.entered;
-    let second = t.second;
-    let e = second.e;
-    let v = usable_cells(entered, e);
-    if count(v) != t.a {
-        return none();
-    }
-    let f = newton::through(x, s, v, k, p, m);
-    let message = f.coefficients;
-    let values = f.values;
-    let cost = word::word_cost(n, s, u, values, full);
-    if cost >= full * ((n - k) as u32) {
-        return none();
-    }
+    let slopes = f.slopes;
+    let nodes = f.nodes;
+    let message = newton::coefficients(slopes, nodes, k, p, m);
+    let values = rows::add_multiple(rest, 1, s, p, m);
     Decoded {
         found: true,
         message,
@@ -134,10 +140,32 @@ fn attempt(
     }
 }
 
-// The polynomial of degree at most k that costs under full * (n - k), by its k + 1 coefficients, its values and its cost; or none.
-pub fn decode(
+// Whether the pairs may have a candidate. A near polynomial makes E2 zero at just the entered cells where it is missed, b in number,
+// and at no other point: so it is missed where E2 is 0 or D2 is not, which tells its cost.
+fn hopeful(t: Pairs, n: usize, k: usize, full: u32, u: [u32; 16]) -> bool
+    requires { ⌜ (n ≤ 16) × (k < n) × (full < 65536) × Doubts full n (at u) × (t .b ≤ 16) × ((j : ℕ) → at (t .entered) j ≤ 1) ⌝ }
+    ensures { λ r. ⌜ Hope full n k u t r ⌝ }
+{
+    if t.a <= t.b + k {
+        return false;
+    }
+    let entered = t.entered;
+    let d = t.d2;
+    let e = t.e2;
+    if count(usable_cells(entered, e)) != t.a {
+        return false;
+    }
+    let cost = word::word_cost(n, suspect_cells(d, e), u, [0; 16], full);
+    cost < summary::radius(full, 1, n, k)
+}
+
+// The candidate, measured: a near polynomial goes through all usable cells.
+fn attempt(
+    t: Pairs,
+    keys: [u32; 16],
     p: u16,
     m: u16,
+    inverses: &[u16; 251],
     x: [u16; 16],
     n: usize,
     k: usize,
@@ -145,27 +173,59 @@ pub fn decode(
     s: [u16; 16],
     u: [u32; 16],
 ) -> Decoded
-    requires { ⌜ Received p m x n k full s u ⌝ }
+    requires { ⌜ Received p m x n k full s u × Inverses p (now inverses) × (keys ≡ row (λ j. key n (at u j) j)) × Holds p n k x s t × Hoped k t ⌝ }
+    ensures { λ r. ⌜ Tried p full n k x s u (t .entered) r ⌝ }
+{
+    let entered = t.entered;
+    let e = t.e2;
+    let v = usable_cells(entered, e);
+    let f = newton::through(order::marked(v, keys), x, s, k, p, m, inverses);
+    measured(f, p, m, n, k, full, s, u)
+}
+
+// The polynomial of degree at most k that costs under full * (n - k), by its k + 1 coefficients, its values and its cost; or none.
+pub fn decode(
+    p: u16,
+    m: u16,
+    inverses: &[u16; 251],
+    x: [u16; 16],
+    n: usize,
+    k: usize,
+    full: u32,
+    s: [u16; 16],
+    u: [u32; 16],
+) -> Decoded
+    requires { ⌜ Received p m x n k full s u × Inverses p (now inverses) ⌝ }
     ensures { λ r. ⌜ StripDecoded p full n k x s u (r .found) (r .message) (r .values) (r .cost) ⌝ }
 {
-    let mut answer = none();
-    let mut t = interpolation::start(s, p, m);
-    let mut level = 0;
-    'levels: while level < full {
-        let mut r = 0;
-        while r < n {
-            if u[r] == level {
-                let next = interpolation::enter(t, x, r, k, p, m);
-                t = next;
-                let tried = attempt(t, p, m, x, n, k, full, s, u);
+    if doubt_sum(n, u) >= summary::radius(full, 1, n, k) {
+        return none();
+    }
+    let all = order::keys(n, u);
+    let f = newton::through(all, x, s, k, p, m, inverses);
+    let mut answer = measured(f, p, m, n, k, full, s, u);
+    if answer.found {
+        return answer;
+    }
+    let mut t = newton::pairs_of(f, k);
+    let mut keys = f.keys;
+    let mut next = order::least(keys);
+    'levels: while next < full * 16 {
+        let level = next / 16;
+        while next / 16 == level {
+            let r = (next % 16) as usize;
+            let now = interpolation::enter(t, x, r, k, p, m, inverses);
+            t = now;
+            keys[r] = order::TAKEN;
+            next = order::least(keys);
+            if hopeful(t, n, k, full, u) {
+                let tried = attempt(t, all, p, m, inverses, x, n, k, full, s, u);
                 if tried.found {
                     answer = tried;
                     break 'levels;
                 }
             }
-            r += 1;
         }
-        level = next_level(n, u, level, full);
     }
     answer
 }

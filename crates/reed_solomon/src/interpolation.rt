@@ -1,163 +1,106 @@
 // Incremental rational interpolation by values (Welch and Berlekamp, in Koetter's form): cells enter one by one, and nothing is
 // computed again. A pair stands for two polynomials Q and E: e holds E at the points, d holds Q - y E, y being the symbols.
-use field::inverse;
 use field::rows;
-ghost use mathlib.Core.Path.{_≡_};
 ghost use Prim.Native.Nat.{_+_, _<_, _≤_};
-ghost use lib.ListN.{length};
-ghost use Rattle.bounded.specs.Bounded.{at};
-ghost use Rattle.field.specs.Prime.{Prime};
+ghost use Rattle.field.specs.Prime.{Inverses};
 ghost use Rattle.field.specs.Row.{Row, Reciprocal};
-ghost use Rattle.reed_solomon.specs.Pairs.{Rows, Ratio, Times, Mix, Update, Shaped, Starts, Enters};
-
-pub struct Pair {
-    pub d: [u16; 16],
-    pub e: [u16; 16],
-}
+ghost use Rattle.reed_solomon.specs.Pairs.{Ratio, Shaped, Enters};
 
 // The first pair of degree a, the second of degree b; a + b cells have entered, and `entered` is 1 at these, else 0.
 pub struct Pairs {
-    pub first: Pair,
-    pub second: Pair,
+    pub d1: [u16; 16],
+    pub e1: [u16; 16],
+    pub d2: [u16; 16],
+    pub e2: [u16; 16],
     pub a: usize,
     pub b: usize,
     pub entered: [u16; 16],
 }
 
-// The pair that was used, the other one, and whether it was the used one that grew.
-pub struct Updated {
-    pub used: Pair,
-    pub other: Pair,
-    pub grew: bool,
-}
-
 // - a / b.
-pub fn ratio(a: u16, b: u16, p: u16, m: u16) -> u16
-    requires { ⌜ Prime p × Reciprocal p m × (a < p) × (0 < b) × (b < p) ⌝ }
+pub fn ratio(a: u16, b: u16, p: u16, m: u16, inverses: &[u16; 251]) -> u16
+    requires { ⌜ Reciprocal p m × Inverses p (now inverses) × (a < p) × (0 < b) × (b < p) ⌝ }
     ensures { λ r. ⌜ Ratio p a b r ⌝ }
 {
-    rows::reduce((p - a) * inverse::inverse(b, p), p, m)
+    rows::reduce((p - a) * inverses[b as usize], p, m)
 }
 
-// Both rows multiplied by w.
-fn times(f: Pair, w: [u16; 16], p: u16, m: u16) -> Pair
-    requires { ⌜ Reciprocal p m × Rows p f × Row p w ⌝ }
-    ensures { λ g. ⌜ Times p w f g ⌝ }
-{
-    let fd = f.d;
-    let fe = f.e;
-    let d = rows::multiply(fd, w, p, m);
-    let e = rows::multiply(fe, w, p, m);
-    Pair { d, e }
-}
-
-// f + c g.
-fn mix(f: Pair, c: u16, g: Pair, p: u16, m: u16) -> Pair
-    requires { ⌜ Reciprocal p m × Rows p f × Rows p g × (c < p) ⌝ }
-    ensures { λ h. ⌜ Mix p c f g h ⌝ }
-{
-    let fd = f.d;
-    let fe = f.e;
-    let gd = g.d;
-    let ge = g.e;
-    let d = rows::add_multiple(fd, c, gd, p, m);
-    let e = rows::add_multiple(fe, c, ge, p, m);
-    Pair { d, e }
-}
-
-// The cell r enters, w being the differences of all points to its own. Where `used` is 0 there, `other` is multiplied by w;
-// else `other` is freed of its value there by a multiple of `used`, and `used` is multiplied by w.
-fn update(used: Pair, other: Pair, w: [u16; 16], r: usize, p: u16, m: u16) -> Updated
-    requires { ⌜ Prime p × Reciprocal p m × Rows p used × Rows p other × Row p w × (r < 16) ⌝ }
-    ensures { λ s. ⌜ Update p w r used other s ⌝ }
-{
-    let ud = used.d;
-    let od = other.d;
-    let g = ud[r];
-    if g == 0 {
-        let grown = times(other, w, p, m);
-        return Updated {
-            used,
-            other: grown,
-            grew: false,
-        };
-    }
-    let freed = mix(other, ratio(od[r], g, p, m), used, p, m);
-    let grown = times(used, w, p, m);
-    Updated {
-        used: grown,
-        other: freed,
-        grew: true,
-    }
-}
-
-// No cell has entered: Q1 = 1, E1 = 0, Q2 = 0, E2 = 1.
-pub fn start(y: [u16; 16], p: u16, m: u16) -> Pairs
-    requires { ⌜ Reciprocal p m × Row p y ⌝ }
-    ensures { λ t. ⌜ Starts p y t ⌝ }
-{
-    let ones = [1u16; 16];
-    let zeros = [0u16; 16];
-    let minus = rows::scale(p - 1, y, p, m);
-    let first = Pair { d: ones, e: zeros };
-    let second = Pair { d: minus, e: ones };
-    Pairs {
-        first,
-        second,
-        a: 0,
-        b: 0,
-        entered: zeros,
-    }
-}
-
-// The cell r enters. The pair of the lower degree is used, the second pair's counting k more.
-pub fn enter(t: Pairs, x: [u16; 16], r: usize, k: usize, p: u16, m: u16) -> Pairs
-    requires { ⌜ Prime p × Reciprocal p m × Shaped p t × Row p x × (r < 16) × (k ≤ 16) × (t .a + t .b ≤ 16) ⌝ }
+// The cell r enters. The pair of the lower degree is used, the second pair's counting k more: where it is 0 at the cell the other
+// pair is multiplied by the differences of all points to the cell's own; else the other is freed of its value there by a multiple
+// of it, and it is multiplied itself.
+pub fn enter(
+    t: Pairs,
+    x: [u16; 16],
+    r: usize,
+    k: usize,
+    p: u16,
+    m: u16,
+    inverses: &[u16; 251],
+) -> Pairs
+    requires { ⌜ Reciprocal p m × Inverses p (now inverses) × Shaped p t × Row p x × (r < 16) × (k ≤ 16) × (t .a + t .b ≤ 16) ⌝ }
     ensures { λ t′. ⌜ Enters p k x r t t′ ⌝ }
 {
-    let first = t.first;
-    let second = t.second;
+    let d1 = t.d1;
+    let e1 = t.e1;
+    let d2 = t.d2;
+    let e2 = t.e2;
     let mut entered = t.entered;
     entered[r] = 1;
-    let w = rows::shift(x, p - x[r], p, m);
+    let w = rows::shift(x, p - x[r], p);
     if t.a <= t.b + k {
-        let s = update(first, second, w, r, p, m);
-        let used = s.used;
-        let other = s.other;
-        if s.grew {
+        if d1[r] == 0 {
+            let grown_d = rows::multiply(d2, w, p, m);
+            let grown_e = rows::multiply(e2, w, p, m);
             return Pairs {
-                first: used,
-                second: other,
-                a: t.a + 1,
-                b: t.b,
+                d1,
+                e1,
+                d2: grown_d,
+                e2: grown_e,
+                a: t.a,
+                b: t.b + 1,
                 entered,
             };
         }
+        let c = ratio(d2[r], d1[r], p, m, inverses);
+        let freed_d = rows::add_multiple(d2, c, d1, p, m);
+        let freed_e = rows::add_multiple(e2, c, e1, p, m);
+        let grown_d = rows::multiply(d1, w, p, m);
+        let grown_e = rows::multiply(e1, w, p, m);
         return Pairs {
-            first: used,
-            second: other,
-            a: t.a,
-            b: t.b + 1,
+            d1: grown_d,
+            e1: grown_e,
+            d2: freed_d,
+            e2: freed_e,
+            a: t.a + 1,
+            b: t.b,
             entered,
         };
     }
-    let s = update(second, first, w, r, p, m);
-    let used = s.used;
-    let other = s.other;
-    if s.grew {
+    if d2[r] == 0 {
+        let grown_d = rows::multiply(d1, w, p, m);
+        let grown_e = rows::multiply(e1, w, p, m);
         return Pairs {
-            first: other,
-            second: used,
-            a: t.a,
-            b: t.b + 1,
+            d1: grown_d,
+            e1: grown_e,
+            d2,
+            e2,
+            a: t.a + 1,
+            b: t.b,
             entered,
         };
     }
+    let c = ratio(d1[r], d2[r], p, m, inverses);
+    let freed_d = rows::add_multiple(d1, c, d2, p, m);
+    let freed_e = rows::add_multiple(e1, c, e2, p, m);
+    let grown_d = rows::multiply(d2, w, p, m);
+    let grown_e = rows::multiply(e2, w, p, m);
     Pairs {
-        first: other,
-        second: used,
-        a: t.a + 1,
-        b: t.b,
+        d1: freed_d,
+        e1: freed_e,
+        d2: grown_d,
+        e2: grown_e,
+        a: t.a,
+        b: t.b + 1,
         entered,
     }
 }

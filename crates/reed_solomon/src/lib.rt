@@ -2,3 +2,4 @@
 pub mod decoder;
 pub mod interpolation;
 pub mod newton;
+pub mod order;

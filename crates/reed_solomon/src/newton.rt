@@ -1,30 +1,96 @@
-// The polynomial through some cells, by Newton's form: a sum of multiples of the products of X - x_r over the cells taken before. It
-// is kept both by its values at the sixteen points and by its coefficients, so that nothing is evaluated in the end.
+// The polynomial through k + 1 cells, by Newton's form: a sum of multiples, the slopes, of the products of X - z over the points z of
+// the cells taken before, the nodes. It is kept by its values less the symbols: where these are 0 the symbol is right.
+use crate::interpolation::Pairs;
 use crate::interpolation::ratio;
+use crate::order;
 use field::rows;
 ghost use mathlib.Core.Path.{_≡_};
-ghost use Prim.Native.Nat.{_<_, _≤_};
+ghost use Prim.Native.Nat.{ℕ, suc, _+_, _<_};
 ghost use Rattle.bounded.specs.Bounded.{at};
-ghost use Rattle.field.specs.Prime.{Prime};
+ghost use Rattle.field.specs.Prime.{Inverses};
 ghost use Rattle.field.specs.Row.{row, Row, Reciprocal};
-ghost use Rattle.reed_solomon.specs.Newton.{raised, Residues, Plus, Root, Whole, Begins, Takes, Enough, Through};
+ghost use Rattle.reed_solomon.specs.Newton.{raised, pairsOf, Enough, Cells, Fits, Coefficients};
 
-pub struct Polynomial {
-    pub values: [u16; 16],
-    pub coefficients: [u16; 16],
-}
-
-// The polynomial through the cells taken so far, and the product of X - x_r over them.
+// The rest is the polynomial less the symbols, the product that of X - z over all cells taken; `entered` is 1 at these, else 0, and
+// the keys are those of the other cells.
 pub struct Newton {
-    pub sum: Polynomial,
-    pub product: Polynomial,
+    pub rest: [u16; 16],
+    pub product: [u16; 16],
+    pub slopes: [u16; 16],
+    pub nodes: [u16; 16],
+    pub entered: [u16; 16],
+    pub keys: [u32; 16],
 }
 
-// a times X, by coefficients; the last one is lost.
-fn raise(a: [u16; 16]) -> [u16; 16]
-    ensures { λ r. ⌜ r ≡ row (raised (at a)) ⌝ }
+// The polynomial of degree at most k through the k + 1 cells of the least keys.
+pub fn through(
+    keys: [u32; 16],
+    x: [u16; 16],
+    y: [u16; 16],
+    k: usize,
+    p: u16,
+    m: u16,
+    inverses: &[u16; 251],
+) -> Newton
+    requires { ⌜ Reciprocal p m × Inverses p (now inverses) × Row p x × Row p y × Cells p k x keys ⌝ }
+    ensures { λ f. ⌜ ((n : ℕ) → Enough p n k x keys → Fits p n k x y keys (suc k) f) ⌝ }
 {
-    let mut out = [0u16; 16];
+    let mut left = keys;
+    let mut entered = [0u16; 16];
+    let mut slopes = [0u16; 16];
+    let mut nodes = [0u16; 16];
+    let mut product = [1u16; 16];
+    let mut rest = rows::scale(p - 1, y, p, m);
+    let mut i = 0;
+    while i <= k {
+        let r = (order::least(left) % 16) as usize;
+        let z = x[r];
+        let c = ratio(rest[r], product[r], p, m, inverses);
+        let next = rows::add_multiple(rest, c, product, p, m);
+        let w = rows::shift(x, p - z, p);
+        let grown = rows::multiply(product, w, p, m);
+        rest = next;
+        product = grown;
+        slopes[i] = c;
+        nodes[i] = z;
+        entered[r] = 1;
+        left[r] = order::TAKEN;
+        i += 1;
+    }
+    Newton {
+        rest,
+        product,
+        slopes,
+        nodes,
+        entered,
+        keys: left,
+    }
+}
+
+// The pairs of the interpolation after the k + 1 cells: E1 is 0 and E2 is 1.
+pub fn pairs_of(f: Newton, k: usize) -> Pairs
+    requires { ⌜ k < 16 ⌝ }
+    ensures { λ t. ⌜ t ≡ pairsOf (k + 1) f ⌝ }
+{
+    let d1 = f.product;
+    let d2 = f.rest;
+    let entered = f.entered;
+    Pairs {
+        d1,
+        e1: [0u16; 16],
+        d2,
+        e2: [1u16; 16],
+        a: k + 1,
+        b: 0,
+        entered,
+    }
+}
+
+// a times X, plus c, by coefficients; the last of a is lost.
+fn raise(a: [u16; 16], c: u16) -> [u16; 16]
+    ensures { λ r. ⌜ r ≡ row (raised c (at a)) ⌝ }
+{
+    let mut out = [c; 16];
     let mut i = 0;
     while i < 15 {
         out[i + 1] = a[i];
@@ -33,89 +99,17 @@ fn raise(a: [u16; 16]) -> [u16; 16]
     out
 }
 
-// f + c g.
-fn plus(f: Polynomial, c: u16, g: Polynomial, p: u16, m: u16) -> Polynomial
-    requires { ⌜ Reciprocal p m × Residues p f × Residues p g × (c < p) ⌝ }
-    ensures { λ h. ⌜ Plus p c f g h ⌝ }
+// The coefficients, by Horner's rule: the last slope times X less the last node, plus the slope before, and so on.
+pub fn coefficients(slopes: [u16; 16], nodes: [u16; 16], k: usize, p: u16, m: u16) -> [u16; 16]
+    requires { ⌜ Reciprocal p m × Row p slopes × Row p nodes × (k < 16) ⌝ }
+    ensures { λ a. ⌜ Coefficients p k slopes nodes a ⌝ }
 {
-    let fv = f.values;
-    let fc = f.coefficients;
-    let gv = g.values;
-    let gc = g.coefficients;
-    let values = rows::add_multiple(fv, c, gv, p, m);
-    let coefficients = rows::add_multiple(fc, c, gc, p, m);
-    Polynomial {
-        values,
-        coefficients,
+    let mut a = [0u16; 16];
+    let mut i = k + 1;
+    while i > 0 {
+        i -= 1;
+        let next = rows::add_multiple(raise(a, slopes[i]), p - nodes[i], a, p, m);
+        a = next;
     }
-}
-
-// f times X - z.
-fn root(f: Polynomial, x: [u16; 16], z: u16, p: u16, m: u16) -> Polynomial
-    requires { ⌜ Reciprocal p m × Residues p f × Row p x × (z < p) ⌝ }
-    ensures { λ g. ⌜ Root p x z f g ⌝ }
-{
-    let fv = f.values;
-    let fc = f.coefficients;
-    let w = rows::shift(x, p - z, p, m);
-    let values = rows::multiply(fv, w, p, m);
-    let coefficients = rows::add_multiple(raise(fc), p - z, fc, p, m);
-    Polynomial {
-        values,
-        coefficients,
-    }
-}
-
-// No cell was taken.
-fn begin() -> Newton
-    ensures { λ t. ⌜ Begins t ⌝ }
-{
-    let zeros = [0u16; 16];
-    let ones = [1u16; 16];
-    let mut one = [0u16; 16];
-    one[0] = 1;
-    let sum = Polynomial {
-        values: zeros,
-        coefficients: zeros,
-    };
-    let product = Polynomial {
-        values: ones,
-        coefficients: one,
-    };
-    Newton { sum, product }
-}
-
-// The cell r with the symbol y is taken.
-fn take(t: Newton, x: [u16; 16], y: u16, r: usize, p: u16, m: u16) -> Newton
-    requires { ⌜ Prime p × Reciprocal p m × Row p x × Whole p t × (y < p) × (r < 16) × (0 < at (t .product .values) r) ⌝ }
-    ensures { λ t′. ⌜ Takes p x y r t t′ ⌝ }
-{
-    let f = t.sum;
-    let g = t.product;
-    let fv = f.values;
-    let gv = g.values;
-    let z = x[r];
-    let c = ratio(rows::reduce(fv[r] + (p - y), p, m), gv[r], p, m);
-    let sum = plus(f, c, g, p, m);
-    let product = root(g, x, z, p, m);
-    Newton { sum, product }
-}
-
-// The polynomial of degree at most k through the first k + 1 cells that v marks.
-pub fn through(x: [u16; 16], y: [u16; 16], v: [u16; 16], k: usize, p: u16, m: u16) -> Polynomial
-    requires { ⌜ Prime p × Reciprocal p m × Row p x × Row p y × Enough p k x v ⌝ }
-    ensures { λ f. ⌜ Through p k x y v f ⌝ }
-{
-    let mut t = begin();
-    let mut i = 0;
-    let mut r = 0;
-    while i <= k {
-        if v[r] != 0 {
-            let next = take(t, x, y[r], r, p, m);
-            t = next;
-            i += 1;
-        }
-        r += 1;
-    }
-    t.sum
+    a
 }

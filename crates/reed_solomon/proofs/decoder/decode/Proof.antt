@@ -1,91 +1,198 @@
 -- `reed_solomon::decoder::decode` meets its contract: the loops' invariant is that of the levels passed and of the cells entered at this one. Assumes nothing.
-use mathlib.Core.Logic.{⊎-elim}
-use mathlib.Core.Path.{_≡_}
-use Prim.Native.Nat.{_-_, _≤_}
+use mathlib.Core.Path.{ap}
+use Prim.Native.Nat.{_*_, _-_, _/_, _≤_, _<_}
 use native.Mathlib.Omega.{arith}
+use native.Mathlib.Nat.{mod-lt}
+use Rattle.bounded.specs.Bounded.{at}
+use Rattle.reed_solomon.specs.Near.{Passed}
 use Rattle.reed_solomon.specs.Decoded.{None}
-use Rattle.reed_solomon.proofs.Trial.{holds-few}
-use Rattle.reed_solomon.proofs.Levels.{Going, going-start, going-holds, going-enter, going-skip, going-next, tried-found, tried-none, none-decoded, found-decoded}
+use Rattle.reed_solomon.proofs.Trial.{holds-few, enough-all}
+use Rattle.reed_solomon.proofs.Levels.{Going, Within, going-first, going-within, going-holds, going-enter, going-later, going-passed, within-enter, first-passed, tried-found, tried-none, none-decoded, found-decoded, doubtful-decoded}
 use borrow.Author.Needs.{needs}
 use Rattle.reed_solomon.proofs.decoder.decode.Statement.{statement}
 use Rattle.reed_solomon.proofs.decoder.decode.Tie as tie
 
 abbrev Inv-loop : tie.InvT-loop
-Inv-loop p m x n k full s u answer₀ t₀ level r₀ answer t r = (r ≤ n) × None answer × Going p full n k x s u level r t
+Inv-loop p m inverses x n k full s u all answer₀ t₀ keys₀ next₀ level answer t keys next = None answer × Going p full n k x s u all keys next t × Within n u level t × (next₀ ≤ next)
 
 abbrev μ-loop : tie.MeasureT-loop
-μ-loop p m x n k full s u answer₀ t₀ level r₀ answer t r = n - r
+μ-loop p m inverses x n k full s u all answer₀ t₀ keys₀ next₀ level answer t keys next = 1048576 - next
 
 abbrev Inv-levels : tie.InvT-levels
-Inv-levels p m x n k full s u answer₀ t₀ level₀ answer t level = (level ≤ full) × None answer × Going p full n k x s u level 0 t
+Inv-levels p m inverses x n k full s u all answer₀ t₀ keys₀ next₀ answer t keys next = None answer × Going p full n k x s u all keys next t × Passed (p - 1) full n k (at x) (at s) (at u) (next / 16)
 
 abbrev μ-levels : tie.MeasureT-levels
-μ-levels p m x n k full s u answer₀ t₀ level₀ answer t level = full - level
+μ-levels p m inverses x n k full s u all answer₀ t₀ keys₀ next₀ answer t keys next = 1048576 - next
+
+below : (c : tie.In-loop Inv-loop μ-loop Inv-levels μ-levels) → c .before .loop .next < c .before .before .before .before .before .before .before .before .before .before .before .before .before .before .args .full * 16
+below c = omega (arith, c .loop-test .taken, c .before .before .levels-test .taken)
+
+doubt-sum-requires : tie.Need-doubt-sum-requires Inv-loop μ-loop Inv-levels μ-levels
+doubt-sum-requires c κs = let b = c .pre .0 in (b .4, λ j l. omega (arith, b .8 j l, b .6))
+
+radius-requires : tie.Need-radius-requires Inv-loop μ-loop Inv-levels μ-levels
+radius-requires c κs = let b = c .before .pre .0 in (b .6, omega arith, b .4, omega (arith, b .5))
 
 none-requires : tie.Need-none-requires Inv-loop μ-loop Inv-levels μ-levels
 none-requires c κs = search needs
 
-start-requires : tie.Need-start-requires Inv-loop μ-loop Inv-levels μ-levels
-start-requires c κs = let b = c .before .pre in (b .1, b .7)
+returns : tie.Need-returns Inv-loop μ-loop Inv-levels μ-levels
+returns c =
+    let start = c .before .before .before .before in
+    let b = start .pre in
+    doubtful-decoded (start .args .u) (b .0) (c .none .ensures) (omega (arith, c .before .before .before .doubt-sum .ensures, c .before .before .radius .ensures .0, c .before .if1 .taken))
+
+keys-requires : tie.Need-keys-requires Inv-loop μ-loop Inv-levels μ-levels
+keys-requires c κs = let b = c .before .before .before .pre .0 in (b .4, λ j l. omega (arith, b .8 j l, b .6))
+
+through-requires : tie.Need-through-requires Inv-loop μ-loop Inv-levels μ-levels
+through-requires c κs =
+    let start = c .before .before .before .before in
+    let b = start .pre in
+    (b .0 .1, b .1, b .0 .2, b .0 .7, record { n = start .args .n; enough = enough-all (start .args .u) (b .0) (c .keys .ensures) })
+
+measured-requires : tie.Need-measured-requires Inv-loop μ-loop Inv-levels μ-levels
+measured-requires c κs =
+    let start = c .before .before .before .before .before in
+    let b = start .pre in
+    let f = c .through .ensures _ (enough-all (start .args .u) (b .0) (c .before .keys .ensures)) in
+    (b .0 .1, f .whole, b .0 .7, b .0 .4, b .0 .5, b .0 .6, b .0 .8)
+
+returns-2 : tie.Need-returns-2 Inv-loop μ-loop Inv-levels μ-levels
+returns-2 c =
+    let start = c .before .before .before .before .before .before .before in
+    let b = start .pre in
+    let f = c .before .before .through .ensures _ (enough-all (start .args .u) (b .0) (c .before .before .before .keys .ensures)) in
+    found-decoded (start .args .u) (b .0) (tried-found (c .before .measured .ensures .tried _ _ (b .0) f) (c .if2 .taken))
+
+pairs-of-requires : tie.Need-pairs-of-requires Inv-loop μ-loop Inv-levels μ-levels
+pairs-of-requires c κs = let b = c .before .before .before .before .before .before .before .pre .0 in omega (arith, b .4, b .5)
+
+least-requires : tie.Need-least-requires Inv-loop μ-loop Inv-levels μ-levels
+least-requires c κs = search needs
 
 levels-holds : tie.Need-levels-holds Inv-loop μ-loop Inv-levels μ-levels
-levels-holds c = (omega arith, c .before .none .ensures, going-start (c .before .before .pre .4) (c .start .ensures))
+levels-holds c =
+    let after-pairs-of = c .before .before in
+    let after-keys = after-pairs-of .before .before .before .before in
+    let start = after-keys .before .before .before .before in
+    let b = start .pre in
+    let f = after-pairs-of .before .before .before .through .ensures _ (enough-all (start .args .u) (b .0) (after-keys .keys .ensures)) in
+    let r = tried-none (after-pairs-of .before .before .measured .ensures .tried _ _ (b .0) f) (after-pairs-of .before .if2 .left) in
+    let g = going-first (start .args .u) (b .0) (after-keys .keys .ensures) f (after-pairs-of .pairs-of .ensures) (c .least .ensures) (r .1) in
+    (r .0, g, first-passed (start .args .u) (b .0) (after-keys .keys .ensures) g (omega (arith, ap (λ t. t .a) (after-pairs-of .pairs-of .ensures), ap (λ t. t .b) (after-pairs-of .pairs-of .ensures))))
+
+mul-levels : tie.Need-mul-levels Inv-loop μ-loop Inv-levels μ-levels
+mul-levels c = omega (arith, c .before .before .before .before .before .before .before .before .before .before .before .pre .0 .6)
 
 loop-holds : tie.Need-loop-holds Inv-loop μ-loop Inv-levels μ-levels
-loop-holds c = (omega arith, c .before .levels .inv .1, c .before .levels .inv .2)
-
-mul-if1 : tie.Need-mul-if1 Inv-loop μ-loop Inv-levels μ-levels
-mul-if1 c = omega (arith, c .before .before .before .before .before .before .pre .4)
-
-array-read-if1 : tie.Need-array-read-if1 Inv-loop μ-loop Inv-levels μ-levels
-array-read-if1 c = omega (arith, c .before .before .before .before .before .before .pre .4)
-
-enter-requires : tie.Need-enter-requires Inv-loop μ-loop Inv-levels μ-levels
-enter-requires c κs =
-    let b = c .before .before .before .before .before .before .before .pre in
-    let H = c .before .before .loop .inv .2 .holds in
-    (b .0, b .1, H .shaped, b .2, omega (arith, b .4, c .before .loop-test .taken), omega (arith, b .4, b .5), omega (arith, b .4, holds-few H))
-
-attempt-requires : tie.Need-attempt-requires Inv-loop μ-loop Inv-levels μ-levels
-attempt-requires c κs =
-    let b = c .before .before .before .before .before .before .before .before .pre in
-    (b, going-holds (c .before .before .before .loop .inv .2) (b .4) (c .before .before .loop-test .taken) (c .before .if1 .taken) (c .enter .ensures))
-
-add-r : tie.Need-add-r Inv-loop μ-loop Inv-levels μ-levels
-add-r c = search needs
-
-loop-less : tie.Need-loop-less Inv-loop μ-loop Inv-levels μ-levels
-loop-less c = search needs
-
-loop-again : tie.Need-loop-again Inv-loop μ-loop Inv-levels μ-levels
-loop-again c =
-    let b = c .before .before .before .before .before .before .before .pre in
-    let l = c .before .before .loop .inv in
-    let i = c .before .loop-test .taken in
-    ⊎-elim
-    (λ w. rw (w .4) (omega arith, l .1, going-enter (l .2) (b .4) i (w .0 .taken) (w .1 .ensures) (tried-none (w .2 .ensures) (w .3 .left))))
-    (λ w. rw (w .1) (omega arith, l .1, going-skip (l .2) (b .4) i (w .0 .left)))
-    (c .if1 .came)
-
-next-level-requires : tie.Need-next-level-requires Inv-loop μ-loop Inv-levels μ-levels
-next-level-requires c κs = (c .before .before .before .before .before .before .pre .4, c .before .before .levels-test .taken)
+loop-holds c =
+    let start = c .before .before .before .before .before .before .before .before .before .before .before .before in
+    let b = start .pre in
+    let l = c .before .levels .inv in
+    (l .0, l .1, going-within (start .args .u) (b .0) (c .before .before .before .before .before .before .before .before .keys .ensures) (l .1), omega arith)
 
 levels-less : tie.Need-levels-less Inv-loop μ-loop Inv-levels μ-levels
-levels-less c = omega (arith, c .next-level .ensures .above, c .next-level .ensures .most)
+levels-less c = omega (arith, c .before .before .levels-test .taken, c .before .loop .inv .3, c .loop-test .left, c .before .before .before .before .before .before .before .before .before .before .before .before .before .before .pre .0 .6)
 
 levels-again : tie.Need-levels-again Inv-loop μ-loop Inv-levels μ-levels
 levels-again c =
-    let l = c .before .before .loop .inv in
-    let e : c .before .before .loop .r ≡ c .before .before .before .before .before .before .before .args .n = omega (arith, l .0, c .before .loop-test .left) in
-    (c .next-level .ensures .most, l .1, going-next (rw e at (l .2)) (c .before .before .before .before .before .before .before .pre .4) (c .next-level .ensures))
+    let start = c .before .before .before .before .before .before .before .before .before .before .before .before .before .before in
+    let b = start .pre in
+    let l = c .before .loop .inv in
+    (l .0, l .1, going-passed (start .args .u) (b .0) (c .before .before .before .before .before .before .before .before .before .before .keys .ensures) (l .1) (l .2) (omega (arith, l .3, c .loop-test .left)) (c .before .before .before .levels .inv .2))
 
-returns : tie.Need-returns Inv-loop μ-loop Inv-levels μ-levels
-returns c =
+cast-r : tie.Need-cast-r Inv-loop μ-loop Inv-levels μ-levels
+cast-r c = search needs
+
+enter-requires : tie.Need-enter-requires Inv-loop μ-loop Inv-levels μ-levels
+enter-requires c κs =
+    let b = c .before .before .before .before .before .before .before .before .before .before .before .before .before .before .pre in
+    let h = c .before .loop .inv .1 .holds in
+    (b .0 .1, b .1, h .shaped, b .0 .2, mod-lt _ (omega arith), omega (arith, b .0 .4, b .0 .5), omega (arith, b .0 .4, holds-few h))
+
+mul-keys : tie.Need-mul-keys Inv-loop μ-loop Inv-levels μ-levels
+mul-keys c = search needs
+
+array-write-keys : tie.Need-array-write-keys Inv-loop μ-loop Inv-levels μ-levels
+array-write-keys c = search needs
+
+least-requires-2 : tie.Need-least-requires-2 Inv-loop μ-loop Inv-levels μ-levels
+least-requires-2 c κs = search needs
+
+hopeful-requires : tie.Need-hopeful-requires Inv-loop μ-loop Inv-levels μ-levels
+hopeful-requires c κs =
+    let start = c .before .before .before .before .before .before .before .before .before .before .before .before .before .before .before .before in
+    let b = start .pre in
+    let h = going-holds (start .args .u) (b .0) (c .before .before .before .before .before .before .before .before .before .before .before .before .keys .ensures) (c .before .before .before .loop .inv .1) (below (c .before .before)) (c .before .enter .ensures) in
+    (b .0 .4, b .0 .5, b .0 .6, b .0 .8, omega (arith, b .0 .4, holds-few h), h .state .bit)
+
+attempt-requires : tie.Need-attempt-requires Inv-loop μ-loop Inv-levels μ-levels
+attempt-requires c κs =
+    let after-keys = c .before .before .before .before .before .before .before .before .before .before .before .before .before .before in
+    let start = after-keys .before .before .before .before in
+    let b = start .pre in
+    let h = going-holds (start .args .u) (b .0) (after-keys .keys .ensures) (c .before .before .before .before .before .loop .inv .1) (below (c .before .before .before .before)) (c .before .before .before .enter .ensures) in
+    (b .0, b .1, after-keys .keys .ensures, h, c .before .hopeful .ensures .yes (c .if3 .taken))
+
+loop-less : tie.Need-loop-less Inv-loop μ-loop Inv-levels μ-levels
+loop-less c =
+    let after-enter = c .before .before .before .before .before in
+    let in-loop = after-enter .before in
+    let at-loop = in-loop .before in
+    let after-keys = at-loop .before .before .before .before .before .before .before .before .before in
+    let start = after-keys .before .before .before .before in
+    let b = start .pre in
+    let g = going-enter (start .args .u) (b .0) (after-keys .keys .ensures) (at-loop .loop .inv .1) (below in-loop) (after-enter .enter .ensures) (c .before .before .before .before .least2 .ensures) (tried-none (c .before .attempt .ensures) (c .if4 .left) .1) in
+    omega (arith, below in-loop, b .0 .6, going-later (start .args .u) (b .0) (after-keys .keys .ensures) (at-loop .loop .inv .1) (below in-loop) (after-enter .enter .ensures) g)
+
+loop-again : tie.Need-loop-again Inv-loop μ-loop Inv-levels μ-levels
+loop-again c =
+    let after-enter = c .before .before .before .before .before in
+    let in-loop = after-enter .before in
+    let at-loop = in-loop .before in
+    let after-keys = at-loop .before .before .before .before .before .before .before .before .before in
+    let start = after-keys .before .before .before .before in
+    let b = start .pre in
+    let g = going-enter (start .args .u) (b .0) (after-keys .keys .ensures) (at-loop .loop .inv .1) (below in-loop) (after-enter .enter .ensures) (c .before .before .before .before .least2 .ensures) (tried-none (c .before .attempt .ensures) (c .if4 .left) .1) in
+    let l = at-loop .loop .inv in
+    (l .0, g, within-enter (start .args .u) (b .0) (after-keys .keys .ensures) (at-loop .loop .inv .1) (below in-loop) (after-enter .enter .ensures) (in-loop .loop-test .taken) (l .2), omega (arith, l .3, going-later (start .args .u) (b .0) (after-keys .keys .ensures) (at-loop .loop .inv .1) (below in-loop) (after-enter .enter .ensures) g))
+
+loop-less-2 : tie.Need-loop-less-2 Inv-loop μ-loop Inv-levels μ-levels
+loop-less-2 c =
+    let after-enter = c .before .before .before in
+    let in-loop = after-enter .before in
+    let at-loop = in-loop .before in
+    let after-keys = at-loop .before .before .before .before .before .before .before .before .before in
+    let start = after-keys .before .before .before .before in
+    let b = start .pre in
+    let g = going-enter (start .args .u) (b .0) (after-keys .keys .ensures) (at-loop .loop .inv .1) (below in-loop) (after-enter .enter .ensures) (c .before .before .least2 .ensures) (c .before .hopeful .ensures .no (c .if3 .left) _ _ _ _ (b .0) (going-holds (start .args .u) (b .0) (after-keys .keys .ensures) (at-loop .loop .inv .1) (below in-loop) (after-enter .enter .ensures))) in
+    omega (arith, below in-loop, b .0 .6, going-later (start .args .u) (b .0) (after-keys .keys .ensures) (at-loop .loop .inv .1) (below in-loop) (after-enter .enter .ensures) g)
+
+loop-again-2 : tie.Need-loop-again-2 Inv-loop μ-loop Inv-levels μ-levels
+loop-again-2 c =
+    let after-enter = c .before .before .before in
+    let in-loop = after-enter .before in
+    let at-loop = in-loop .before in
+    let after-keys = at-loop .before .before .before .before .before .before .before .before .before in
+    let start = after-keys .before .before .before .before in
+    let b = start .pre in
+    let g = going-enter (start .args .u) (b .0) (after-keys .keys .ensures) (at-loop .loop .inv .1) (below in-loop) (after-enter .enter .ensures) (c .before .before .least2 .ensures) (c .before .hopeful .ensures .no (c .if3 .left) _ _ _ _ (b .0) (going-holds (start .args .u) (b .0) (after-keys .keys .ensures) (at-loop .loop .inv .1) (below in-loop) (after-enter .enter .ensures))) in
+    let l = at-loop .loop .inv in
+    (l .0, g, within-enter (start .args .u) (b .0) (after-keys .keys .ensures) (at-loop .loop .inv .1) (below in-loop) (after-enter .enter .ensures) (in-loop .loop-test .taken) (l .2), omega (arith, l .3, going-later (start .args .u) (b .0) (after-keys .keys .ensures) (at-loop .loop .inv .1) (below in-loop) (after-enter .enter .ensures) g))
+
+returns-3 : tie.Need-returns-3 Inv-loop μ-loop Inv-levels μ-levels
+returns-3 c =
+    let start = c .before .before .before .before .before .before .before .before .before .before .before .before in
+    let b = start .pre in
     let l = c .before .levels .inv in
-    none-decoded (c .before .before .before .before .args .t8) (c .before .before .before .before .pre) (l .1) (c .levels-test .left) (l .2 .before)
+    none-decoded (start .args .u) (b .0) (l .0) (omega (arith, c .levels-test .left)) (l .2)
 
-returns-2 : tie.Need-returns-2 Inv-loop μ-loop Inv-levels μ-levels
-returns-2 c = found-decoded (c .before .before .before .before .before .before .before .before .before .before .args .t8) (c .before .before .before .before .before .before .before .before .before .before .pre) (tried-found (c .before .attempt .ensures) (c .if2 .taken))
+returns-4 : tie.Need-returns-4 Inv-loop μ-loop Inv-levels μ-levels
+returns-4 c =
+    let start = c .before .before .before .before .before .before .before .before .before .before .before .before .before .before .before .before .before .before .before .before in
+    let b = start .pre in
+    found-decoded (start .args .u) (b .0) (tried-found (c .before .attempt .ensures) (c .if4 .taken))
 
 pub decode-spec : {M : Type 1} → statement M
 decode-spec =
@@ -95,19 +202,31 @@ decode-spec =
     μ-loop
     Inv-levels
     μ-levels
+    doubt-sum-requires
+    radius-requires
     none-requires
-    start-requires
+    returns
+    keys-requires
+    through-requires
+    measured-requires
+    returns-2
+    pairs-of-requires
+    least-requires
     levels-holds
+    mul-levels
     loop-holds
-    mul-if1
-    array-read-if1
-    enter-requires
-    attempt-requires
-    add-r
-    loop-less
-    loop-again
-    next-level-requires
     levels-less
     levels-again
-    returns
-    returns-2)
+    cast-r
+    enter-requires
+    mul-keys
+    array-write-keys
+    least-requires-2
+    hopeful-requires
+    attempt-requires
+    loop-less
+    loop-again
+    loop-less-2
+    loop-again-2
+    returns-3
+    returns-4)

@@ -20,20 +20,20 @@ abbrev μ-loop : tie.MeasureT-loop
 loop-holds : tie.Need-loop-holds Inv-loop μ-loop
 loop-holds c = (omega arith, upto-start refl)
 
-mul-kept : tie.Need-mul-kept Inv-loop μ-loop
-mul-kept c = search needs
+mul-chosen : tie.Need-mul-chosen Inv-loop μ-loop
+mul-chosen c = search needs
 
-array-read-kept : tie.Need-array-read-kept Inv-loop μ-loop
-array-read-kept c = search needs
+array-read-chosen : tie.Need-array-read-chosen Inv-loop μ-loop
+array-read-chosen c = search needs
 
-mul-kept-2 : tie.Need-mul-kept-2 Inv-loop μ-loop
-mul-kept-2 c = search needs
+mul-chosen-2 : tie.Need-mul-chosen-2 Inv-loop μ-loop
+mul-chosen-2 c = search needs
 
-array-read-kept-2 : tie.Need-array-read-kept-2 Inv-loop μ-loop
-array-read-kept-2 c = search needs
+array-read-chosen-2 : tie.Need-array-read-chosen-2 Inv-loop μ-loop
+array-read-chosen-2 c = search needs
 
-kept-requires : tie.Need-kept-requires Inv-loop μ-loop
-kept-requires c κs = search needs
+chosen-requires : tie.Need-chosen-requires Inv-loop μ-loop
+chosen-requires c κs = search needs
 
 mul-out : tie.Need-mul-out Inv-loop μ-loop
 mul-out c = search needs
@@ -48,7 +48,7 @@ loop-less : tie.Need-loop-less Inv-loop μ-loop
 loop-less c = search needs
 
 loop-again : tie.Need-loop-again Inv-loop μ-loop
-loop-again c = (omega arith, upto-step (c .kept .result) (omega arith) (c .kept .ensures) (c .before .before .loop .inv .1))
+loop-again c = (omega arith, upto-step (c .chosen .result) (omega arith) (c .chosen .ensures) (c .before .before .loop .inv .1))
 
 returns : tie.Need-returns Inv-loop μ-loop
 returns c = upto-row (upto-less (omega arith) (c .before .loop .inv .1))
@@ -60,11 +60,11 @@ usable-cells-spec =
     Inv-loop
     μ-loop
     loop-holds
-    mul-kept
-    array-read-kept
-    mul-kept-2
-    array-read-kept-2
-    kept-requires
+    mul-chosen
+    array-read-chosen
+    mul-chosen-2
+    array-read-chosen-2
+    chosen-requires
     mul-out
     array-write-out
     add-j

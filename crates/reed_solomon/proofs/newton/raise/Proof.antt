@@ -1,4 +1,4 @@
--- `reed_solomon::newton::raise` meets its contract: the places up to i hold a times X. Assumes nothing.
+-- `reed_solomon::newton::raise` meets its contract: the places up to i hold a times X, plus c. Assumes nothing.
 use mathlib.Core.Path.{_≡_, refl}
 use Prim.Native.Nat.{_+_, _-_, _≤_}
 use native.Mathlib.Omega.{arith}
@@ -14,10 +14,10 @@ use Rattle.reed_solomon.proofs.newton.raise.Statement.{statement}
 use Rattle.reed_solomon.proofs.newton.raise.Tie as tie
 
 abbrev Inv-loop : tie.InvT-loop
-Inv-loop a out₀ i₀ out i = (i ≤ 15) × Upto 16 0 (λ j v. v ≡ raised (at a) j) out (i + 1)
+Inv-loop c a out₀ i₀ out i = (i ≤ 15) × Upto 16 0 (λ j v. v ≡ raised c (at a) j) out (i + 1)
 
 abbrev μ-loop : tie.MeasureT-loop
-μ-loop a out₀ i₀ out i = 15 - i
+μ-loop c a out₀ i₀ out i = 15 - i
 
 loop-holds : tie.Need-loop-holds Inv-loop μ-loop
 loop-holds c = (omega arith, record { size = refl; done = λ j l. let e : j ≡ 0 = omega arith in rw e refl })
@@ -46,7 +46,7 @@ loop-less c = search needs
 loop-again : tie.Need-loop-again Inv-loop μ-loop
 loop-again c =
     let i = c .before .loop .i in
-    let e : getD (c .before .before .args .t1) i 0 ≡ raised (at (c .before .before .args .t1)) (i + 1) = rw (add-one i) refl in
+    let e : getD (c .before .before .args .t1) i 0 ≡ raised (c .before .before .args .c) (at (c .before .before .args .t1)) (i + 1) = rw (add-one i) refl in
     (omega arith, upto-step _ (omega arith) e (c .before .loop .inv .1))
 
 returns : tie.Need-returns Inv-loop μ-loop

@@ -1,7 +1,7 @@
--- `reed_solomon::decoder::kept` meets its contract. Assumes nothing.
+-- `reed_solomon::order::kept` meets its contract. Assumes nothing.
 use borrow.Author.Tests.{eq-eqb, ne-eqb}
-use Rattle.reed_solomon.proofs.decoder.kept.Statement.{statement}
-use Rattle.reed_solomon.proofs.decoder.kept.Tie as tie
+use Rattle.reed_solomon.proofs.order.kept.Statement.{statement}
+use Rattle.reed_solomon.proofs.order.kept.Tie as tie
 
 returns : tie.Need-returns
 returns c = rw (eq-eqb _ _ (c .if1 .taken))

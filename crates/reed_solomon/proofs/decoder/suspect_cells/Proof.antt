@@ -1,0 +1,73 @@
+-- `reed_solomon::decoder::suspect_cells` meets its contract: the places below j are chosen as they should. Assumes nothing.
+use mathlib.Core.Path.{_≡_, refl}
+use Prim.Native.Nat.{_-_, _≤_}
+use native.Mathlib.Omega.{arith}
+use Rattle.bounded.specs.Bounded.{at}
+use Rattle.field.specs.Loop.{Upto}
+use Rattle.field.proofs.Loop.{upto-start, upto-step, upto-less}
+use Rattle.field.proofs.Row.{upto-row}
+use Rattle.reed_solomon.specs.Near.{suspect}
+use borrow.Author.Needs.{needs}
+use Rattle.reed_solomon.proofs.decoder.suspect_cells.Statement.{statement}
+use Rattle.reed_solomon.proofs.decoder.suspect_cells.Tie as tie
+
+abbrev Inv-loop : tie.InvT-loop
+Inv-loop d e out₀ j₀ out j = (j ≤ 16) × Upto 16 0 (λ k v. v ≡ suspect (at d) (at e) k) out j
+
+abbrev μ-loop : tie.MeasureT-loop
+μ-loop d e out₀ j₀ out j = 16 - j
+
+loop-holds : tie.Need-loop-holds Inv-loop μ-loop
+loop-holds c = (omega arith, upto-start refl)
+
+mul-chosen : tie.Need-mul-chosen Inv-loop μ-loop
+mul-chosen c = search needs
+
+array-read-chosen : tie.Need-array-read-chosen Inv-loop μ-loop
+array-read-chosen c = search needs
+
+mul-chosen-2 : tie.Need-mul-chosen-2 Inv-loop μ-loop
+mul-chosen-2 c = search needs
+
+array-read-chosen-2 : tie.Need-array-read-chosen-2 Inv-loop μ-loop
+array-read-chosen-2 c = search needs
+
+chosen-requires : tie.Need-chosen-requires Inv-loop μ-loop
+chosen-requires c κs = search needs
+
+mul-out : tie.Need-mul-out Inv-loop μ-loop
+mul-out c = search needs
+
+array-write-out : tie.Need-array-write-out Inv-loop μ-loop
+array-write-out c = search needs
+
+add-j : tie.Need-add-j Inv-loop μ-loop
+add-j c = search needs
+
+loop-less : tie.Need-loop-less Inv-loop μ-loop
+loop-less c = search needs
+
+loop-again : tie.Need-loop-again Inv-loop μ-loop
+loop-again c = (omega arith, upto-step (c .chosen .result) (omega arith) (c .chosen .ensures) (c .before .before .loop .inv .1))
+
+returns : tie.Need-returns Inv-loop μ-loop
+returns c = upto-row (upto-less (omega arith) (c .before .loop .inv .1))
+
+pub suspect-cells-spec : {M : Type 1} → statement M
+suspect-cells-spec =
+    tie.close
+    (tie.spec
+    Inv-loop
+    μ-loop
+    loop-holds
+    mul-chosen
+    array-read-chosen
+    mul-chosen-2
+    array-read-chosen-2
+    chosen-requires
+    mul-out
+    array-write-out
+    add-j
+    loop-less
+    loop-again
+    returns)

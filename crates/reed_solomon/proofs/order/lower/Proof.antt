@@ -1,0 +1,13 @@
+-- `reed_solomon::order::lower` meets its contract. Assumes nothing.
+use native.Mathlib.Omega.{arith}
+use Rattle.reed_solomon.proofs.order.lower.Statement.{statement}
+use Rattle.reed_solomon.proofs.order.lower.Tie as tie
+
+returns : tie.Need-returns
+returns c = omega (arith, c .if1 .taken)
+
+returns-2 : tie.Need-returns-2
+returns-2 c = omega (arith, c .if1 .left)
+
+pub lower-spec : {M : Type 1} → statement M
+lower-spec = tie.close (tie.spec returns returns-2)
