@@ -18,7 +18,7 @@ use Rattle.definitions.proofs.Own.{sure, own-photo, own-reading, round-trip}
 use Rattle.reed_solomon.proofs.Plan.{only-strip}
 use Rattle.reed_muller.proofs.Mark.{only-square}
 use Rattle.traymark.proofs.Outcome.{write-fills, measure-gives}
-use Rattle.traymark.proofs.Written.{mark-written}
+use Rattle.records.proofs.Written.{mark-written}
 
 -- Demand 3. For every sound plan and every photograph in buffers of the right lengths, whatever the points, symbols and doubts: where a
 -- record costs under the limit, every other record of the plan costs the limit or more; the reading is the one under the limit with

@@ -1,3 +1,2 @@
 -- What the contracts of the calls need beside the definitions.
 pub mod Kind
-pub mod Measured

@@ -1,5 +1,8 @@
 // The refusals that writing, measuring and reading share, for marks (`square`) and for strips: one test for each row of document 01's
-// table "What is returned", in its order. Any bytes of any length get an answer.
+// table "What is returned", in its order. Any bytes of any length get an answer. A loop over cells looks at all of them, with no
+// way out, so that it is vectorised.
+use definitions::FULL_BYTE;
+use definitions::UNREAD;
 use polynomial::bivariate::start;
 ghost use mathlib.Core.Path.{_≡_};
 ghost use mathlib.Core.Bool.{not, _&&_};
@@ -12,11 +15,6 @@ ghost use Rattle.definitions.specs.Code.{size, cells};
 ghost use Rattle.definitions.specs.Cost.{full, unread};
 ghost use Rattle.definitions.specs.Calls.{strange, excessive, halfRead, overflowing, photoRows, writeNumber, measureNumber};
 ghost use Rattle.traymark.specs.Kind.{codeOf};
-
-// The doubt of a cell of which nothing is known, and the symbol of one that was not read: an erasure.
-pub const FULL: u8 = 100;
-
-pub const UNREAD: u8 = 255;
 
 // Refusals 1 to 6 and 9, those of writing: the number of the first that applies, else 0. Of the buffer only the length counts.
 pub fn write_number(square: bool, plan: &[u8], record: &[u8], buffer: &[u8]) -> u32
@@ -128,12 +126,12 @@ fn is_strange(plan: &[u8], symbols: &[u8], n: usize) -> bool
     requires { ⌜ (length (now plan) ≡ 24) × (length (now symbols) ≡ n) ⌝ }
     ensures { λ r. ⌜ r ≡ strange (now (plan .entry)) (now (symbols .entry)) n ⌝ }
 {
+    let p = plan[2];
+    let mut found = false;
     for c in 0..n {
-        if is_strange_symbol(symbols[c], plan[2]) {
-            return true;
-        }
+        found = found | is_strange_symbol(symbols[c], p);
     }
-    false
+    found
 }
 
 // Whether one of the n doubts is above the full doubt.
@@ -141,12 +139,11 @@ fn is_excessive(doubts: &[u8], n: usize) -> bool
     requires { ⌜ length (now doubts) ≡ n ⌝ }
     ensures { λ r. ⌜ r ≡ excessive (now (doubts .entry)) n ⌝ }
 {
+    let mut found = false;
     for c in 0..n {
-        if FULL < doubts[c] {
-            return true;
-        }
+        found = found | (FULL_BYTE < doubts[c]);
     }
-    false
+    found
 }
 
 // Whether a cell is unread and its doubt not the full doubt.
@@ -156,7 +153,7 @@ fn is_half_read_cell(symbol: u8, doubt: u8) -> bool
     if symbol != UNREAD {
         return false;
     }
-    doubt != FULL
+    doubt != FULL_BYTE
 }
 
 // Whether one of the n cells is such.
@@ -164,12 +161,11 @@ fn is_half_read(symbols: &[u8], doubts: &[u8], n: usize) -> bool
     requires { ⌜ (length (now symbols) ≡ n) × (length (now doubts) ≡ n) ⌝ }
     ensures { λ r. ⌜ r ≡ halfRead (now (symbols .entry)) (now (doubts .entry)) n ⌝ }
 {
+    let mut found = false;
     for c in 0..n {
-        if is_half_read_cell(symbols[c], doubts[c]) {
-            return true;
-        }
+        found = found | is_half_read_cell(symbols[c], doubts[c]);
     }
-    false
+    found
 }
 
 // Whether one of the n coefficients is p or more.
@@ -177,10 +173,10 @@ fn is_overflowing(plan: &[u8], record: &[u8], n: usize) -> bool
     requires { ⌜ (length (now plan) ≡ 24) × (length (now «record») ≡ n) ⌝ }
     ensures { λ r. ⌜ r ≡ overflowing (now (plan .entry)) (now («record» .entry)) n ⌝ }
 {
+    let p = plan[2];
+    let mut found = false;
     for k in 0..n {
-        if plan[2] <= record[k] {
-            return true;
-        }
+        found = found | (p <= record[k]);
     }
-    false
+    found
 }

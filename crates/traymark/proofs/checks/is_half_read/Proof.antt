@@ -1,23 +1,21 @@
--- `traymark::checks::is_half_read` meets its contract: none of the cells before c is such. Assumes nothing.
+-- `traymark::checks::is_half_read` meets its contract: what is found is whether one of the cells before c is such. Assumes nothing.
 use mathlib.Core.Path.{_≡_, sym}
-use mathlib.Core.Bool.{false}
 use Prim.Native.Nat.{_-_, _≤_}
 use native.Mathlib.Omega.{arith}
-use Rattle.bounded.proofs.Any.{any-start, any-more, some-any}
+use Rattle.bounded.proofs.Any.{any-start, any-next}
 use Rattle.definitions.specs.Calls.{halfRead}
-use Rattle.definitions.proofs.Refusals.{answered}
 use borrow.Author.Needs.{needs}
 use Rattle.traymark.proofs.checks.is_half_read.Statement.{statement}
 use Rattle.traymark.proofs.checks.is_half_read.Tie as tie
 
 abbrev Inv-loop : tie.InvT-loop
-Inv-loop symbols doubts n c₀ c = (c ≤ n) × (halfRead symbols doubts c ≡ false)
+Inv-loop symbols doubts n found₀ c₀ found c = (c ≤ n) × (found ≡ halfRead symbols doubts c)
 
 abbrev μ-loop : tie.MeasureT-loop
-μ-loop symbols doubts n c₀ c = n - c
+μ-loop symbols doubts n found₀ c₀ found c = n - c
 
 loop-holds : tie.Need-loop-holds Inv-loop μ-loop
-loop-holds c = (omega arith, any-start _)
+loop-holds c = (omega arith, sym (any-start _))
 
 shared-slice-read-is-half-read-cell : tie.Need-shared-slice-read-is-half-read-cell Inv-loop μ-loop
 shared-slice-read-is-half-read-cell c = search needs
@@ -29,9 +27,6 @@ shared-slice-read-is-half-read-cell-2 c = search needs
 is-half-read-cell-requires : tie.Need-is-half-read-cell-requires Inv-loop μ-loop
 is-half-read-cell-requires c κs = search needs
 
-returns : tie.Need-returns Inv-loop μ-loop
-returns c = sym (some-any _ _ (c .before .before .before .before .before .loop .c) (omega arith) (answered (c .before .is-half-read-cell .ensures) (c .if1 .taken)))
-
 add-c : tie.Need-add-c Inv-loop μ-loop
 add-c c = search needs
 
@@ -39,10 +34,10 @@ loop-less : tie.Need-loop-less Inv-loop μ-loop
 loop-less c = search needs
 
 loop-again : tie.Need-loop-again Inv-loop μ-loop
-loop-again c = (omega arith, any-more _ _ (c .before .before .before .before .before .loop .inv .1) (answered (c .before .is-half-read-cell .ensures) (c .if1 .left)))
+loop-again c = (omega arith, any-next _ _ (c .before .before .before .before .loop .inv .1) (c .is-half-read-cell .ensures))
 
-returns-2 : tie.Need-returns-2 Inv-loop μ-loop
-returns-2 c = let e : c .before .loop .c ≡ c .before .before .before .before .args .n = omega arith in sym (rw e at (c .before .loop .inv .1))
+returns : tie.Need-returns Inv-loop μ-loop
+returns c = let e : c .before .loop .c ≡ c .before .before .before .before .args .n = omega arith in rw e at (c .before .loop .inv .1)
 
 pub is-half-read-spec : {M : Type 1} → statement M
 is-half-read-spec =
@@ -54,8 +49,7 @@ is-half-read-spec =
     shared-slice-read-is-half-read-cell
     shared-slice-read-is-half-read-cell-2
     is-half-read-cell-requires
-    returns
     add-c
     loop-less
     loop-again
-    returns-2)
+    returns)

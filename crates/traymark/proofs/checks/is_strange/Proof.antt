@@ -1,36 +1,30 @@
--- `traymark::checks::is_strange` meets its contract: none of the symbols before c is such. Assumes nothing.
+-- `traymark::checks::is_strange` meets its contract: what is found is whether one of the symbols before c is such. Assumes nothing.
 use mathlib.Core.Path.{_≡_, sym}
-use mathlib.Core.Bool.{false}
 use Prim.Native.Nat.{_-_, _≤_}
 use native.Mathlib.Omega.{arith}
-use Rattle.bounded.proofs.Any.{any-start, any-more, some-any}
+use Rattle.bounded.proofs.Any.{any-start, any-next}
 use Rattle.definitions.specs.Calls.{strange}
-use Rattle.definitions.proofs.Refusals.{answered}
 use borrow.Author.Needs.{needs}
 use Rattle.traymark.proofs.checks.is_strange.Statement.{statement}
 use Rattle.traymark.proofs.checks.is_strange.Tie as tie
 
 abbrev Inv-loop : tie.InvT-loop
-Inv-loop plan symbols n c₀ c = (c ≤ n) × (strange plan symbols c ≡ false)
+Inv-loop plan symbols n p found₀ c₀ found c = (c ≤ n) × (found ≡ strange plan symbols c)
 
 abbrev μ-loop : tie.MeasureT-loop
-μ-loop plan symbols n c₀ c = n - c
+μ-loop plan symbols n p found₀ c₀ found c = n - c
+
+shared-slice-read-p : tie.Need-shared-slice-read-p Inv-loop μ-loop
+shared-slice-read-p c = search needs
 
 loop-holds : tie.Need-loop-holds Inv-loop μ-loop
-loop-holds c = (omega arith, any-start _)
+loop-holds c = (omega arith, sym (any-start _))
 
 shared-slice-read-is-strange-symbol : tie.Need-shared-slice-read-is-strange-symbol Inv-loop μ-loop
 shared-slice-read-is-strange-symbol c = search needs
 
-shared-slice-read-is-strange-symbol-2 :
-    tie.Need-shared-slice-read-is-strange-symbol-2 Inv-loop μ-loop
-shared-slice-read-is-strange-symbol-2 c = search needs
-
 is-strange-symbol-requires : tie.Need-is-strange-symbol-requires Inv-loop μ-loop
 is-strange-symbol-requires c κs = search needs
-
-returns : tie.Need-returns Inv-loop μ-loop
-returns c = sym (some-any _ _ (c .before .before .before .before .before .loop .c) (omega arith) (answered (c .before .is-strange-symbol .ensures) (c .if1 .taken)))
 
 add-c : tie.Need-add-c Inv-loop μ-loop
 add-c c = search needs
@@ -39,10 +33,10 @@ loop-less : tie.Need-loop-less Inv-loop μ-loop
 loop-less c = search needs
 
 loop-again : tie.Need-loop-again Inv-loop μ-loop
-loop-again c = (omega arith, any-more _ _ (c .before .before .before .before .before .loop .inv .1) (answered (c .before .is-strange-symbol .ensures) (c .if1 .left)))
+loop-again c = (omega arith, any-next _ _ (c .before .before .before .loop .inv .1) (c .is-strange-symbol .ensures))
 
-returns-2 : tie.Need-returns-2 Inv-loop μ-loop
-returns-2 c = let e : c .before .loop .c ≡ c .before .before .before .before .args .n = omega arith in sym (rw e at (c .before .loop .inv .1))
+returns : tie.Need-returns Inv-loop μ-loop
+returns c = let e : c .before .loop .c ≡ c .before .before .before .before .before .args .n = omega arith in rw e at (c .before .loop .inv .1)
 
 pub is-strange-spec : {M : Type 1} → statement M
 is-strange-spec =
@@ -50,12 +44,11 @@ is-strange-spec =
     (tie.spec
     Inv-loop
     μ-loop
+    shared-slice-read-p
     loop-holds
     shared-slice-read-is-strange-symbol
-    shared-slice-read-is-strange-symbol-2
     is-strange-symbol-requires
-    returns
     add-c
     loop-less
     loop-again
-    returns-2)
+    returns)

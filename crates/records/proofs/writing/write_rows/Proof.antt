@@ -1,4 +1,4 @@
--- `traymark::writing::write_rows` meets its contract: the rows below r are written. Assumes nothing.
+-- `records::writing::write_rows` meets its contract: the rows below r are written. Assumes nothing.
 use mathlib.Core.Path.{_≡_, refl, sym, ap, _∙_}
 use mathlib.Core.List.{List, _++_}
 use Prim.Native.Nat.{ℕ, _*_, _-_, _≤_}
@@ -9,11 +9,11 @@ use Rattle.bounded.specs.Bounded.{at, tab}
 use Rattle.bounded.proofs.Tab.{tab-eq, tab-whole}
 use Rattle.definitions.specs.Code.{gridValue}
 use Rattle.polynomial.specs.Powers.{Powers, Columns}
-use Rattle.traymark.proofs.Square.{row-in, grid-row}
-use Rattle.traymark.proofs.Written.{row-more}
+use Rattle.records.proofs.Square.{row-in, grid-row}
+use Rattle.records.proofs.Written.{row-more}
 use borrow.Author.Needs.{needs}
-use Rattle.traymark.proofs.writing.write_rows.Statement.{statement}
-use Rattle.traymark.proofs.writing.write_rows.Tie as tie
+use Rattle.records.proofs.writing.write_rows.Statement.{statement}
+use Rattle.records.proofs.writing.write_rows.Tie as tie
 
 abbrev Inv-loop : tie.InvT-loop
 Inv-loop mark₀ n columns powers d p m r₀ mark r =

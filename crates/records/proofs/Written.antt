@@ -14,7 +14,7 @@ use Rattle.bounded.proofs.Tab.{length-tab, tab-at, tab-append}
 use Rattle.definitions.specs.Plan.{modulus, side, degree, point}
 use Rattle.definitions.specs.Code.{Code, strip, square, valueXY, cells, value, mark}
 use Rattle.definitions.specs.Demands.{Written}
-use Rattle.traymark.proofs.Square.{row-in}
+use Rattle.records.proofs.Square.{row-in}
 
 -- the part from r * n on has come back with row r in it
 pub row-more : (n r : ℕ) (f : ℕ → ℕ) (d mark last : List ℕ) → mark ≡ tab (r * n) f ++ drop (r * n) d → last ≡ tab n (λ j. f (r * n + j)) →

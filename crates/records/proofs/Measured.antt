@@ -6,8 +6,8 @@ use Prim.Native.Nat.{ℕ, _+_, _*_, _-_, _≤_, _<_}
 use native.Mathlib.Numerals.{add-one}
 use native.Mathlib.Omega.{arith}
 use native.Mathlib.Nat.{suc-mul, add-sub-cancel-left}
-use lib.ListN.{take, drop}
-use lib.Seq.{getD-take, getD-drop}
+use lib.ListN.{length, take, drop, length-drop}
+use lib.Seq.{getD-take, getD-drop, length-take-le}
 use Rattle.bounded.specs.Bounded.{at}
 use Rattle.bounded.proofs.Sum.{sum-eq, sum-append}
 use Rattle.field.specs.Row.{row}
@@ -17,7 +17,7 @@ use Rattle.definitions.specs.Cost.{full, cell, radius}
 use Rattle.definitions.specs.Calls.{readingOf}
 use Rattle.distance.specs.Level.{differ}
 use Rattle.distance.specs.Summary.{summary}
-use Rattle.traymark.specs.Measured.{Measured}
+use Rattle.records.specs.Measured.{Measured}
 
 -- a row of lent bytes
 pub loaded : (n : ℕ) (s : List ℕ) {l : List ℕ} → n ≤ 16 → l ≡ row (at s) → (i : ℕ) → i < n → at l i ≡ at s i
@@ -26,6 +26,9 @@ loaded n s h e i k = let m : i < 16 = omega arith in rw e (row-at (at s) i m)
 -- a part of n bytes from a on
 pub part-at : (a n : ℕ) (s : List ℕ) (i : ℕ) → i < n → at (take (a + n - a) (drop a s)) i ≡ at s (a + i)
 part-at a n s i l = rw (add-sub-cancel-left a n) (getD-take n (drop a s) i 0 l ∙ getD-drop a s i 0)
+
+pub part-length : (a n : ℕ) (s : List ℕ) → a + n ≤ length s → length (take (a + n - a) (drop a s)) ≡ n
+part-length a n s h = rw (add-sub-cancel-left a n) (length-take-le n (drop a s) (omega (arith, length-drop a s)))
 
 pub measured-eq : {n D k : ℕ} {s s′ u u′ v v′ : ℕ → ℕ} → ((i : ℕ) → i < n → s i ≡ s′ i) → ((i : ℕ) → i < n → u i ≡ u′ i) → ((i : ℕ) → i < n → v i ≡ v′ i) →
     Measured n s u v D k → Measured n s′ u′ v′ D k

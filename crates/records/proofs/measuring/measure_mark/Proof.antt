@@ -1,12 +1,12 @@
--- `traymark::measuring::measure_mark` meets its contract: the plan's points are put in for X and for Y. Assumes nothing.
+-- `records::measuring::measure_mark` meets its contract: the plan's points are put in for X and for Y. Assumes nothing.
 use mathlib.Core.Path.{refl, _∙_}
 use native.Mathlib.Omega.{arith}
 use Rattle.polynomial.proofs.Powers.{powers-rows}
-use Rattle.traymark.proofs.Square.{points-residues, square-word, square-value}
-use Rattle.traymark.proofs.Measured.{measured-eq, reading-is}
+use Rattle.records.proofs.Square.{points-residues, square-word, square-value}
+use Rattle.records.proofs.Measured.{measured-eq, reading-is}
 use borrow.Author.Needs.{needs}
-use Rattle.traymark.proofs.measuring.measure_mark.Statement.{statement}
-use Rattle.traymark.proofs.measuring.measure_mark.Tie as tie
+use Rattle.records.proofs.measuring.measure_mark.Statement.{statement}
+use Rattle.records.proofs.measuring.measure_mark.Tie as tie
 
 shared-slice-read-p : tie.Need-shared-slice-read-p
 shared-slice-read-p c = search needs
@@ -37,19 +37,16 @@ powers-requires c κs = (c .before .reciprocal .ensures, points-residues (c .bef
 
 columns-requires : tie.Need-columns-requires
 columns-requires c κs =
-    let b = c .before .before .before .before .before .before .before .before .before .before in
+    let b = c .before .before .before .before .before .before .before .before .before .before .before in
     let s = b .pre .0 in
-    let m = c .before .before .reciprocal .ensures in
-    (m, powers-rows (c .before .points .result) (omega (arith, m .least)) (c .powers .ensures), square-word (b .args .plan .now) (b .pre .2), omega (arith, s .low, s .most))
+    let m = c .before .before .before .reciprocal .ensures in
+    (m, powers-rows (c .before .before .points .result) (omega (arith, m .least)) (c .before .powers .ensures), square-word (b .args .plan .now) (b .pre .2), omega (arith, s .low, s .most))
 
 measure-rows-requires : tie.Need-measure-rows-requires
 measure-rows-requires c κs =
-    let b = c .before .before .before .before .before .before .before .before .before .before .before .pre in
-    let m = c .before .before .before .reciprocal .ensures in
-    (m, c .columns .ensures .0, powers-rows (c .before .before .points .result) (omega (arith, m .least)) (c .before .powers .ensures), b .0 .most, omega (arith, b .0 .low, b .0 .most), b .1 .symbols, b .1 .doubts, b .1 .doubt)
-
-cast-radius : tie.Need-cast-radius
-cast-radius c = search needs
+    let b = c .before .before .before .before .before .before .before .before .before .before .before .before .before .before .pre in
+    let m = c .before .before .before .before .before .before .reciprocal .ensures in
+    (m, c .before .before .columns .ensures .0, powers-rows (c .before .before .before .before .before .points .result) (omega (arith, m .least)) (c .before .before .before .before .powers .ensures), b .0 .most, omega (arith, b .0 .low, b .0 .most), b .1 .symbols, b .1 .doubts, b .1 .doubt)
 
 radius-requires : tie.Need-radius-requires
 radius-requires c κs = search needs
@@ -59,10 +56,10 @@ reading-requires c κs = search needs
 
 returns : tie.Need-returns
 returns c =
-    let b = c .before .before .before .before .before .before .before .before .before .before .before .before .before .before .pre in
-    let x = c .before .before .before .before .before .points in
-    let P = c .before .before .before .before .powers .ensures in
-    let C = c .before .before .before .columns .ensures .1 (x .result) P in
+    let b = c .before .before .before .before .before .before .before .before .before .before .before .before .before .before .before .before .before .pre in
+    let x = c .before .before .before .before .before .before .before .before .points in
+    let P = c .before .before .before .before .before .before .before .powers .ensures in
+    let C = c .before .before .before .before .before .columns .ensures .1 (x .result) P in
     c .reading .ensures ∙ reading-is _ _ _ _ _ (c .before .radius .ensures .0) (measured-eq (λ i l. refl) (λ i l. refl) (square-value (b .0) (x .ensures) _) (c .before .before .measure-rows .ensures .1 (x .result) (x .result) _ C P))
 
 pub measure-mark-spec : {M : Type 1} → statement M
@@ -80,7 +77,6 @@ measure-mark-spec =
     powers-requires
     columns-requires
     measure-rows-requires
-    cast-radius
     radius-requires
     reading-requires
     returns)

@@ -1,19 +1,16 @@
--- `traymark::measuring::measure_row` meets its contract: a row's cells are those of the lent bytes. Assumes nothing.
+-- `records::measuring::measure_row` meets its contract: a row's cells are those of the lent bytes. Assumes nothing.
 use mathlib.Core.Path.{refl}
 use native.Mathlib.Omega.{arith}
-use Rattle.traymark.proofs.Measured.{loaded, measured-eq}
+use Rattle.records.proofs.Measured.{loaded, measured-eq}
 use borrow.Author.Needs.{needs}
-use Rattle.traymark.proofs.measuring.measure_row.Statement.{statement}
-use Rattle.traymark.proofs.measuring.measure_row.Tie as tie
+use Rattle.records.proofs.measuring.measure_row.Statement.{statement}
+use Rattle.records.proofs.measuring.measure_row.Tie as tie
 
 row-requires : tie.Need-row-requires
 row-requires c κs = search needs
 
 doubts-requires : tie.Need-doubts-requires
 doubts-requires c κs = search needs
-
-cast-word-cost : tie.Need-cast-word-cost
-cast-word-cost c = search needs
 
 word-cost-requires : tie.Need-word-cost-requires
 word-cost-requires c κs =
@@ -36,7 +33,6 @@ measure-row-spec =
     (tie.spec
     row-requires
     doubts-requires
-    cast-word-cost
     word-cost-requires
     word-changed-requires
     returns)

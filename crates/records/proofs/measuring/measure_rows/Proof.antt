@@ -1,4 +1,4 @@
--- `traymark::measuring::measure_rows` meets its contract: the rows below r are measured. Assumes nothing.
+-- `records::measuring::measure_rows` meets its contract: the rows below r are measured. Assumes nothing.
 use mathlib.Core.Path.{_≡_, refl}
 use mathlib.Core.List.{List}
 use Prim.Native.Nat.{ℕ, _+_, _*_, _-_, _≤_}
@@ -7,12 +7,12 @@ use native.Mathlib.Nat.{zero-mul}
 use Rattle.bounded.specs.Bounded.{at}
 use Rattle.definitions.specs.Code.{gridValue}
 use Rattle.polynomial.specs.Powers.{Powers, Columns}
-use Rattle.traymark.specs.Measured.{Measured}
-use Rattle.traymark.proofs.Square.{row-in, grid-row}
-use Rattle.traymark.proofs.Measured.{part-at, measured-eq, measured-more}
+use Rattle.records.specs.Measured.{Measured}
+use Rattle.records.proofs.Square.{row-in, grid-row}
+use Rattle.records.proofs.Measured.{part-at, part-length, measured-eq, measured-more}
 use borrow.Author.Needs.{needs}
-use Rattle.traymark.proofs.measuring.measure_rows.Statement.{statement}
-use Rattle.traymark.proofs.measuring.measure_rows.Tie as tie
+use Rattle.records.proofs.measuring.measure_rows.Statement.{statement}
+use Rattle.records.proofs.measuring.measure_rows.Tie as tie
 
 abbrev Inv-loop : tie.InvT-loop
 Inv-loop symbols doubts n columns powers d p m cost₀ changed₀ r₀ cost changed r =
@@ -57,7 +57,12 @@ measure-row-requires c κs =
     let b = c .before .before .before .before .before .before .before in
     let r = c .before .before .before .before .loop .r in
     let n = b .args .n in
-    (b .pre .3, λ i l. rw (part-at (r * n) n (b .args .doubts .now) i l) (b .pre .7 (r * n + i) (omega (arith, row-in r n (c .before .before .before .loop-test .taken)))))
+    let h = row-in r n (c .before .before .before .loop-test .taken) in (
+      b .pre .3,
+      λ i l. rw (part-at (r * n) n (b .args .doubts .now) i l) (b .pre .7 (r * n + i) (omega (arith, h))),
+      part-length (r * n) n (b .args .symbols .now) (omega (arith, b .pre .5, h)),
+      part-length (r * n) n (b .args .doubts .now) (omega (arith, b .pre .6, h)),
+    )
 
 add-cost : tie.Need-add-cost Inv-loop μ-loop
 add-cost c = omega (arith, c .before .measure-row .ensures .1, c .before .before .before .before .before .before .loop .inv .1, c .before .before .before .before .before .before .before .before .before .pre .3)

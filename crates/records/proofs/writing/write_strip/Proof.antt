@@ -1,14 +1,14 @@
--- `traymark::writing::write_strip` meets its contract: its values are those of one row. Assumes nothing.
+-- `records::writing::write_strip` meets its contract: its values are those of one row. Assumes nothing.
 use mathlib.Core.Path.{ap, _∙_}
 use native.Mathlib.Omega.{arith}
 use Rattle.bounded.specs.Bounded.{at, tab}
 use Rattle.bounded.proofs.Tab.{tab-eq}
 use Rattle.definitions.specs.Code.{mark}
 use Rattle.polynomial.proofs.Powers.{powers-rows}
-use Rattle.traymark.proofs.Square.{points-residues, strip-row, strip-value}
+use Rattle.records.proofs.Square.{points-residues, strip-row, strip-value}
 use borrow.Author.Needs.{needs}
-use Rattle.traymark.proofs.writing.write_strip.Statement.{statement}
-use Rattle.traymark.proofs.writing.write_strip.Tie as tie
+use Rattle.records.proofs.writing.write_strip.Statement.{statement}
+use Rattle.records.proofs.writing.write_strip.Tie as tie
 
 shared-slice-read-p : tie.Need-shared-slice-read-p
 shared-slice-read-p c = search needs
@@ -36,13 +36,13 @@ row-requires c κs = search needs
 
 values-requires : tie.Need-values-requires
 values-requires c κs =
-    let b = c .before .before .before .before .before .before .before .before .before .pre in
-    let m = c .before .before .before .reciprocal .ensures in
-    (m, powers-rows (c .before .before .points .result) (omega (arith, m .least)) (c .before .powers .ensures), strip-row (b .sound) (b .given) (c .row .ensures), omega (arith, b .sound .low, b .sound .most))
+    let b = c .before .before .before .before .before .before .before .before .before .before .pre in
+    let m = c .before .before .before .before .reciprocal .ensures in
+    (m, powers-rows (c .before .before .before .points .result) (omega (arith, m .least)) (c .before .before .powers .ensures), strip-row (b .sound) (b .given) (c .row .ensures), omega (arith, b .sound .low, b .sound .most))
 
 write-row-requires : tie.Need-write-row-requires
 write-row-requires c κs =
-    let b = c .before .before .before .before .before .before .before .before .before .before .before .pre in
+    let b = c .before .before .before .before .before .before .before .before .before .before .before .before .pre in
     (omega (arith, b .room, b .sound .most), λ j. omega (arith, c .before .values .ensures .0 .small j, b .sound .small))
 
 same-length : tie.Need-same-length
@@ -51,10 +51,10 @@ same-length c = search needs
 returns : tie.Need-returns
 unfolding mark
 returns c =
-    let b = c .before .before .before .before .before .before .before .before .before .before .before .before .before .before .pre in
-    let x = c .before .before .before .before .before .before .before .points in
+    let b = c .before .before .before .before .before .before .before .before .before .before .before .before .before .before .before .pre in
+    let x = c .before .before .before .before .before .before .before .before .points in
     let v = c .before .before .before .before .values in
-    let P = c .before .before .before .before .before .before .powers .ensures in
+    let P = c .before .before .before .before .before .before .before .powers .ensures in
     c .before .before .write-row .ensures ∙ ap (λ k. tab k (at (v .result))) (b .room) ∙ tab-eq _ (strip-value (b .sound) (x .ensures) _ (c .before .before .before .before .before .row .ensures) (v .ensures .1 (x .result) P))
 
 pub write-strip-spec : {M : Type 1} → statement M

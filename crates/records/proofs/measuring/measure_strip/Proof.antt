@@ -1,0 +1,82 @@
+-- `records::measuring::measure_strip` meets its contract: a strip is measured as one row. Assumes nothing.
+use mathlib.Core.Path.{refl, _∙_}
+use native.Mathlib.Omega.{arith}
+use Rattle.polynomial.proofs.Powers.{powers-rows}
+use Rattle.records.proofs.Square.{points-residues, strip-row, strip-value}
+use Rattle.records.proofs.Measured.{measured-eq, reading-is}
+use borrow.Author.Needs.{needs}
+use Rattle.records.proofs.measuring.measure_strip.Statement.{statement}
+use Rattle.records.proofs.measuring.measure_strip.Tie as tie
+
+shared-slice-read-p : tie.Need-shared-slice-read-p
+shared-slice-read-p c = search needs
+
+cast-p : tie.Need-cast-p
+cast-p c = search needs
+
+shared-slice-read-n : tie.Need-shared-slice-read-n
+shared-slice-read-n c = search needs
+
+cast-n : tie.Need-cast-n
+cast-n c = search needs
+
+shared-slice-read-d : tie.Need-shared-slice-read-d
+shared-slice-read-d c = search needs
+
+cast-d : tie.Need-cast-d
+cast-d c = search needs
+
+reciprocal-requires : tie.Need-reciprocal-requires
+reciprocal-requires c κs = search needs
+
+points-requires : tie.Need-points-requires
+points-requires c κs = search needs
+
+powers-requires : tie.Need-powers-requires
+powers-requires c κs = (c .before .reciprocal .ensures, points-residues (c .before .before .before .before .before .before .before .before .before .pre .0) (c .points .ensures))
+
+row-requires : tie.Need-row-requires
+row-requires c κs = search needs
+
+values-requires : tie.Need-values-requires
+values-requires c κs =
+    let b = c .before .before .before .before .before .before .before .before .before .before .before .before .pre in
+    let m = c .before .before .before .before .reciprocal .ensures in
+    (m, powers-rows (c .before .before .before .points .result) (omega (arith, m .least)) (c .before .before .powers .ensures), strip-row (b .0) (b .2) (c .row .ensures), omega (arith, b .0 .low, b .0 .most))
+
+measure-row-requires : tie.Need-measure-row-requires
+measure-row-requires c κs = search needs
+
+radius-requires : tie.Need-radius-requires
+radius-requires c κs = search needs
+
+reading-requires : tie.Need-reading-requires
+reading-requires c κs = search needs
+
+returns : tie.Need-returns
+returns c =
+    let b = c .before .before .before .before .before .before .before .before .before .before .before .before .before .before .before .before .pre in
+    let x = c .before .before .before .before .before .before .before .points in
+    let P = c .before .before .before .before .before .before .powers .ensures in
+    let v = c .before .before .before .values in
+    c .reading .ensures ∙ reading-is _ _ _ _ _ (c .before .radius .ensures .0) (measured-eq (λ i l. refl) (λ i l. refl) (strip-value (b .0) (x .ensures) _ (c .before .before .before .before .row .ensures) (v .ensures .1 (x .result) P)) (c .before .before .measure-row .ensures .0))
+
+pub measure-strip-spec : {M : Type 1} → statement M
+measure-strip-spec =
+    tie.close
+    (tie.spec
+    shared-slice-read-p
+    cast-p
+    shared-slice-read-n
+    cast-n
+    shared-slice-read-d
+    cast-d
+    reciprocal-requires
+    points-requires
+    powers-requires
+    row-requires
+    values-requires
+    measure-row-requires
+    radius-requires
+    reading-requires
+    returns)

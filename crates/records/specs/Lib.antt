@@ -1,0 +1,2 @@
+-- What the contracts of writing and measuring need beside the definitions.
+pub mod Measured
