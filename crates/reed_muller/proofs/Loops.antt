@@ -1,4 +1,4 @@
--- The laws of the loops over rows that are changed where they stand, over pairs, and over a stretch: start, step, and an element passed. Assumes nothing.
+-- The laws of the loops over pairs that are changed where they stand, and over a stretch: start, step, and an element passed. Assumes nothing.
 use mathlib.Core.Logic.{_≢_}
 use mathlib.Core.Path.{_≡_, refl, _∙_}
 use mathlib.Core.List.{List}
@@ -8,18 +8,16 @@ use native.Mathlib.Decide.{ℕ-discrete}
 use lib.ListN.{length, getD, set, length-set}
 use lib.Seq.{getD-set-same, getD-set-other}
 use Rattle.bounded.specs.Bounded.{at}
-use Rattle.reed_muller.specs.Loops.{Passed, Both, Stretch}
+use Rattle.field.specs.Loop.{Passed}
+use Rattle.reed_muller.specs.Loops.{Both, Stretch}
 
-module _ {A : Type 0} {n : ℕ} {z : A} {U T : ℕ → A → Type 0} where
-  pub passed-step : {l : List A} {i : ℕ} (v : A) → i < 16 → T i v → Passed n z U T l i → Passed n z U T (set l i v) (i + 1)
-  passed-step {l} {i} v b t p = record {
-    size = length-set l i v ∙ p .size;
-    done = λ j k. elim (ℕ-discrete j i) [
-      | yes e ↦ let h : i < length l = omega (arith, p .size) in rw (e, getD-set-same l i v z h) t
-      | no e ↦ rw (getD-set-other l i j v z e) (p .done j (omega arith))
-    ];
-    todo = λ j k m. let e : j ≢ i = omega arith in rw (getD-set-other l i j v z e) (p .todo j (omega arith) m);
-  }
+-- an element that is as it should be
+pub passed-over : {A : Type 0} {n : ℕ} {z : A} {U T : ℕ → A → Type 0} {l : List A} {i : ℕ} → T i (getD l i z) → Passed n z U T l i → Passed n z U T l (i + 1)
+passed-over {i} t p = record {
+  size = p .size;
+  done = λ j k. elim (ℕ-discrete j i) [ yes e ↦ rw e t | no e ↦ p .done j (omega arith) ];
+  todo = λ j k m. p .todo j (omega arith) m;
+}
 
 module _ {A : Type 0} {n : ℕ} {z : A} {U T : ℕ → A → ℕ → Type 0} where
   pub both-step : {l : List A} {k : List ℕ} {i : ℕ} (v : A) (w : ℕ) → i < 16 → T i v w → Both n z U T l k i → Both n z U T (set l i v) (set k i w) (i + 1)

@@ -77,7 +77,7 @@ module _ {P : List ℕ} (S : Sound P) where
   record-one F G f g e = record-eq (degree P) F G low (word F f) (word G g) e
 
   -- coefficients below p make a record
-  record-word : (F : List ℕ) → length F ≡ size square P → ((t i : ℕ) → i + t ≤ degree P → coef F i t < suc (modulus P - 1)) → IsRecord square P F
+  pub record-word : (F : List ℕ) → length F ≡ size square P → ((t i : ℕ) → i + t ≤ degree P → coef F i t < suc (modulus P - 1)) → IsRecord square P F
   record-word F e h = record {
     size = e;
     below = λ m l. let (i, t, k, z) = place (degree P) m low (rw add-one at l) in rw z (rw (plan-modulus S) at (h t i k));

@@ -1,12 +1,11 @@
--- Loops over more than one array, or over a part of one; a loop that sets one array anew has `Upto` of the crate `field`.
+-- Loops over more than one array, or over a part of one; loops over one array have `Upto` and `Passed` of the crate `field`.
 --
 --   line m r               row r of the rows m, and the empty row beyond their end
 --   cells m r c            cell c of row r
---   Passed n z U T l i     of sixteen elements, T holds of those before i, and U of those from i on and before n
---   Both n z U T l k i     the same of elements in pairs with numbers
+--   Both n z U T l k i     as `Passed`, of elements in pairs with numbers
 --   Stretch n a f old l j  of n numbers, the j from a on are those of f, and those before a are as in old
 --
--- What this file is for: the invariants of the loops that change rows where they stand, and of those that fill a record.
+-- What this file is for: the invariants of the loops that change rows and numbers where they stand, and of those that fill a record.
 use mathlib.Core.Path.{_≡_}
 use mathlib.Core.List.{List, []}
 use Prim.Native.Nat.{ℕ, _+_, _≤_, _<_}
@@ -18,11 +17,6 @@ line m r = getD m r []
 
 abbrev pub cells : List (List ℕ) → ℕ → ℕ → ℕ
 cells m r c = at (line m r) c
-
-pub record Passed {A : Type 0} (n : ℕ) (z : A) (U T : ℕ → A → Type 0) (l : List A) (i : ℕ) : Type 0 where
-  pub size : length l ≡ 16
-  pub done : (j : ℕ) → j < i → T j (getD l j z)
-  pub todo : (j : ℕ) → i ≤ j → j < n → U j (getD l j z)
 
 pub record Both {A : Type 0} (n : ℕ) (z : A) (U T : ℕ → A → ℕ → Type 0) (l : List A) (k : List ℕ) (i : ℕ) : Type 0 where
   pub size : length l ≡ 16

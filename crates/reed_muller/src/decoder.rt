@@ -6,6 +6,7 @@ use distance::word;
 ghost use mathlib.Core.Path.{_≡_};
 ghost use mathlib.Core.Bool.{false};
 ghost use Prim.Native.Nat.{_*_, _≤_, _<_};
+ghost use Rattle.field.specs.Prime.{Inverses};
 ghost use Rattle.polynomial.specs.Grid.{radius as radiusOf};
 ghost use Rattle.polynomial.specs.Powers.{Rows};
 ghost use Rattle.reed_muller.specs.Fit.{Fit, DoubtRows};
@@ -66,15 +67,20 @@ fn none() -> Decoding
 
 // The record under the radius, if there is one; `left` holds the symbols, each below p, and afterwards what is left of them.
 // The steps give a candidate for many words that have no answer, so it is measured.
-pub fn decode(g: Grid, left: &mut [[u16; 16]; 16], doubts: [[u32; 16]; 16]) -> Decoding
-    requires { ⌜ Fit g × Rows (g .p) (now left) × DoubtRows g doubts ⌝ }
-    ensures { λ r. ⌜ Outcome g (now (left .entry)) doubts (now (left .exit)) (r .found) (r .message) (r .cost) ⌝ }
+pub fn decode(
+    g: Grid,
+    inverses: &[u16; 251],
+    left: &mut [[u16; 16]; 16],
+    doubts: &[[u32; 16]; 16],
+) -> Decoding
+    requires { ⌜ Fit g × Rows (g .p) (now left) × DoubtRows g (now doubts) × Inverses (g .p) (now inverses) ⌝ }
+    ensures { λ r. ⌜ Outcome g (now (left .entry)) (now (doubts .entry)) (now (left .exit)) (r .found) (r .message) (r .cost) ⌝ }
 {
     let mut columns = [[0u16; 16]; 16];
-    if !solver::solve(g, left, &doubts, &mut columns) {
+    if !solver::solve(g, inverses, left, doubts, &mut columns) {
         return none();
     }
-    let cost = measure(g, left, &doubts);
+    let cost = measure(g, left, doubts);
     if cost < radius(g) {
         return Decoding {
             found: true,

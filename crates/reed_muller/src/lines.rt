@@ -4,6 +4,7 @@ ghost use mathlib.Core.Path.{_≡_};
 ghost use Prim.Native.Nat.{_≤_, _<_};
 ghost use lib.ListN.{length};
 ghost use Rattle.bounded.specs.Bounded.{at};
+ghost use Rattle.field.specs.Prime.{Inverses};
 ghost use Rattle.field.specs.Row.{row, Row};
 ghost use Rattle.polynomial.specs.Powers.{Rows};
 ghost use Rattle.distance.specs.Doubts.{Doubts};
@@ -21,12 +22,22 @@ pub struct Line {
 pub const UNKNOWN: u32 = 4294967295;
 
 // A line read as a strip of degree t. Where it has no answer it counts as unread, with the full doubt.
-fn read(g: Grid, t: usize, symbols: [u16; 16], doubts: [u32; 16]) -> Line
-    requires { ⌜ Fit g × (t ≤ g .d) × Row (g .p) symbols × Doubts (g .full) (g .b) (at doubts) ⌝ }
+fn read(g: Grid, inverses: &[u16; 251], t: usize, symbols: [u16; 16], doubts: [u32; 16]) -> Line
+    requires { ⌜ Fit g × (t ≤ g .d) × Row (g .p) symbols × Doubts (g .full) (g .b) (at doubts) × Inverses (g .p) (now inverses) ⌝ }
     ensures { λ r. ⌜ Answered g t symbols doubts (r .message) (r .cost) ⌝ }
 {
     let y = g.y;
-    let strip = reed_solomon::decoder::decode(g.p, g.m, y, g.b, t, g.full, symbols, doubts);
+    let strip = reed_solomon::decoder::decode(
+        g.p,
+        g.m,
+        inverses,
+        y,
+        g.b,
+        t,
+        g.full,
+        symbols,
+        doubts,
+    );
     if strip.found {
         let w = strip.message;
         return Line {
@@ -43,13 +54,14 @@ fn read(g: Grid, t: usize, symbols: [u16; 16], doubts: [u32; 16]) -> Line
 // Reads the lines whose answers are not known: the messages are written where they stand, all costs are returned.
 pub fn answer(
     g: Grid,
+    inverses: &[u16; 251],
     t: usize,
     messages: &mut [[u16; 16]; 16],
     known: [u32; 16],
     left: &[[u16; 16]; 16],
     doubts: &[[u32; 16]; 16],
 ) -> [u32; 16]
-    requires { ⌜ Fit g × (t ≤ g .d) × Rows (g .p) (now left) × DoubtRows g (now doubts) × KnownRows g t (now left) (now doubts) (now messages) known ⌝ }
+    requires { ⌜ Fit g × (t ≤ g .d) × Rows (g .p) (now left) × DoubtRows g (now doubts) × KnownRows g t (now left) (now doubts) (now messages) known × Inverses (g .p) (now inverses) ⌝ }
     ensures { λ r. ⌜ AnsweredRows g t (now (left .entry)) (now (doubts .entry)) (now (messages .exit)) r ⌝ }
 {
     let a = g.a;
@@ -57,7 +69,7 @@ pub fn answer(
     let mut r = 0;
     while r < a {
         if costs[r] == UNKNOWN {
-            let line = read(g, t, left[r], doubts[r]);
+            let line = read(g, inverses, t, left[r], doubts[r]);
             let w = line.message;
             messages[r] = w;
             costs[r] = line.cost;

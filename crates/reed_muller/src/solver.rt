@@ -5,6 +5,7 @@ use polynomial::evaluation;
 ghost use mathlib.Core.Path.{_≡_};
 ghost use Prim.Native.Nat.{_%_, _^_, _≤_};
 ghost use Rattle.bounded.specs.Bounded.{at};
+ghost use Rattle.field.specs.Prime.{Inverses};
 ghost use Rattle.field.specs.Row.{row, Row};
 ghost use Rattle.polynomial.specs.Powers.{Rows};
 ghost use Rattle.reed_muller.specs.Fit.{Fit, DoubtRows};
@@ -26,9 +27,11 @@ fn subtract(g: Grid, left: &mut [[u16; 16]; 16], v: [u16; 16], power: [u16; 16])
     let a = g.a;
     let mut r = 0;
     while r < a {
-        let row = left[r];
-        let next = field::rows::add_multiple(row, g.p - v[r], power, g.p, g.m);
-        left[r] = next;
+        if v[r] != 0 {
+            let row = left[r];
+            let next = field::rows::add_multiple(row, g.p - v[r], power, g.p, g.m);
+            left[r] = next;
+        }
         r += 1;
     }
 }
@@ -37,6 +40,7 @@ fn subtract(g: Grid, left: &mut [[u16; 16]; 16], v: [u16; 16], power: [u16; 16])
 // are the lines' costs and whose full doubt is the lines' radius. So nothing is divided or rounded.
 fn step(
     g: Grid,
+    inverses: &[u16; 251],
     t: usize,
     power: [u16; 16],
     known: [u32; 16],
@@ -44,14 +48,24 @@ fn step(
     left: &mut [[u16; 16]; 16],
     doubts: &[[u32; 16]; 16],
 ) -> Column
-    requires { ⌜ Fit g × (t ≤ g .d) × Rows (g .p) (now left) × DoubtRows g (now doubts) × KnownRows g t (now left) (now doubts) (now messages) known × (power ≡ row (λ c. at (g .y) c ^ t % g .p)) ⌝ }
+    requires { ⌜ Fit g × (t ≤ g .d) × Rows (g .p) (now left) × DoubtRows g (now doubts) × KnownRows g t (now left) (now doubts) (now messages) known × (power ≡ row (λ c. at (g .y) c ^ t % g .p)) × Inverses (g .p) (now inverses) ⌝ }
     ensures { λ r. ⌜ Stepped g t (now (left .entry)) (now (doubts .entry)) (now (left .exit)) (now (messages .exit)) (r .found) (r .message) (r .known) ⌝ }
 {
-    let costs = lines::answer(g, t, messages, known, left, doubts);
+    let costs = lines::answer(g, inverses, t, messages, known, left, doubts);
     let leading = lines::leading(messages, t);
     let radius = g.full * ((g.b - t) as u32);
     let x = g.x;
-    let strip = reed_solomon::decoder::decode(g.p, g.m, x, g.a, g.d - t, radius, leading, costs);
+    let strip = reed_solomon::decoder::decode(
+        g.p,
+        g.m,
+        inverses,
+        x,
+        g.a,
+        g.d - t,
+        radius,
+        leading,
+        costs,
+    );
     let message = strip.message;
     if !strip.found {
         return Column {
@@ -73,11 +87,12 @@ fn step(
 // the first step without an answer: then no record is under the radius.
 pub fn solve(
     g: Grid,
+    inverses: &[u16; 251],
     left: &mut [[u16; 16]; 16],
     doubts: &[[u32; 16]; 16],
     columns: &mut [[u16; 16]; 16],
 ) -> bool
-    requires { ⌜ Fit g × Rows (g .p) (now left) × DoubtRows g (now doubts) × Rows (g .p) (now columns) ⌝ }
+    requires { ⌜ Fit g × Rows (g .p) (now left) × DoubtRows g (now doubts) × Rows (g .p) (now columns) × Inverses (g .p) (now inverses) ⌝ }
     ensures { λ r. ⌜ Solved g (now (left .entry)) (now (doubts .entry)) (now (left .exit)) (now (columns .exit)) r ⌝ }
 {
     let y = g.y;
@@ -87,7 +102,16 @@ pub fn solve(
     let mut t = g.d + 1;
     while t > 0 {
         t -= 1;
-        let column = step(g, t, powers[t], known, &mut messages, left, doubts);
+        let column = step(
+            g,
+            inverses,
+            t,
+            powers[t],
+            known,
+            &mut messages,
+            left,
+            doubts,
+        );
         if !column.found {
             return false;
         }

@@ -9,8 +9,8 @@ use Rattle.reed_muller.proofs.decoder.decode.Tie as tie
 
 solve-requires : tie.Need-solve-requires
 solve-requires c κs =
-    let start = c .before .before .before in
-    (start .pre .0, start .pre .1, start .pre .2, rows-zeros (positive (start .pre .0)))
+    let start = c .before .before in
+    (start .pre .0, start .pre .1, start .pre .2, rows-zeros (positive (start .pre .0)), start .pre .3)
 
 none-requires : tie.Need-none-requires
 none-requires c κs = search needs
@@ -29,18 +29,18 @@ flatten-requires c κs = search needs
 
 returns-2 : tie.Need-returns-2
 returns-2 c =
-    let S = c .before .before .before .before .before .before .before .before .solve .ensures in
-    let found = not-false _ (c .before .before .before .before .before .before .before .if1 .left) in
-    outcome-found S (c .before .before .before .before .before .before .before .before .before .before .before .before .pre .0) found (c .flatten .ensures) (c .before .before .before .before .measure .ensures) (omega (arith, c .before .before .if2 .taken, c .before .before .before .radius .ensures))
+    let S = c .before .before .before .before .before .before .before .solve .ensures in
+    let found = not-false _ (c .before .before .before .before .before .before .if1 .left) in
+    outcome-found S (c .before .before .before .before .before .before .before .before .before .before .pre .0) found (c .flatten .ensures) (c .before .before .before .before .measure .ensures) (omega (arith, c .before .before .if2 .taken, c .before .before .before .radius .ensures))
 
 none-requires-2 : tie.Need-none-requires-2
 none-requires-2 c κs = search needs
 
 returns-3 : tie.Need-returns-3
 returns-3 c =
-    let S = c .before .before .before .before .before .before .before .solve .ensures in
-    let found = not-false _ (c .before .before .before .before .before .before .if1 .left) in
-    outcome-over S (c .before .before .before .before .before .before .before .before .before .before .before .pre .0) found (c .none2 .ensures) (omega (arith, c .before .if2 .left, c .before .before .radius .ensures, c .before .before .before .measure .ensures))
+    let S = c .before .before .before .before .before .before .solve .ensures in
+    let found = not-false _ (c .before .before .before .before .before .if1 .left) in
+    outcome-over S (c .before .before .before .before .before .before .before .before .before .pre .0) found (c .none2 .ensures) (omega (arith, c .before .if2 .left, c .before .before .radius .ensures, c .before .before .before .measure .ensures))
 
 pub decode-spec : {M : Type 1} → statement M
 decode-spec =

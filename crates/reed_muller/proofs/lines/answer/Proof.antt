@@ -15,12 +15,12 @@ use Rattle.reed_muller.proofs.lines.answer.Statement.{statement}
 use Rattle.reed_muller.proofs.lines.answer.Tie as tie
 
 abbrev Inv-loop : tie.InvT-loop
-Inv-loop g t messages₀ left doubts a costs₀ r₀ messages costs r =
+Inv-loop g inverses t messages₀ left doubts a costs₀ r₀ messages costs r =
     (a ≡ g .a) × (r ≤ a) × Rows (g .p) messages ×
     Both (g .a) [] (λ r. Known g t (line left r) (line doubts r)) (λ r. Answered g t (line left r) (line doubts r)) messages costs r
 
 abbrev μ-loop : tie.MeasureT-loop
-μ-loop g t messages₀ left doubts a costs₀ r₀ messages costs r = a - r
+μ-loop g inverses t messages₀ left doubts a costs₀ r₀ messages costs r = a - r
 
 loop-holds : tie.Need-loop-holds Inv-loop μ-loop
 loop-holds c =
@@ -49,7 +49,7 @@ read-requires : tie.Need-read-requires Inv-loop μ-loop
 read-requires c κs =
     let start = c .before .before .before .before .before in
     let r = c .before .before .before .before .loop .r in
-    (start .pre .0, start .pre .1, start .pre .2 .done r (omega (arith, start .pre .0 .rows)), start .pre .3 r (omega arith))
+    (start .pre .0, start .pre .1, start .pre .2 .done r (omega (arith, start .pre .0 .rows)), start .pre .3 r (omega arith), start .pre .5)
 
 mul-w : tie.Need-mul-w Inv-loop μ-loop
 mul-w c = search needs

@@ -14,10 +14,10 @@ use Rattle.reed_muller.proofs.solver.solve.Statement.{statement}
 use Rattle.reed_muller.proofs.solver.solve.Tie as tie
 
 abbrev Inv-loop : tie.InvT-loop
-Inv-loop g left₀ doubts columns₀ powers messages₀ known₀ t₀ left columns messages known t = (t ≤ g .d + 1) × Solving g t left₀ doubts left columns messages known
+Inv-loop g inverses left₀ doubts columns₀ powers messages₀ known₀ t₀ left columns messages known t = (t ≤ g .d + 1) × Solving g t left₀ doubts left columns messages known
 
 abbrev μ-loop : tie.MeasureT-loop
-μ-loop g left₀ doubts columns₀ powers messages₀ known₀ t₀ left columns messages known t = t
+μ-loop g inverses left₀ doubts columns₀ powers messages₀ known₀ t₀ left columns messages known t = t
 
 powers-requires : tie.Need-powers-requires Inv-loop μ-loop
 powers-requires c κs = search needs
@@ -50,7 +50,7 @@ step-requires c κs =
     let f = start .pre .0 in
     let e : l .t ≡ suc (l .t - 1) = omega arith in
     let power = c .before .before .before .before .before .before .powers .ensures .done (l .t - 1) (omega (arith, f .low, f .rows)) in
-    (f, omega arith, l .inv .1 .rows, start .pre .2, l .inv .1 .known (l .t - 1) e, power)
+    (f, omega arith, l .inv .1 .rows, start .pre .2, l .inv .1 .known (l .t - 1) e, power, start .pre .4)
 
 returns : tie.Need-returns Inv-loop μ-loop
 returns c =

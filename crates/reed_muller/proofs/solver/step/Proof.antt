@@ -35,7 +35,7 @@ decode-requires c κs =
     let A = c .before .before .before .before .before .before .answer .ensures in
     let row = leading-row f _ _ _ A (c .before .before .before .before .leading .ensures) in
     let fits = line-full (start .args .t) f in
-    (f .prime, f .reciprocal, f .rowPoints, f .rowsApart, f .rows, omega (arith, f .low), omega (arith, fits, f .full), row, λ r l. A .answered r l .entered .below)
+    ((f .prime, f .reciprocal, f .rowPoints, f .rowsApart, f .rows, omega (arith, f .low), omega (arith, fits, f .full), row, λ r l. A .answered r l .entered .below), start .pre .6)
 
 returns : tie.Need-returns
 returns c =

@@ -1,19 +1,31 @@
 -- `reed_muller::solver::subtract` meets its contract: from the rows before r the multiple is subtracted, the others are as they were. Assumes nothing.
-use mathlib.Core.Path.{_≡_, refl}
-use mathlib.Core.List.{[]}
-use Prim.Native.Nat.{_+_, _*_, _-_, _%_, _≤_, _<_}
+use mathlib.Core.Logic.{⊎-elim}
+use mathlib.Core.Path.{_≡_, refl, sym, _∙_}
+use mathlib.Core.List.{List, []}
+use Prim.Native.Nat.{ℕ, suc, _+_, _*_, _-_, _%_, _≤_, _<_}
 use native.Mathlib.Omega.{arith}
+use native.Mathlib.Nat.{mod-eq-of-lt}
 use Rattle.bounded.specs.Bounded.{at}
-use Rattle.field.specs.Row.{row}
-use Rattle.field.proofs.Loop.{upto-put}
+use Rattle.field.specs.Loop.{Passed}
+use Rattle.bounded.proofs.Tab.{tab-is}
+use Rattle.field.specs.Row.{row, Row}
+use Rattle.field.proofs.Congruence.{cong-mod, less}
+use Rattle.field.proofs.Loop.{upto-put, passed-step}
 use Rattle.field.proofs.Row.{result-row}
 use Rattle.polynomial.specs.Powers.{Rows}
-use Rattle.reed_muller.specs.Loops.{line, cells, Passed}
-use Rattle.reed_muller.proofs.Loops.{passed-step}
+use Rattle.reed_muller.specs.Loops.{line, cells}
 use Rattle.reed_muller.proofs.Answers.{positive}
+use Rattle.reed_muller.proofs.Loops.{passed-over}
 use borrow.Author.Needs.{needs}
 use Rattle.reed_muller.proofs.solver.subtract.Statement.{statement}
 use Rattle.reed_muller.proofs.solver.subtract.Tie as tie
+
+-- a multiple of 0 leaves the row as it is
+unchanged : {p z : ℕ} {l : List ℕ} (w : List ℕ) → Row p l → 0 < p → z ≡ 0 → l ≡ row (λ c. (at l c + (p - z) * at w c) % p)
+unchanged {p} {z} {l} w R b e = tab-is 16 _ l (R .size) λ c _. sym (cong-mod b (less (at w c) (whole (at l c) (at w c))) ∙ mod-eq-of-lt (R .small c))
+  where
+    whole : (n v : ℕ) → n + (p - z) * v ≡ n + suc (p - 1) * v
+    whole n v = let q : p - z ≡ suc (p - 1) = omega arith in rw q refl
 
 abbrev Inv-loop : tie.InvT-loop
 Inv-loop g left₀ power v a r₀ left r =
@@ -26,33 +38,39 @@ abbrev μ-loop : tie.MeasureT-loop
 loop-holds : tie.Need-loop-holds Inv-loop μ-loop
 loop-holds c = (refl, omega arith, c .pre .1, record { size = c .pre .1 .size; done = λ j l. absurd (omega arith); todo = λ j _ l. refl })
 
+mul-if1 : tie.Need-mul-if1 Inv-loop μ-loop
+mul-if1 c = omega (arith, c .before .before .pre .0 .rows)
+
+array-read-if1 : tie.Need-array-read-if1 Inv-loop μ-loop
+array-read-if1 c = omega (arith, c .before .before .pre .0 .rows)
+
 mul-row : tie.Need-mul-row Inv-loop μ-loop
-mul-row c = omega (arith, c .before .before .pre .0 .rows)
+mul-row c = omega (arith, c .before .before .before .pre .0 .rows)
 
 element-copy-out-row : tie.Need-element-copy-out-row Inv-loop μ-loop
-element-copy-out-row c = omega (arith, c .before .before .pre .0 .rows)
+element-copy-out-row c = omega (arith, c .before .before .before .pre .0 .rows)
 
 mul-add-multiple : tie.Need-mul-add-multiple Inv-loop μ-loop
-mul-add-multiple c = omega (arith, c .before .before .before .pre .0 .rows)
+mul-add-multiple c = omega (arith, c .before .before .before .before .pre .0 .rows)
 
 array-read-add-multiple : tie.Need-array-read-add-multiple Inv-loop μ-loop
-array-read-add-multiple c = omega (arith, c .before .before .before .pre .0 .rows)
+array-read-add-multiple c = omega (arith, c .before .before .before .before .pre .0 .rows)
 
 sub-add-multiple : tie.Need-sub-add-multiple Inv-loop μ-loop
-sub-add-multiple c = omega (arith, c .before .before .before .before .pre .2 .small (c .before .before .before .loop .r))
+sub-add-multiple c = omega (arith, c .before .before .before .before .before .pre .2 .small (c .before .before .before .before .loop .r))
 
 add-multiple-requires : tie.Need-add-multiple-requires Inv-loop μ-loop
 add-multiple-requires c κs =
-    let start = c .before .before .before .before in
-    let l = c .before .before .before .loop in
+    let start = c .before .before .before .before .before in
+    let l = c .before .before .before .before .loop in
     let f = start .pre .0 in
     (f .reciprocal, l .inv .2 .done (l .r) (omega (arith, f .rows)), start .pre .3, omega arith)
 
 mul-next : tie.Need-mul-next Inv-loop μ-loop
-mul-next c = omega (arith, c .before .before .before .before .before .pre .0 .rows)
+mul-next c = omega (arith, c .before .before .before .before .before .before .pre .0 .rows)
 
 element-set-from-next : tie.Need-element-set-from-next Inv-loop μ-loop
-element-set-from-next c = omega (arith, c .before .before .before .before .before .pre .0 .rows)
+element-set-from-next c = omega (arith, c .before .before .before .before .before .before .pre .0 .rows)
 
 add-r : tie.Need-add-r Inv-loop μ-loop
 add-r c = search needs
@@ -62,12 +80,15 @@ loop-less c = search needs
 
 loop-again : tie.Need-loop-again Inv-loop μ-loop
 loop-again c =
-    let f = c .before .before .before .before .before .pre .0 in
-    let l = c .before .before .before .before .loop in
+    let start = c .before .before .before in
+    let f = start .pre .0 in
+    let l = c .before .before .loop in
     let h : l .r < 16 = omega (arith, f .rows) in
-    let e = c .add-multiple .ensures in
     let as-it-was = l .inv .3 .todo (l .r) (omega arith) (omega arith) in
-    (refl, omega arith, upto-put _ h (result-row _ (positive f) e) (l .inv .2), passed-step _ h (rw as-it-was at e) (l .inv .3))
+    ⊎-elim
+    (λ w. rw (w .4) (refl, omega arith, upto-put _ h (result-row _ (positive f) (w .3 .ensures)) (l .inv .2), passed-step _ h (rw as-it-was at (w .3 .ensures)) (l .inv .3)))
+    (λ w. rw (w .1) (refl, omega arith, l .inv .2, passed-over (rw as-it-was (unchanged (start .args .power) (start .pre .1 .done (l .r) h) (positive f) (w .0 .left))) (l .inv .3)))
+    (c .if1 .came)
 
 returns : tie.Need-returns Inv-loop μ-loop
 returns c = let l = c .before .loop in record { rows = l .inv .2; each = λ r h. l .inv .3 .done r (omega arith) }
@@ -79,6 +100,8 @@ subtract-spec =
     Inv-loop
     μ-loop
     loop-holds
+    mul-if1
+    array-read-if1
     mul-row
     element-copy-out-row
     mul-add-multiple
