@@ -1,23 +1,24 @@
--- Squares of loaded cells, row by row: their rows, and the cells that are changed. Assumes nothing.
+-- Squares of loaded cells, row by row: their rows, from the bytes lent, and the cells that are changed. Assumes nothing.
 use mathlib.Core.Path.{_≡_, refl, sym, ap, ap₂, _∙_}
 use mathlib.Core.Logic.{_⊎_, inl, inr}
 use mathlib.Core.Bool.{Bool, true, false, cond}
 use mathlib.Core.List.{List}
 use Prim.Native.Nat.{ℕ, _+_, _*_, _-_, _≤_, _<_}
 use native.Mathlib.Omega.{arith}
-use native.Mathlib.Decide.{ℕ-discrete}
+use native.Mathlib.Decide.{ℕ-discrete, decLt}
 use native.Mathlib.Nat.{mul-le-mul-right}
 use lib.Dec.{eqb}
-use lib.ListN.{replicate, getD-replicate}
-use borrow.Author.Tests.{eqb-true, eqb-false, eq-eqb, ne-eqb, lt-ltb}
+use lib.ListN.{length, take, drop, replicate, length-replicate, getD-replicate}
+use borrow.Author.Tests.{eqb-true, eqb-false, eq-eqb, ne-eqb, lt-ltb, le-ltb}
 use Rattle.bounded.specs.Bounded.{at}
 use Rattle.bounded.proofs.Sum.{sum-eq, sum-more}
-use Rattle.bounded.proofs.Tab.{tab-eq}
+use Rattle.bounded.proofs.Tab.{tab-eq, tab-is}
 use Rattle.field.specs.Congruence.{Cong}
 use Rattle.field.specs.Row.{row}
 use Rattle.field.proofs.Congruence.{same, below-eq, cancel, _⨾_}
-use Rattle.field.proofs.Row.{row-at}
+use Rattle.field.proofs.Row.{row-at, beyond}
 use Rattle.definitions.specs.Cost.{unread, changed}
+use Rattle.records.proofs.Measured.{part-at, part-length}
 use Rattle.reed_muller.specs.Loops.{cells}
 use Rattle.marks.specs.Loading.{residue, squareCell}
 use Rattle.marks.specs.Changed.{flag, changedCells}
@@ -27,6 +28,20 @@ product-small {n} {r} h l = omega (arith, mul-le-mul-right n l)
 
 pub cell-at : (n : ℕ) (s : List ℕ) (r c : ℕ) → c < n → squareCell n s r c ≡ at s (r * n + c)
 cell-at n s r c l = rw (lt-ltb c n l)
+
+-- row r of the square s of n columns, from its own part of the bytes
+pub part-line : (n r : ℕ) (s : List ℕ) {l : List ℕ} → l ≡ row (at (take (r * n + n - r * n) (drop (r * n) s))) → r * n + n ≤ length s → l ≡ row (squareCell n s r)
+part-line n r s e h = e ∙ tab-eq 16 λ c _. elim (decLt c n) [
+  | yes m ↦ part-at (r * n) n s c m ∙ sym (cell-at n s r c m)
+  | no m ↦ beyond (take (r * n + n - r * n) (drop (r * n) s)) c (omega (arith, part-length (r * n) n s h)) ∙ sym (rw (le-ltb c n (omega arith)))
+]
+
+-- below the square there is nothing
+pub no-line : (n r : ℕ) (s : List ℕ) → n ≤ r → length s ≡ n * n → replicate 16 0 ≡ row (squareCell n s r)
+no-line n r s h e = tab-is 16 (squareCell n s r) (replicate 16 0) (length-replicate {A = ℕ} 16 0) λ c l. getD-replicate {A = ℕ} 16 c 0 0 l ∙ sym (elim (decLt c n) [
+  | yes m ↦ cell-at n s r c m ∙ beyond s (r * n + c) (omega (arith, mul-le-mul-right n h))
+  | no m ↦ rw (le-ltb c n (omega arith))
+])
 
 -- the number at a place of a row that is named
 row-is : (f : ℕ → ℕ) {l : List ℕ} → l ≡ row f → (j : ℕ) → j < 16 → at l j ≡ f j

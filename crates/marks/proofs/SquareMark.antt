@@ -14,6 +14,7 @@ use borrow.Author.Tests.{le-ltb}
 use Rattle.bounded.specs.Bounded.{at, tab}
 use Rattle.bounded.proofs.Sum.{sum-eq, sum-rows, cell-row, cell-column}
 use Rattle.bounded.proofs.Tab.{length-tab, tab-at}
+use Rattle.field.specs.Prime.{Inverses}
 use Rattle.field.specs.Row.{row, Reciprocal}
 use Rattle.field.proofs.Congruence.{same, ~add, mod-cong, _⨾_}
 use Rattle.field.proofs.Row.{row-at, row-of, beyond}
@@ -45,13 +46,9 @@ use Rattle.marks.proofs.Square.{cell-at, flag-differ}
 abbrev gridOf : (P x : List ℕ) (m : ℕ) → Grid
 gridOf P x m = record { p = modulus P; m = m; x = x; a = side P; y = x; b = side P; d = degree P; full = full }
 
-module _ {P s u B x : List ℕ} {left u′ : List (List ℕ)} (t : Taken square P s u B)
-    (ex : x ≡ row (point P)) (es : SymbolRows (side P) s left) (eu : DoubtLines (side P) u u′) where
+module _ {P s u B : List ℕ} {left : List (List ℕ)} (t : Taken square P s u B) (es : SymbolRows (side P) s left) where
   positive : 0 < modulus P
   positive = omega (arith, t .sound .prime .least)
-
-  point-at : (i : ℕ) → i < side P → at x i ≡ point P i
-  point-at i l = let k : i < 16 = omega (arith, t .sound .most) in rw ex (row-at (point P) i k)
 
   inside : (r c : ℕ) → r < side P → c < side P → r * side P + c < side P * side P
   inside r c l m = omega (arith, mul-le-mul-right (side P) l)
@@ -61,16 +58,6 @@ module _ {P s u B x : List ℕ} {left u′ : List (List ℕ)} (t : Taken square 
       ap (λ v. at v c) (es .done r (omega (arith, t .sound .most)))
       ∙ row-at (λ c. residue (squareCell (side P) s r c)) c (omega (arith, t .sound .most))
       ∙ ap residue (cell-at (side P) s r c m)
-
-  doubt-at : (r c : ℕ) → r < side P → c < side P → cells u′ r c ≡ at u (r * side P + c)
-  doubt-at r c l m =
-      ap (λ v. at v c) (eu .done r (omega (arith, t .sound .most)))
-      ∙ row-at (squareCell (side P) u r) c (omega (arith, t .sound .most))
-      ∙ cell-at (side P) u r c m
-
-  loaded : LoadedGrid full (side P) (side P) s u (cells left) (cells u′)
-  loaded r c l m = rw (symbol-at r c l m, doubt-at r c l m)
-      (residue-loaded (at s (r * side P + c)) (at u (r * side P + c)) (t .photo .erased (r * side P + c) (inside r c l m)))
 
   known : (r c : ℕ) → (squareCell (side P) s r c < modulus P) ⊎ (squareCell (side P) s r c ≡ unread)
   known r c = column (decLt c (side P)) (decLt r (side P))
@@ -83,18 +70,35 @@ module _ {P s u B x : List ℕ} {left u′ : List (List ℕ)} (t : Taken square 
           inl (rw (cell-at (side P) s r c m, beyond s (r * side P + c) h) positive)
       column (no m) l = let k : side P ≤ c = omega arith in inl (rw (le-ltb c (side P) k) positive)
 
-  symbol-rows : Rows (modulus P) left
+  pub symbol-rows : Rows (modulus P) left
   symbol-rows = record {
     size = es .size;
     done = λ r k. rw (es .done r k) (row-of positive (length-tab 16 _) λ c m.
         rw (row-at (λ c. residue (squareCell (side P) s r c)) c m) (residue-below positive (known r c)));
   }
 
-  pub mark-received : {m : ℕ} → Reciprocal (modulus P) m → Fit (gridOf P x m) × Rows (modulus P) left × DoubtRows (gridOf P x m) u′
-  mark-received R = (
+module _ {P s u B x : List ℕ} {left u′ : List (List ℕ)} (t : Taken square P s u B)
+    (ex : x ≡ row (point P)) (es : SymbolRows (side P) s left) (eu : DoubtLines (side P) u u′) where
+  point-at : (i : ℕ) → i < side P → at x i ≡ point P i
+  point-at i l = let k : i < 16 = omega (arith, t .sound .most) in rw ex (row-at (point P) i k)
+
+  doubt-at : (r c : ℕ) → r < side P → c < side P → cells u′ r c ≡ at u (r * side P + c)
+  doubt-at r c l m =
+      ap (λ v. at v c) (eu .done r (omega (arith, t .sound .most)))
+      ∙ row-at (squareCell (side P) u r) c (omega (arith, t .sound .most))
+      ∙ cell-at (side P) u r c m
+
+  loaded : LoadedGrid full (side P) (side P) s u (cells left) (cells u′)
+  loaded r c l m = rw (symbol-at t es r c l m, doubt-at r c l m)
+      (residue-loaded (at s (r * side P + c)) (at u (r * side P + c)) (t .photo .erased (r * side P + c) (inside t es r c l m)))
+
+  pub mark-received : {m : ℕ} {v : List ℕ} → Reciprocal (modulus P) m → Inverses (modulus P) v →
+      Fit (gridOf P x m) × Rows (modulus P) left × DoubtRows (gridOf P x m) u′ × Inverses (modulus P) v
+  mark-received R table = (
     square-fits (t .sound) R (rw ex (points-row (t .sound))) point-at (omega arith),
-    symbol-rows,
-    λ r l c m. rw (doubt-at r c l m) (t .photo .doubt (r * side P + c) (inside r c l m)),
+    symbol-rows t es,
+    λ r l c m. rw (doubt-at r c l m) (t .photo .doubt (r * side P + c) (inside t es r c l m)),
+    table,
   )
 
   -- what the decoder answers, and what it leaves
@@ -147,8 +151,8 @@ module _ {P s u B x : List ℕ} {left u′ : List (List ℕ)} (t : Taken square 
       cell-changed r c l m =
           let R = D .remains z in
           rw (cell-at (side P) s r c m, value-at r c l m)
-          (flag-differ (t .sound .small) (t .photo .symbol (r * side P + c) (inside r c l m)) (omega (arith, R .below r c l m, positive)) (mod-lt (line-value r c) positive)
-          (~add (same refl) (mod-cong positive (line-value r c)) ⨾ R .whole r c l m ⨾ same (symbol-at r c l m)))
+          (flag-differ (t .sound .small) (t .photo .symbol (r * side P + c) (inside t es r c l m)) (omega (arith, R .below r c l m, positive t es)) (mod-lt (line-value r c) (positive t es))
+          (~add (same refl) (mod-cong (positive t es) (line-value r c)) ⨾ R .whole r c l m ⨾ same (symbol-at t es r c l m)))
 
       changed-of : changedCells (side P) (side P) s after ≡ changedOf square P s W
       changed-of = sym (sum-rows (side P) (side P) _ ∙ sum-eq (side P) λ r l. sum-eq (side P) λ c m. sym (cell-changed r c l m))

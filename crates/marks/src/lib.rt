@@ -1,4 +1,5 @@
-// Writing, measuring and reading marks and strips, where no refusal applies: what the calls do after their checks.
+// Reading marks and strips, where no refusal applies: what the calls do after their checks.
+pub mod guess;
 pub mod load;
 pub mod mark;
 pub mod reading;

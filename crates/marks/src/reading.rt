@@ -1,10 +1,14 @@
-// Reading a photographed strip or mark where refusals 1 to 8 do not apply: the one record within the radius goes into the lent
+// Reading a photographed strip where refusals 1 to 8 do not apply: the one record within the radius goes into the lent
 // buffer; where there is none the buffer stays as it was, and the number is 10.
-use crate::load;
+use crate::load::residues;
+use definitions::FULL;
 use definitions::Reading;
 use distance::summary;
 use distance::word;
+use field::inverse::inverses;
 use field::rows::reciprocal;
+use records::load;
+use records::writing::write_row;
 ghost use mathlib.Core.Path.{_≡_};
 ghost use Prim.Native.Nat.{ℕ, _≤_, _<_};
 ghost use lib.ListN.{length};
@@ -12,9 +16,6 @@ ghost use Rattle.bounded.specs.Bounded.{at, tab};
 ghost use Rattle.definitions.specs.Code.{strip as stripCode};
 ghost use Rattle.marks.specs.Loading.{Taken};
 ghost use Rattle.definitions.specs.Reads.{Reads};
-
-// The full doubt of a photograph.
-const FULL: u32 = 100;
 
 // The strip, of degree d over n points.
 pub fn read_strip(plan: &[u8], symbols: &[u8], doubts: &[u8], record: &mut [u8]) -> Reading
@@ -26,9 +27,11 @@ pub fn read_strip(plan: &[u8], symbols: &[u8], doubts: &[u8], record: &mut [u8])
     let d = plan[4] as usize;
     let x = plan::points(plan);
     let seen = load::row(symbols);
-    let s = load::residues(seen);
+    let s = residues(seen);
     let u = load::doubts(doubts);
-    let a = reed_solomon::decoder::decode(p, reciprocal(p), x, n, d, FULL, s, u);
+    let m = reciprocal(p);
+    let table = inverses(p, m);
+    let a = reed_solomon::decoder::decode(p, m, &table, x, n, d, FULL, s, u);
     if !a.found {
         return summary::refused(10);
     }
@@ -38,14 +41,4 @@ pub fn read_strip(plan: &[u8], symbols: &[u8], doubts: &[u8], record: &mut [u8])
     let changed = word::word_changed(n, seen, values);
     let radius = summary::radius(FULL, 1, n, d);
     summary::reading(radius, a.cost, changed)
-}
-
-// The first numbers of a row, as many as there are bytes in the part that is lent.
-pub fn write_row(part: &mut [u8], values: [u16; 16])
-    requires { ⌜ (length (now part) ≤ 16) × ((j : ℕ) → at values j < 256) ⌝ }
-    ensures { λ _. ⌜ now (part .exit) ≡ tab (length (now (part .entry))) (at values) ⌝ }
-{
-    for j in 0..part.len() {
-        part[j] = values[j] as u8;
-    }
 }

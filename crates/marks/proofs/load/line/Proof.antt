@@ -1,60 +1,38 @@
--- `marks::load::line` meets its contract: the places below c are set. Assumes nothing.
-use mathlib.Core.Path.{_≡_, refl}
-use Prim.Native.Nat.{_-_, _≤_}
+-- `marks::load::line` meets its contract: a row has its own part of the bytes, and below the square there is nothing. Assumes nothing.
 use native.Mathlib.Omega.{arith}
-use Rattle.field.specs.Loop.{Upto}
-use Rattle.field.proofs.Loop.{upto-start, upto-step, upto-less}
-use Rattle.field.proofs.Row.{upto-row}
-use Rattle.marks.specs.Loading.{squareCell}
+use Rattle.records.proofs.Square.{row-in}
+use Rattle.marks.proofs.Square.{product-small, part-line, no-line}
 use borrow.Author.Needs.{needs}
 use Rattle.marks.proofs.load.line.Statement.{statement}
 use Rattle.marks.proofs.load.line.Tie as tie
 
-abbrev Inv-loop : tie.InvT-loop
-Inv-loop bytes n r out₀ c₀ out c = (c ≤ 16) × Upto 16 0 (λ k v. v ≡ squareCell n bytes r k) out c
+mul-at : tie.Need-mul-at
+mul-at c = let b = c .before .before .pre in omega (arith, product-small (b .0) (b .1))
 
-abbrev μ-loop : tie.MeasureT-loop
-μ-loop bytes n r out₀ c₀ out c = 16 - c
+add-row : tie.Need-add-row
+add-row c = let b = c .before .before .pre in omega (arith, product-small (b .0) (b .1))
 
-loop-holds : tie.Need-loop-holds Inv-loop μ-loop
-loop-holds c = (omega arith, upto-start refl)
+sub-row : tie.Need-sub-row
+sub-row c = search needs
 
-cell-requires : tie.Need-cell-requires Inv-loop μ-loop
-cell-requires c κs = search needs
+part-row-start : tie.Need-part-row-start
+part-row-start c = search needs
 
-cast-out : tie.Need-cast-out Inv-loop μ-loop
-cast-out c = search needs
+part-row-end : tie.Need-part-row-end
+part-row-end c = omega (arith, c .before .before .pre .2, row-in _ _ (c .if1 .taken))
 
-mul-out : tie.Need-mul-out Inv-loop μ-loop
-mul-out c = search needs
+row-requires : tie.Need-row-requires
+row-requires c κs = search needs
 
-array-write-out : tie.Need-array-write-out Inv-loop μ-loop
-array-write-out c = search needs
+returns : tie.Need-returns
+returns c =
+    let b = c .before .before .before .before in
+    part-line (b .args .n) (b .args .r) (b .args .bytes .now) (c .row .ensures) (omega (arith, b .pre .2, row-in (b .args .r) (b .args .n) (c .before .before .if1 .taken)))
 
-add-c : tie.Need-add-c Inv-loop μ-loop
-add-c c = search needs
-
-loop-less : tie.Need-loop-less Inv-loop μ-loop
-loop-less c = search needs
-
-loop-again : tie.Need-loop-again Inv-loop μ-loop
-loop-again c = (omega arith, upto-step _ (omega arith) (c .cell .ensures .0) (c .before .before .loop .inv .1))
-
-returns : tie.Need-returns Inv-loop μ-loop
-returns c = upto-row (upto-less (omega arith) (c .before .loop .inv .1))
+returns-2 : tie.Need-returns-2
+returns-2 c = let b = c .before .before in no-line (b .args .n) (b .args .r) (b .args .bytes .now) (c .if1 .left) (b .pre .2)
 
 pub line-spec : {M : Type 1} → statement M
 line-spec =
     tie.close
-    (tie.spec
-    Inv-loop
-    μ-loop
-    loop-holds
-    cell-requires
-    cast-out
-    mul-out
-    array-write-out
-    add-c
-    loop-less
-    loop-again
-    returns)
+    (tie.spec mul-at add-row sub-row part-row-start part-row-end row-requires returns returns-2)

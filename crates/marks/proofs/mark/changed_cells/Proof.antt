@@ -46,8 +46,8 @@ loop-again c =
     let line = c .before .before .before in
     let l = line .before .before .loop in
     let start = line .before .before .before .before in
-    let more = changed-more (start .args .n) (l .r) (start .args .symbols .now) (start .args .left .now) (start .pre) (line .line .ensures) (c .before .flags .ensures) in
-    (omega arith, omega (arith, more, l .inv .1, c .word-changed .ensures .0), omega (arith, c .word-changed .ensures .1, start .pre))
+    let more = changed-more (start .args .n) (l .r) (start .args .symbols .now) (start .args .left .now) (start .pre .0) (line .line .ensures) (c .before .flags .ensures) in
+    (omega arith, omega (arith, more, l .inv .1, c .word-changed .ensures .0), omega (arith, c .word-changed .ensures .1, start .pre .0))
 
 returns : tie.Need-returns Inv-loop μ-loop
 returns c = let l = c .before .loop in let e : l .r ≡ c .before .before .before .args .n = omega arith in rw e at (l .inv .1)

@@ -1,6 +1,7 @@
--- `marks::mark::read_mark` meets its contract: what is loaded is what the decoder asks for, and its answer is the reading. Assumes nothing.
-use Rattle.marks.proofs.Loading.{negated}
-use Rattle.marks.proofs.SquareMark.{mark-received, mark-refused, mark-under, mark-reading, message-room, message-small}
+-- `marks::mark::read_mark` meets its contract: by the laws of the early answers, and else by the decoder. Assumes nothing.
+use native.Mathlib.Omega.{arith}
+use Rattle.marks.proofs.Early.{size-most, cells-most, first-points, guess-byte, doubts-refuse, guess-reads}
+use Rattle.marks.proofs.SquareMark.{symbol-rows}
 use borrow.Author.Needs.{needs}
 use Rattle.marks.proofs.mark.read_mark.Statement.{statement}
 use Rattle.marks.proofs.mark.read_mark.Tie as tie
@@ -23,84 +24,64 @@ shared-slice-read-d c = search needs
 cast-d : tie.Need-cast-d
 cast-d c = search needs
 
-points-requires : tie.Need-points-requires
-points-requires c κs = search needs
+radius-requires : tie.Need-radius-requires
+radius-requires c κs = search needs
 
-residue-rows-requires : tie.Need-residue-rows-requires
-residue-rows-requires c κs = search needs
-
-doubt-rows-requires : tie.Need-doubt-rows-requires
-doubt-rows-requires c κs = search needs
-
-reciprocal-requires : tie.Need-reciprocal-requires
-reciprocal-requires c κs = search needs
-
-decode-requires : tie.Need-decode-requires
-decode-requires c κs =
-    let r = c .before in
-    let d = r .before in
-    let s = d .before in
-    let x = s .before in
-    let t = x .before .before .before .before .before .before .before .before .pre in
-    mark-received t (x .points .ensures) (s .residue-rows .ensures) (d .doubt-rows .ensures) (r .reciprocal .ensures)
+total-requires : tie.Need-total-requires
+total-requires c κs = let t = c .before .before .before .before .before .before .before .before .pre in omega (arith, cells-most (t .sound), t .photo .doubts)
 
 refused-requires : tie.Need-refused-requires
 refused-requires c κs = search needs
 
 returns : tie.Need-returns
 returns c =
-    let e = c .before .before .before in
-    let r = e .before .before in
-    let d = r .before in
-    let s = d .before in
-    let x = s .before in
-    let t = x .before .before .before .before .before .before .before .before .pre in
-    rw (c .refused .ensures) (mark-refused t (x .points .ensures) (s .residue-rows .ensures) (d .doubt-rows .ensures) (e .decode .ensures) (negated _ (c .before .if1 .taken)))
+    let t = c .before .before .before .before .before .before .before .before .before .before .before .pre in
+    rw (c .refused .ensures) (doubts-refuse t (omega (arith, c .before .before .total .ensures, c .before .before .before .radius .ensures .0, c .before .if1 .taken)))
+
+reciprocal-requires : tie.Need-reciprocal-requires
+reciprocal-requires c κs = search needs
+
+inverses-requires : tie.Need-inverses-requires
+inverses-requires c κs = search needs
+
+residue-rows-requires : tie.Need-residue-rows-requires
+residue-rows-requires c κs = search needs
+
+points-requires : tie.Need-points-requires
+points-requires c κs = search needs
+
+message-requires : tie.Need-message-requires
+message-requires c κs =
+    let t = c .before .before .before .before .before .before .before .before .before .before .before .before .before .before .before .pre in
+    (c .before .before .before .before .reciprocal .ensures, c .before .before .before .inverses .ensures, symbol-rows t (c .before .before .residue-rows .ensures), first-points (t .sound) (c .before .points .ensures), omega (arith, t .sound .low, t .sound .most))
+
+slice-aggregate-guessed : tie.Need-slice-aggregate-guessed
+slice-aggregate-guessed c = search needs
+
+guessed-requires : tie.Need-guessed-requires
+guessed-requires c κs = search needs
 
 write-message-requires : tie.Need-write-message-requires
 write-message-requires c κs =
-    let i = c .before .before in
-    let e = i .before .before in
-    let r = e .before .before in
-    let d = r .before in
-    let s = d .before in
-    let x = s .before in
-    let t = x .before .before .before .before .before .before .before .before .pre in
-    (message-room t (x .points .ensures) (s .residue-rows .ensures) (d .doubt-rows .ensures) (e .decode .ensures), message-small t (x .points .ensures) (s .residue-rows .ensures) (d .doubt-rows .ensures) (e .decode .ensures) (negated _ (i .if1 .left)))
-
-changed-cells-requires : tie.Need-changed-cells-requires
-changed-cells-requires c κs = search needs
-
-radius-requires : tie.Need-radius-requires
-radius-requires c κs = search needs
-
-reading-requires : tie.Need-reading-requires
-reading-requires c κs =
-    let i = c .before .before .before .before .before .before .before .before in
-    let e = i .before .before in
-    let r = e .before .before in
-    let d = r .before in
-    let s = d .before in
-    let x = s .before in
-    let t = x .before .before .before .before .before .before .before .before .pre in
-    (c .radius .ensures .1, mark-under t (x .points .ensures) (s .residue-rows .ensures) (d .doubt-rows .ensures) (e .decode .ensures) (negated _ (i .if1 .left)))
+    let t = c .before .before .before .before .before .before .before .before .before .before .before .before .before .before .before .before .before .before .before .before .before .before .pre in
+    (omega (arith, size-most (t .sound), t .room), λ j l. guess-byte (t .sound) (c .before .before .before .before .before .before .message .ensures) (t .room) j l)
 
 same-length : tie.Need-same-length
 same-length c = search needs
 
 returns-2 : tie.Need-returns-2
 returns-2 c =
-    let k = c .before .before in
-    let w = k .before .before .before .before in
-    let i = w .before .before .before in
-    let e = i .before .before in
-    let r = e .before .before in
-    let d = r .before in
-    let s = d .before in
-    let x = s .before in
-    let t = x .before .before .before .before .before .before .before .before .pre in
-    rw (c .reading .ensures, c .before .radius .ensures .0)
-    (mark-reading t (x .points .ensures) (s .residue-rows .ensures) (d .doubt-rows .ensures) (e .decode .ensures) (negated _ (i .if1 .left)) (w .write-message .ensures) (k .changed-cells .ensures))
+    let t = c .before .before .before .before .before .before .before .before .before .before .before .before .before .before .before .before .before .before .before .before .before .before .before .before .before .pre in
+    guess-reads t (c .before .before .before .before .before .before .before .before .before .message .ensures) (c .before .before .write-message .ensures) (c .before .before .before .before .before .before .before .guessed .ensures) (omega (arith, c .before .before .before .before .before .before .before .before .before .before .before .before .before .before .before .before .before .radius .ensures .0, c .before .before .before .before .if2 .taken))
+
+read-by-degrees-requires : tie.Need-read-by-degrees-requires
+read-by-degrees-requires c κs = (c .before .before .before .before .before .before .before .before .before .before .before .before .before .before .before .before .before .before .before .before .before .before .before .before .pre, c .before .before .before .before .before .before .before .before .before .before .before .residue-rows .ensures, c .before .before .before .before .before .before .before .before .before .before .before .before .inverses .ensures)
+
+same-length-2 : tie.Need-same-length-2
+same-length-2 c = search needs
+
+returns-3 : tie.Need-returns-3
+returns-3 c = search needs
 
 pub read-mark-spec : {M : Type 1} → statement M
 read-mark-spec =
@@ -112,16 +93,20 @@ read-mark-spec =
     cast-n
     shared-slice-read-d
     cast-d
-    points-requires
-    residue-rows-requires
-    doubt-rows-requires
-    reciprocal-requires
-    decode-requires
+    radius-requires
+    total-requires
     refused-requires
     returns
+    reciprocal-requires
+    inverses-requires
+    residue-rows-requires
+    points-requires
+    message-requires
+    slice-aggregate-guessed
+    guessed-requires
     write-message-requires
-    changed-cells-requires
-    radius-requires
-    reading-requires
     same-length
-    returns-2)
+    returns-2
+    read-by-degrees-requires
+    same-length-2
+    returns-3)

@@ -39,14 +39,17 @@ doubts-requires c κs = search needs
 reciprocal-requires : tie.Need-reciprocal-requires
 reciprocal-requires c κs = search needs
 
+inverses-requires : tie.Need-inverses-requires
+inverses-requires c κs = search needs
+
 decode-requires : tie.Need-decode-requires
 decode-requires c κs =
-    let d = c .before in
+    let d = c .before .before .before in
     let n = d .before in
     let w = n .before in
     let x = w .before in
     let t = x .before .before .before .before .before .before .before .before .pre in
-    strip-received t (x .points .ensures) (w .row .ensures) (n .residues .ensures) (d .doubts .ensures) _ (c .reciprocal .ensures)
+    (strip-received t (x .points .ensures) (w .row .ensures) (n .residues .ensures) (d .doubts .ensures) _ (c .before .before .reciprocal .ensures), c .before .inverses .ensures)
 
 refused-requires : tie.Need-refused-requires
 refused-requires c κs = search needs
@@ -54,7 +57,7 @@ refused-requires c κs = search needs
 returns : tie.Need-returns
 returns c =
     let a = c .before .before .before in
-    let d = a .before .before in
+    let d = a .before .before .before .before in
     let n = d .before in
     let w = n .before in
     let x = w .before in
@@ -64,7 +67,7 @@ returns c =
 write-row-requires : tie.Need-write-row-requires
 write-row-requires c κs =
     let a = c .before .before .before .before .before in
-    let d = a .before .before in
+    let d = a .before .before .before .before in
     let n = d .before in
     let w = n .before in
     let x = w .before in
@@ -72,12 +75,12 @@ write-row-requires c κs =
     (omega (arith, t .room, t .sound .low, t .sound .most), λ j. omega (arith, a .decode .ensures .small .small j, t .sound .small))
 
 word-changed-requires : tie.Need-word-changed-requires
-word-changed-requires c κs = search needs
+word-changed-requires c κs = c .before .before .before .before .before .before .before .before .before .before .before .before .before .before .before .before .before .before .before .before .before .before .before .pre .sound .most
 
 radius-requires : tie.Need-radius-requires
 radius-requires c κs =
     let a = c .before .before .before .before .before .before .before .before .before in
-    let d = a .before .before in
+    let d = a .before .before .before .before in
     let n = d .before in
     let w = n .before in
     let x = w .before in
@@ -88,7 +91,7 @@ reading-requires : tie.Need-reading-requires
 reading-requires c κs =
     let e = c .before .before .before .before .before .before .before .before in
     let a = e .before .before in
-    let d = a .before .before in
+    let d = a .before .before .before .before in
     let n = d .before in
     let w = n .before in
     let x = w .before in
@@ -104,7 +107,7 @@ returns-2 c =
     let s = u .before .before .before in
     let e = s .before .before .before .before in
     let a = e .before .before in
-    let d = a .before .before in
+    let d = a .before .before .before .before in
     let n = d .before in
     let w = n .before in
     let x = w .before in
@@ -127,6 +130,7 @@ read-strip-spec =
     residues-requires
     doubts-requires
     reciprocal-requires
+    inverses-requires
     decode-requires
     refused-requires
     returns
