@@ -3,6 +3,10 @@
 
 CARGO = cargo --offline
 
+# a command that fails fails its pipe
+SHELL = /bin/bash
+.SHELLFLAGS = -eu -o pipefail -c
+
 # Reads a tray end to end: case c of document 01, by the program.
 example: program
 	target/bin/trayread < crates/trayread/stdin
@@ -29,8 +33,9 @@ tests: lib program
 bench: lib
 	$(CARGO) run --quiet --release -p traymark-bench
 
-# The whole gate; its last line is that of `rt ci`, which proves everything again from nothing.
+# The whole gate. `rt ci` proves everything from nothing; then come the tests, over the library that it proved; its last line is told last.
 test:
 	rt fmt --check
+	rt ci 2>&1 | tee .verdict
 	$(MAKE) --no-print-directory tests
-	rt ci
+	tail -n 1 .verdict
