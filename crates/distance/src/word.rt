@@ -38,7 +38,7 @@ pub fn word_cost(
 }
 
 // 1 for a cell whose symbol is not the value.
-fn cell_changed(symbol: u16, value: u16) -> u32
+pub fn cell_changed(symbol: u16, value: u16) -> u32
     ensures { λ r. ⌜ (r ≡ differ symbol value) × (r ≤ 1) ⌝ }
 {
     if symbol == value {

@@ -48,24 +48,24 @@ fn divide_differences(
     }
 }
 
-// Their coefficients by powers, from Newton's.
+// Their coefficients by powers, from Newton's: from the highest on each is freed of a multiple of the one above it, as just made, so that
+// the compiler doesn't work across rows.
 fn change_to_powers(f: &mut [[u16; 16]; 16], x: [u16; 16], d: usize, p: u16, m: u16)
     requires { ⌜ Reciprocal p m × Rows p (now f) × Points p (suc d) (at x) × (d < 16) ⌝ }
     ensures { λ _. ⌜ Rows p (now (f .exit)) ⌝ }
 {
-    let mut k = d;
-    while k > 0 {
-        k -= 1;
-        let c = p - x[k];
-        let mut low = f[k];
-        let mut j = k;
-        while j < d {
-            let high = f[j + 1];
-            let next = rows::add_multiple(low, c, high, p, m);
+    let mut i = 0;
+    while i < d {
+        let mut high = f[d];
+        let mut j = d;
+        while j > i {
+            j -= 1;
+            let row = f[j];
+            let next = rows::add_multiple(row, p - x[j - i], high, p, m);
             f[j] = next;
-            low = high;
-            j += 1;
+            high = next;
         }
+        i += 1;
     }
 }
 

@@ -1,5 +1,4 @@
--- Measuring row by row: rows loaded from lent bytes, a part of the bytes, equal cells, one row more, and the reading that it comes to.
--- Assumes nothing.
+-- Measuring row by row: a part of the lent bytes, equal cells, one row more, and the reading that it comes to. Assumes nothing.
 use mathlib.Core.Path.{_≡_, sym, ap₂, _∙_}
 use mathlib.Core.List.{List}
 use Prim.Native.Nat.{ℕ, _+_, _*_, _-_, _≤_, _<_}
@@ -10,18 +9,12 @@ use lib.ListN.{length, take, drop, length-drop}
 use lib.Seq.{getD-take, getD-drop, length-take-le}
 use Rattle.bounded.specs.Bounded.{at}
 use Rattle.bounded.proofs.Sum.{sum-eq, sum-append}
-use Rattle.field.specs.Row.{row}
-use Rattle.field.proofs.Row.{row-at}
 use Rattle.definitions.specs.Code.{Code, cells, value}
 use Rattle.definitions.specs.Cost.{full, cell, radius}
 use Rattle.definitions.specs.Calls.{readingOf}
 use Rattle.distance.specs.Level.{differ}
 use Rattle.distance.specs.Summary.{summary}
 use Rattle.records.specs.Measured.{Measured}
-
--- a row of lent bytes
-pub loaded : (n : ℕ) (s : List ℕ) {l : List ℕ} → n ≤ 16 → l ≡ row (at s) → (i : ℕ) → i < n → at l i ≡ at s i
-loaded n s h e i k = let m : i < 16 = omega arith in rw e (row-at (at s) i m)
 
 -- a part of n bytes from a on
 pub part-at : (a n : ℕ) (s : List ℕ) (i : ℕ) → i < n → at (take (a + n - a) (drop a s)) i ≡ at s (a + i)

@@ -93,10 +93,12 @@ fn measure_row(symbols: &[u8], doubts: &[u8], n: usize, values: [u16; 16]) -> Ta
     requires { ⌜ (n ≤ 16) × Doubts full n (at (now doubts)) × (length (now symbols) ≡ n) × (length (now doubts) ≡ n) ⌝ }
     ensures { λ t. ⌜ Measured n (at (now (symbols .entry))) (at (now (doubts .entry))) (at values) (t .cost) (t .changed) × (t .cost ≤ 131072 * n) × (t .changed ≤ n) ⌝ }
 {
-    let s = load::row(symbols);
-    let u = load::doubts(doubts);
-    Tally {
-        cost: word::word_cost(n, s, u, values, FULL),
-        changed: word::word_changed(n, s, values),
+    let mut cost = 0;
+    let mut changed = 0;
+    for j in 0..n {
+        let symbol = symbols[j] as u16;
+        cost += word::cell_cost(symbol, doubts[j] as u32, values[j], FULL);
+        changed += word::cell_changed(symbol, values[j]);
     }
+    Tally { cost, changed }
 }

@@ -1,38 +1,111 @@
--- `records::measuring::measure_row` meets its contract: a row's cells are those of the lent bytes. Assumes nothing.
-use mathlib.Core.Path.{refl}
+-- `records::measuring::measure_row` meets its contract: the cells before j are measured. Assumes nothing.
+use mathlib.Core.Path.{_≡_, refl}
+use Prim.Native.Nat.{_*_, _-_, _≤_}
 use native.Mathlib.Omega.{arith}
-use Rattle.records.proofs.Measured.{loaded, measured-eq}
+use Rattle.bounded.specs.Bounded.{at}
+use Rattle.bounded.proofs.Sum.{sum-more}
+use Rattle.definitions.specs.Cost.{full, cell}
+use Rattle.distance.specs.Level.{differ}
+use Rattle.records.specs.Measured.{Measured}
 use borrow.Author.Needs.{needs}
 use Rattle.records.proofs.measuring.measure_row.Statement.{statement}
 use Rattle.records.proofs.measuring.measure_row.Tie as tie
 
-row-requires : tie.Need-row-requires
-row-requires c κs = search needs
+abbrev Inv-loop : tie.InvT-loop
+Inv-loop symbols doubts n values cost₀ changed₀ j₀ cost changed j =
+    (j ≤ n) × Measured j (at symbols) (at doubts) (at values) cost changed × (cost ≤ 131072 * j) × (changed ≤ j)
 
-doubts-requires : tie.Need-doubts-requires
-doubts-requires c κs = search needs
+abbrev μ-loop : tie.MeasureT-loop
+μ-loop symbols doubts n values cost₀ changed₀ j₀ cost changed j = n - j
 
-word-cost-requires : tie.Need-word-cost-requires
-word-cost-requires c κs =
-    let b = c .before .before .before .before in
-    (b .pre .0, λ i l. rw (loaded (b .args .n) (b .args .doubts .now) (b .pre .0) (c .doubts .ensures) i l) (b .pre .1 i l), omega arith)
+loop-holds : tie.Need-loop-holds Inv-loop μ-loop
+loop-holds c = (omega arith, record { sum = refl; count = refl }, omega arith, omega arith)
 
-word-changed-requires : tie.Need-word-changed-requires
-word-changed-requires c κs = search needs
+shared-slice-read-symbol : tie.Need-shared-slice-read-symbol Inv-loop μ-loop
+shared-slice-read-symbol c = search needs
 
-returns : tie.Need-returns
+cast-symbol : tie.Need-cast-symbol Inv-loop μ-loop
+cast-symbol c = omega (arith, c .shared-slice-known3 .given (c .before .before .loop .j))
+
+shared-slice-read-cell-cost : tie.Need-shared-slice-read-cell-cost Inv-loop μ-loop
+shared-slice-read-cell-cost c = search needs
+
+cast-cell-cost : tie.Need-cast-cell-cost Inv-loop μ-loop
+cast-cell-cost c = omega (arith, c .shared-slice-known4 .given (c .before .before .before .loop .j))
+
+mul-cell-cost : tie.Need-mul-cell-cost Inv-loop μ-loop
+mul-cell-cost c = search needs
+
+array-read-cell-cost : tie.Need-array-read-cell-cost Inv-loop μ-loop
+array-read-cell-cost c = search needs
+
+cell-cost-requires : tie.Need-cell-cost-requires Inv-loop μ-loop
+cell-cost-requires c κs = (c .before .before .before .before .before .before .pre .1 (c .before .before .before .loop .j) (omega arith), omega arith)
+
+add-cost : tie.Need-add-cost Inv-loop μ-loop
+add-cost c = search needs
+
+mul-cell-changed : tie.Need-mul-cell-changed Inv-loop μ-loop
+mul-cell-changed c = search needs
+
+array-read-cell-changed : tie.Need-array-read-cell-changed Inv-loop μ-loop
+array-read-cell-changed c = search needs
+
+cell-changed-requires : tie.Need-cell-changed-requires Inv-loop μ-loop
+cell-changed-requires c κs = search needs
+
+add-changed : tie.Need-add-changed Inv-loop μ-loop
+add-changed c = search needs
+
+add-j : tie.Need-add-j Inv-loop μ-loop
+add-j c = search needs
+
+loop-less : tie.Need-loop-less Inv-loop μ-loop
+loop-less c = search needs
+
+loop-again : tie.Need-loop-again Inv-loop μ-loop
+loop-again c =
+    let l = c .before .before .before .before .before .loop in
+    let b = c .before .before .before .before .before .before .before .before .args in
+    let s = at (b .symbols .now) in
+    let v = at (b .t4) in
+    let paid = sum-more (l .j) (λ k. cell full (s k) (at (b .doubts .now) k) (v k)) in
+    let counted = sum-more (l .j) (λ k. differ (s k) (v k)) in (
+      omega arith,
+      record {
+        sum = omega (arith, paid, l .inv .1 .sum, c .before .cell-cost .ensures .0);
+        count = omega (arith, counted, l .inv .1 .count, c .cell-changed .ensures .0);
+      },
+      omega (arith, c .before .cell-cost .ensures .1),
+      omega (arith, c .cell-changed .ensures .1),
+    )
+
+returns : tie.Need-returns Inv-loop μ-loop
 returns c =
-    let b = c .before .before .before .before .before .before in
-    let s = loaded (b .args .n) (b .args .symbols .now) (b .pre .0) (c .before .before .before .row .ensures) in
-    let u = loaded (b .args .n) (b .args .doubts .now) (b .pre .0) (c .before .before .doubts .ensures) in
-    (measured-eq s u (λ i l. refl) (record { sum = c .before .word-cost .ensures .0; count = c .word-changed .ensures .0 }), c .before .word-cost .ensures .1, c .word-changed .ensures .1)
+    let l = c .before .loop in
+    let e : l .j ≡ c .before .before .before .before .args .n = omega arith in
+    (rw e at (l .inv .1), omega arith, omega arith)
 
 pub measure-row-spec : {M : Type 1} → statement M
 measure-row-spec =
     tie.close
     (tie.spec
-    row-requires
-    doubts-requires
-    word-cost-requires
-    word-changed-requires
+    Inv-loop
+    μ-loop
+    loop-holds
+    shared-slice-read-symbol
+    cast-symbol
+    shared-slice-read-cell-cost
+    cast-cell-cost
+    mul-cell-cost
+    array-read-cell-cost
+    cell-cost-requires
+    add-cost
+    mul-cell-changed
+    array-read-cell-changed
+    cell-changed-requires
+    add-changed
+    add-j
+    loop-less
+    loop-again
     returns)
