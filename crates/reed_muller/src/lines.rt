@@ -9,7 +9,6 @@ ghost use Rattle.field.specs.Row.{row, Row};
 ghost use Rattle.polynomial.specs.Powers.{Rows};
 ghost use Rattle.distance.specs.Doubts.{Doubts};
 ghost use Rattle.reed_muller.specs.Fit.{Fit, DoubtRows};
-ghost use Rattle.reed_muller.specs.Loops.{cells};
 ghost use Rattle.reed_muller.specs.Answers.{Answered, KnownRows, AnsweredRows, kept};
 
 // A line's message and its cost. The line hands on the message's leading coefficient, with the cost for its doubt.
@@ -77,20 +76,6 @@ pub fn answer(
         r += 1;
     }
     costs
-}
-
-// The coefficients of Y^t, one for each line.
-pub fn leading(messages: &[[u16; 16]; 16], t: usize) -> [u16; 16]
-    requires { ⌜ t < 16 ⌝ }
-    ensures { λ r. ⌜ r ≡ row (λ j. cells (now (messages .entry)) j t) ⌝ }
-{
-    let mut out = [0; 16];
-    let mut r = 0;
-    while r < 16 {
-        out[r] = messages[r][t];
-        r += 1;
-    }
-    out
 }
 
 // The cost of an answer whose leading coefficient e is the one that was found, z; else the line is to be read again.

@@ -1,6 +1,7 @@
 // The degree steps: one coefficient of Y at a time, from Y^d down to Y^0, is read from the lines and subtracted.
 use crate::grid::Grid;
 use crate::lines;
+use polynomial::bivariate;
 use polynomial::evaluation;
 ghost use mathlib.Core.Path.{_≡_};
 ghost use Prim.Native.Nat.{_%_, _^_, _≤_};
@@ -52,7 +53,7 @@ fn step(
     ensures { λ r. ⌜ Stepped g t (now (left .entry)) (now (doubts .entry)) (now (left .exit)) (now (messages .exit)) (r .found) (r .message) (r .known) ⌝ }
 {
     let costs = lines::answer(g, inverses, t, messages, known, left, doubts);
-    let leading = lines::leading(messages, t);
+    let leading = bivariate::place_of_each(messages, t);
     let radius = g.full * ((g.b - t) as u32);
     let x = g.x;
     let strip = reed_solomon::decoder::decode(

@@ -11,8 +11,8 @@ use Rattle.reed_muller.proofs.solver.step.Tie as tie
 answer-requires : tie.Need-answer-requires
 answer-requires c κs = search needs
 
-leading-requires : tie.Need-leading-requires
-leading-requires c κs = search needs
+place-of-each-requires : tie.Need-place-of-each-requires
+place-of-each-requires c κs = search needs
 
 sub-radius : tie.Need-sub-radius
 sub-radius c = search needs
@@ -33,14 +33,14 @@ decode-requires c κs =
     let start = c .before .before .before .before .before .before .before .before .before in
     let f = start .pre .0 in
     let A = c .before .before .before .before .before .before .answer .ensures in
-    let row = leading-row f _ _ _ A (c .before .before .before .before .leading .ensures) in
+    let row = leading-row f _ _ _ A (c .before .before .before .before .place-of-each .ensures) in
     let fits = line-full (start .args .t) f in
     ((f .prime, f .reciprocal, f .rowPoints, f .rowsApart, f .rows, omega (arith, f .low), omega (arith, fits, f .full), row, λ r l. A .answered r l .entered .below), start .pre .6)
 
 returns : tie.Need-returns
 returns c =
     let D = c .before .before .before .decode .ensures in
-    let leading = c .before .before .before .before .before .before .before .before .leading .ensures in
+    let leading = c .before .before .before .before .before .before .before .before .place-of-each .ensures in
     let A = c .before .before .before .before .before .before .before .before .before .before .answer .ensures in
     stepped-none (c .before .before .before .before .before .before .before .before .before .before .before .before .before .pre .0) _ _ _ A leading (D .small) (D .strip) (not-true _ (c .if1 .taken)) _ _
 
@@ -58,7 +58,7 @@ returns-2 : tie.Need-returns-2
 returns-2 c =
     let found = not-false _ (c .before .before .before .before .if1 .left) in
     let D = c .before .before .before .before .before .before .before .decode .ensures in
-    let leading = c .before .before .before .before .before .before .before .before .before .before .before .before .leading .ensures in
+    let leading = c .before .before .before .before .before .before .before .before .before .before .before .before .place-of-each .ensures in
     let A = c .before .before .before .before .before .before .before .before .before .before .before .before .before .before .answer .ensures in
     let start = c .before .before .before .before .before .before .before .before .before .before .before .before .before .before .before .before .before in
     stepped-found (start .pre .0) _ _ _ A leading (D .small) (D .strip) found (start .pre .3) (start .pre .2) (D .values found) (start .pre .5)
@@ -69,7 +69,7 @@ step-spec =
     tie.close
     (tie.spec
     answer-requires
-    leading-requires
+    place-of-each-requires
     sub-radius
     cast-radius
     mul-radius
