@@ -23,16 +23,16 @@ use Rattle.distance.proofs.Level.{some-cell}
 use Rattle.distance.proofs.Unique.{near-one}
 use Rattle.definitions.specs.Cost.{cost}
 use Rattle.polynomial.specs.Eval.{values}
-use Rattle.reed_solomon.specs.declared.interpolation.Pairs.{Pairs}
-use Rattle.reed_solomon.specs.declared.newton.Newton.{Newton}
+use Rattle.welch_berlekamp.specs.declared.interpolation.Pairs.{Pairs}
+use Rattle.welch_berlekamp.specs.declared.newton.Newton.{Newton}
 use Rattle.reed_solomon.specs.declared.decoder.Decoded.{Decoded}
-use Rattle.reed_solomon.specs.Order.{taken, key, Placed, Least, Entering}
-use Rattle.reed_solomon.specs.Pairs.{Holds, Enters}
+use Rattle.welch_berlekamp.specs.Order.{taken, key, Placed, Least, Entering}
+use Rattle.welch_berlekamp.specs.Pairs.{Holds, Enters}
 use Rattle.reed_solomon.specs.Near.{missed, Near, Refuted, Passed}
-use Rattle.reed_solomon.specs.Newton.{pairsOf, Fits}
+use Rattle.welch_berlekamp.specs.Newton.{pairsOf, Fits}
 use Rattle.reed_solomon.specs.Decoded.{Received, StripDecoded, None, Found, Tried, hit, miss}
-use Rattle.reed_solomon.proofs.Cursor.{zeros-at, key-in, key-out, keys-placed, next-cell, entered-below, left-above, entering-next}
-use Rattle.reed_solomon.proofs.State.{zeros-row}
+use Rattle.welch_berlekamp.proofs.Cursor.{zeros-at, key-in, key-out, keys-placed, next-cell, entered-below, left-above, entering-next}
+use Rattle.welch_berlekamp.proofs.State.{zeros-row}
 use Rattle.reed_solomon.proofs.Trial.{cost-values}
 
 -- what a trial says, by its answer

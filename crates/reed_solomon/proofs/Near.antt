@@ -19,7 +19,7 @@ use Rattle.polynomial.specs.Eval.{Apart}
 use Rattle.polynomial.specs.Lead.{Lead}
 use Rattle.polynomial.proofs.Lead.{narrow}
 use Rattle.polynomial.proofs.Roots.{roots}
-use Rattle.reed_solomon.specs.Interpolation.{residual, Interpolates}
+use Rattle.welch_berlekamp.specs.Interpolation.{residual, Interpolates}
 use Rattle.reed_solomon.specs.Near.{missed, Near, usable, suspect}
 
 -- a choice that is not 0

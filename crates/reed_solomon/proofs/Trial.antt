@@ -24,15 +24,15 @@ use Rattle.polynomial.specs.Lead.{Lead}
 use Rattle.polynomial.proofs.Eval.{eval-lead}
 use Rattle.polynomial.proofs.Lead.{lead-eq}
 use Rattle.reed_solomon.specs.declared.decoder.Decoded.{Decoded}
-use Rattle.reed_solomon.specs.declared.interpolation.Pairs.{Pairs}
-use Rattle.reed_solomon.specs.declared.newton.Newton.{Newton}
-use Rattle.reed_solomon.specs.Order.{taken, key}
-use Rattle.reed_solomon.specs.Pairs.{Holds}
+use Rattle.welch_berlekamp.specs.declared.interpolation.Pairs.{Pairs}
+use Rattle.welch_berlekamp.specs.declared.newton.Newton.{Newton}
+use Rattle.welch_berlekamp.specs.Order.{taken, key}
+use Rattle.welch_berlekamp.specs.Pairs.{Holds}
 use Rattle.reed_solomon.specs.Near.{missed, Near, usable, suspect, Refuted}
-use Rattle.reed_solomon.specs.Newton.{Enough, Fits, Coefficients}
+use Rattle.welch_berlekamp.specs.Newton.{Enough, Fits, Coefficients}
 use Rattle.reed_solomon.specs.Decoded.{Received, Found, Tried, hit, miss, Hoped}
-use Rattle.reed_solomon.proofs.Cursor.{zeros-at, key-in, key-out, keys-placed, marked-placed}
-use Rattle.reed_solomon.proofs.State.{ones-at}
+use Rattle.welch_berlekamp.proofs.Cursor.{zeros-at, key-in, key-out, keys-placed, marked-placed}
+use Rattle.welch_berlekamp.proofs.State.{ones-at}
 use Rattle.reed_solomon.proofs.Near.{first-over, usable-all, usable-right, suspect-right, eqb-same}
 
 usable-bit : (b : Bool) (w : ℕ) → w ≤ 1 → cond b 0 w ≤ 1

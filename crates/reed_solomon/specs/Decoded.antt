@@ -25,11 +25,11 @@ use Rattle.definitions.specs.Cost.{cost}
 use Rattle.polynomial.specs.Eval.{eval, Apart}
 use Rattle.distance.specs.Doubts.{Doubts}
 use Rattle.reed_solomon.specs.declared.decoder.Decoded.{Decoded}
-use Rattle.reed_solomon.specs.declared.newton.Newton.{Newton}
+use Rattle.welch_berlekamp.specs.declared.newton.Newton.{Newton}
 use Rattle.reed_solomon.specs.Strip.{Strip}
-use Rattle.reed_solomon.specs.declared.interpolation.Pairs.{Pairs}
-use Rattle.reed_solomon.specs.Pairs.{Holds}
-use Rattle.reed_solomon.specs.Newton.{Fits}
+use Rattle.welch_berlekamp.specs.declared.interpolation.Pairs.{Pairs}
+use Rattle.welch_berlekamp.specs.Pairs.{Holds}
+use Rattle.welch_berlekamp.specs.Newton.{Fits}
 use Rattle.reed_solomon.specs.Near.{usable, Refuted}
 
 abbrev pub Received : (p m : ℕ) (x : List ℕ) (n k F : ℕ) (s u : List ℕ) → Type 0

@@ -2,14 +2,14 @@
 // interpolation one by one, and after each the candidate, if there may be one, is measured against the whole strip. A measured one
 // under the radius is the only one, so that it ends the trial. The first k + 1 cells have one polynomial through them, which is
 // measured first.
-use crate::interpolation;
-use crate::interpolation::Pairs;
-use crate::newton;
-use crate::newton::Newton;
-use crate::order;
 use distance::summary;
 use distance::word;
 use field::rows;
+use welch_berlekamp::interpolation;
+use welch_berlekamp::interpolation::Pairs;
+use welch_berlekamp::newton;
+use welch_berlekamp::newton::Newton;
+use welch_berlekamp::order;
 ghost use mathlib.Core.Path.{_≡_};
 ghost use mathlib.Core.Bool.{cond};
 ghost use Prim.Native.Nat.{ℕ, _<_, _≤_};
@@ -18,9 +18,9 @@ ghost use Rattle.bounded.specs.Bounded.{at, sum};
 ghost use Rattle.field.specs.Prime.{Inverses};
 ghost use Rattle.field.specs.Row.{row, Row, Reciprocal};
 ghost use Rattle.distance.specs.Doubts.{Doubts};
-ghost use Rattle.reed_solomon.specs.Newton.{Whole};
-ghost use Rattle.reed_solomon.specs.Order.{key};
-ghost use Rattle.reed_solomon.specs.Pairs.{Holds};
+ghost use Rattle.welch_berlekamp.specs.Newton.{Whole};
+ghost use Rattle.welch_berlekamp.specs.Order.{key};
+ghost use Rattle.welch_berlekamp.specs.Pairs.{Holds};
 ghost use Rattle.reed_solomon.specs.Near.{usable, suspect};
 ghost use Rattle.reed_solomon.specs.Decoded.{Received, StripDecoded, None, Tried, Measured, Hoped, Hope};
 

@@ -1,0 +1,174 @@
+-- `welch_berlekamp::newton::through` meets its contract: i cells were taken, and while that is at most k, a cell is left. Assumes nothing.
+use mathlib.Core.Path.{_≡_}
+use mathlib.Core.List.{List}
+use Prim.Native.Nat.{ℕ, suc, _*_, _-_, _%_, _≤_, _<_}
+use native.Mathlib.Omega.{arith}
+use Rattle.bounded.specs.Bounded.{at}
+use Rattle.field.specs.Row.{row}
+use Rattle.field.proofs.Row.{result-row}
+use Rattle.welch_berlekamp.specs.Newton.{Enough, Fits}
+use Rattle.welch_berlekamp.proofs.Interpolant.{enough-few, fits-start, fits-positive, fits-take}
+use borrow.Author.Needs.{needs}
+use Rattle.welch_berlekamp.proofs.newton.through.Statement.{statement}
+use Rattle.welch_berlekamp.proofs.newton.through.Tie as tie
+
+abbrev Inv-loop : tie.InvT-loop
+Inv-loop k p m inverses x left₀ entered₀ slopes₀ nodes₀ product₀ rest₀ i₀ left entered slopes nodes product rest i =
+    (i ≤ suc k) × ((n : ℕ) (y : List ℕ) → Enough p n k x left₀ → rest₀ ≡ row (λ j. (p - 1) * at y j % p) →
+    Fits p n k x y left₀ i (record { rest = rest; product = product; slopes = slopes; nodes = nodes; entered = entered; keys = left }))
+
+abbrev μ-loop : tie.MeasureT-loop
+μ-loop k p m inverses x left₀ entered₀ slopes₀ nodes₀ product₀ rest₀ i₀ left entered slopes nodes product rest i = suc k - i
+
+fits : (c : tie.At-loop Inv-loop μ-loop) →
+    let a = c .before .before .args in
+    let l = c .loop in
+    Fits (a .p) (c .before .before .pre .4 .n) (a .k) (a .t2) (a .y) (a .keys) (l .i)
+    (record { rest = l .rest; product = l .product; slopes = l .slopes; nodes = l .nodes; entered = l .entered; keys = l .left })
+fits c = c .loop .inv .1 _ _ (c .before .before .pre .4 .enough) (c .before .scale .ensures)
+
+room : (c : tie.In-loop Inv-loop μ-loop) → c .before .loop .i < 16
+room c = let E = c .before .before .before .pre .4 .enough in omega (arith, c .loop-test .taken, enough-few E, E .most)
+
+sub-scale : tie.Need-sub-scale Inv-loop μ-loop
+sub-scale c = search needs
+
+scale-requires : tie.Need-scale-requires Inv-loop μ-loop
+scale-requires c κs = search needs
+
+loop-holds : tie.Need-loop-holds Inv-loop μ-loop
+loop-holds c =
+    let start = c .before in
+    let b = start .pre in
+    let pos : 1 < start .args .p = omega (arith, b .0 .least) in
+    (omega arith, λ n y E e. fits-start pos E e)
+
+least-requires : tie.Need-least-requires Inv-loop μ-loop
+least-requires c κs = search needs
+
+cast-r : tie.Need-cast-r Inv-loop μ-loop
+cast-r c = search needs
+
+mul-z : tie.Need-mul-z Inv-loop μ-loop
+mul-z c = search needs
+
+array-read-z : tie.Need-array-read-z Inv-loop μ-loop
+array-read-z c = search needs
+
+mul-ratio : tie.Need-mul-ratio Inv-loop μ-loop
+mul-ratio c = search needs
+
+array-read-ratio : tie.Need-array-read-ratio Inv-loop μ-loop
+array-read-ratio c = search needs
+
+mul-ratio-2 : tie.Need-mul-ratio-2 Inv-loop μ-loop
+mul-ratio-2 c = search needs
+
+array-read-ratio-2 : tie.Need-array-read-ratio-2 Inv-loop μ-loop
+array-read-ratio-2 c = search needs
+
+ratio-requires : tie.Need-ratio-requires Inv-loop μ-loop
+ratio-requires c κs =
+    let b = c .before .before .before .before .pre in
+    let F = fits (c .before .before) in
+    (b .0, b .1, F .whole .rest .small _, fits-positive (b .4 .enough) F (c .before .loop-test .taken) (c .least .ensures), F .holds .shaped .d1 .small _)
+
+add-multiple-requires : tie.Need-add-multiple-requires Inv-loop μ-loop
+add-multiple-requires c κs =
+    let b = c .before .before .before .before .before .pre in
+    let F = fits (c .before .before .before) in
+    (b .0, F .whole .rest, F .holds .shaped .d1, omega (arith, c .ratio .ensures .below))
+
+sub-shift : tie.Need-sub-shift Inv-loop μ-loop
+sub-shift c = omega (arith, c .before .before .before .before .before .before .pre .2 .small (c .before .before .least .result % 16))
+
+shift-requires : tie.Need-shift-requires Inv-loop μ-loop
+shift-requires c κs = let b = c .before .before .before .before .before .before .pre in (b .2, omega arith, b .0 .most)
+
+multiply-requires : tie.Need-multiply-requires Inv-loop μ-loop
+multiply-requires c κs =
+    let start = c .before .before .before .before .before .before .before in
+    let b = start .pre in
+    let z : 0 < start .args .p = omega (arith, b .0 .least) in
+    (b .0, fits (c .before .before .before .before .before) .holds .shaped .d1, result-row _ z (c .shift .ensures))
+
+mul-slopes : tie.Need-mul-slopes Inv-loop μ-loop
+mul-slopes c = omega (arith, room (c .before .before .before .before .before))
+
+array-write-slopes : tie.Need-array-write-slopes Inv-loop μ-loop
+array-write-slopes c = omega (arith, room (c .before .before .before .before .before))
+
+mul-nodes : tie.Need-mul-nodes Inv-loop μ-loop
+mul-nodes c = omega (arith, room (c .before .before .before .before .before))
+
+array-write-nodes : tie.Need-array-write-nodes Inv-loop μ-loop
+array-write-nodes c = omega (arith, room (c .before .before .before .before .before))
+
+mul-entered : tie.Need-mul-entered Inv-loop μ-loop
+mul-entered c = search needs
+
+array-write-entered : tie.Need-array-write-entered Inv-loop μ-loop
+array-write-entered c = search needs
+
+mul-left : tie.Need-mul-left Inv-loop μ-loop
+mul-left c = search needs
+
+array-write-left : tie.Need-array-write-left Inv-loop μ-loop
+array-write-left c = search needs
+
+add-i : tie.Need-add-i Inv-loop μ-loop
+add-i c = omega (arith, room (c .before .before .before .before .before))
+
+loop-less : tie.Need-loop-less Inv-loop μ-loop
+loop-less c = omega (arith, c .before .before .before .before .before .loop-test .taken)
+
+loop-again : tie.Need-loop-again Inv-loop μ-loop
+loop-again c =
+    let start = c .before .before .before .before .before .before .before .before in
+    let b = start .pre in
+    let l = c .before .before .before .before .before .loop-test .taken in
+    let pos : 1 < start .args .p = omega (arith, b .0 .least) in
+    (omega arith, λ n y E e. fits-take E (c .before .before .before .before .before .before .loop .inv .1 n y E e) l (c .before .before .before .before .least .ensures) pos (b .2 .small) (c .before .before .before .ratio .ensures) (c .before .before .add-multiple .ensures) (c .before .shift .ensures) (c .multiply .ensures))
+
+returns : tie.Need-returns Inv-loop μ-loop
+returns c =
+    let at-loop = c .before in
+    let start = at-loop .before .before in
+    λ n E.
+    let e : at-loop .loop .i ≡ suc (start .args .k) = omega (arith, at-loop .loop .inv .0, c .loop-test .left) in
+    rw e at (at-loop .loop .inv .1 n (start .args .y) E (at-loop .before .scale .ensures))
+
+pub through-spec : {M : Type 1} → statement M
+through-spec =
+    tie.close
+    (tie.spec
+    Inv-loop
+    μ-loop
+    sub-scale
+    scale-requires
+    loop-holds
+    least-requires
+    cast-r
+    mul-z
+    array-read-z
+    mul-ratio
+    array-read-ratio
+    mul-ratio-2
+    array-read-ratio-2
+    ratio-requires
+    add-multiple-requires
+    sub-shift
+    shift-requires
+    multiply-requires
+    mul-slopes
+    array-write-slopes
+    mul-nodes
+    array-write-nodes
+    mul-entered
+    array-write-entered
+    mul-left
+    array-write-left
+    add-i
+    loop-less
+    loop-again
+    returns)

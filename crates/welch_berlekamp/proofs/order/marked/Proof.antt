@@ -1,0 +1,75 @@
+-- `welch_berlekamp::order::marked` meets its contract: the places below j hold the keys that are wanted. Assumes nothing.
+use mathlib.Core.Path.{_≡_, refl}
+use mathlib.Core.Bool.{cond}
+use lib.Dec.{eqb}
+use Prim.Native.Nat.{_-_, _≤_}
+use native.Mathlib.Omega.{arith}
+use Rattle.bounded.specs.Bounded.{at}
+use Rattle.field.specs.Loop.{Upto}
+use Rattle.field.proofs.Loop.{upto-start, upto-step, upto-less}
+use Rattle.field.proofs.Row.{upto-row}
+use Rattle.welch_berlekamp.specs.Order.{taken}
+use borrow.Author.Needs.{needs}
+use Rattle.welch_berlekamp.proofs.order.marked.Statement.{statement}
+use Rattle.welch_berlekamp.proofs.order.marked.Tie as tie
+
+abbrev Inv-loop : tie.InvT-loop
+Inv-loop w keys out₀ j₀ out j = (j ≤ 16) × Upto 16 0 (λ k v. v ≡ cond (eqb (at w k) 0) taken (at keys k)) out j
+
+abbrev μ-loop : tie.MeasureT-loop
+μ-loop w keys out₀ j₀ out j = 16 - j
+
+loop-holds : tie.Need-loop-holds Inv-loop μ-loop
+loop-holds c = (omega arith, upto-start refl)
+
+mul-kept : tie.Need-mul-kept Inv-loop μ-loop
+mul-kept c = search needs
+
+array-read-kept : tie.Need-array-read-kept Inv-loop μ-loop
+array-read-kept c = search needs
+
+mul-kept-2 : tie.Need-mul-kept-2 Inv-loop μ-loop
+mul-kept-2 c = search needs
+
+array-read-kept-2 : tie.Need-array-read-kept-2 Inv-loop μ-loop
+array-read-kept-2 c = search needs
+
+kept-requires : tie.Need-kept-requires Inv-loop μ-loop
+kept-requires c κs = search needs
+
+mul-out : tie.Need-mul-out Inv-loop μ-loop
+mul-out c = search needs
+
+array-write-out : tie.Need-array-write-out Inv-loop μ-loop
+array-write-out c = search needs
+
+add-j : tie.Need-add-j Inv-loop μ-loop
+add-j c = search needs
+
+loop-less : tie.Need-loop-less Inv-loop μ-loop
+loop-less c = search needs
+
+loop-again : tie.Need-loop-again Inv-loop μ-loop
+loop-again c = (omega arith, upto-step (c .kept .result) (omega arith) (c .kept .ensures) (c .before .before .loop .inv .1))
+
+returns : tie.Need-returns Inv-loop μ-loop
+returns c = upto-row (upto-less (omega arith) (c .before .loop .inv .1))
+
+pub marked-spec : {M : Type 1} → statement M
+marked-spec =
+    tie.close
+    (tie.spec
+    Inv-loop
+    μ-loop
+    loop-holds
+    mul-kept
+    array-read-kept
+    mul-kept-2
+    array-read-kept-2
+    kept-requires
+    mul-out
+    array-write-out
+    add-j
+    loop-less
+    loop-again
+    returns)

@@ -1,0 +1,115 @@
+// The polynomial through k + 1 cells, by Newton's form: a sum of multiples, the slopes, of the products of X - z over the points z of
+// the cells taken before, the nodes. It is kept by its values less the symbols: where these are 0 the symbol is right.
+use crate::interpolation::Pairs;
+use crate::interpolation::ratio;
+use crate::order;
+use field::rows;
+ghost use mathlib.Core.Path.{_≡_};
+ghost use Prim.Native.Nat.{ℕ, suc, _+_, _<_};
+ghost use Rattle.bounded.specs.Bounded.{at};
+ghost use Rattle.field.specs.Prime.{Inverses};
+ghost use Rattle.field.specs.Row.{row, Row, Reciprocal};
+ghost use Rattle.welch_berlekamp.specs.Newton.{raised, pairsOf, Enough, Cells, Fits, Coefficients};
+
+// The rest is the polynomial less the symbols, the product that of X - z over all cells taken; `entered` is 1 at these, else 0, and
+// the keys are those of the other cells.
+pub struct Newton {
+    pub rest: [u16; 16],
+    pub product: [u16; 16],
+    pub slopes: [u16; 16],
+    pub nodes: [u16; 16],
+    pub entered: [u16; 16],
+    pub keys: [u32; 16],
+}
+
+// The polynomial of degree at most k through the k + 1 cells of the least keys.
+pub fn through(
+    keys: [u32; 16],
+    x: [u16; 16],
+    y: [u16; 16],
+    k: usize,
+    p: u16,
+    m: u16,
+    inverses: &[u16; 251],
+) -> Newton
+    requires { ⌜ Reciprocal p m × Inverses p (now inverses) × Row p x × Row p y × Cells p k x keys ⌝ }
+    ensures { λ f. ⌜ ((n : ℕ) → Enough p n k x keys → Fits p n k x y keys (suc k) f) ⌝ }
+{
+    let mut left = keys;
+    let mut entered = [0u16; 16];
+    let mut slopes = [0u16; 16];
+    let mut nodes = [0u16; 16];
+    let mut product = [1u16; 16];
+    let mut rest = rows::scale(p - 1, y, p, m);
+    let mut i = 0;
+    while i <= k {
+        let r = (order::least(left) % 16) as usize;
+        let z = x[r];
+        let c = ratio(rest[r], product[r], p, m, inverses);
+        let next = rows::add_multiple(rest, c, product, p, m);
+        let w = rows::shift(x, p - z, p);
+        let grown = rows::multiply(product, w, p, m);
+        rest = next;
+        product = grown;
+        slopes[i] = c;
+        nodes[i] = z;
+        entered[r] = 1;
+        left[r] = order::TAKEN;
+        i += 1;
+    }
+    Newton {
+        rest,
+        product,
+        slopes,
+        nodes,
+        entered,
+        keys: left,
+    }
+}
+
+// The pairs of the interpolation after the k + 1 cells: E1 is 0 and E2 is 1.
+pub fn pairs_of(f: Newton, k: usize) -> Pairs
+    requires { ⌜ k < 16 ⌝ }
+    ensures { λ t. ⌜ t ≡ pairsOf (k + 1) f ⌝ }
+{
+    let d1 = f.product;
+    let d2 = f.rest;
+    let entered = f.entered;
+    Pairs {
+        d1,
+        e1: [0u16; 16],
+        d2,
+        e2: [1u16; 16],
+        a: k + 1,
+        b: 0,
+        entered,
+    }
+}
+
+// a times X, plus c, by coefficients; the last of a is lost.
+fn raise(a: [u16; 16], c: u16) -> [u16; 16]
+    ensures { λ r. ⌜ r ≡ row (raised c (at a)) ⌝ }
+{
+    let mut out = [c; 16];
+    let mut i = 0;
+    while i < 15 {
+        out[i + 1] = a[i];
+        i += 1;
+    }
+    out
+}
+
+// The coefficients, by Horner's rule: the last slope times X less the last node, plus the slope before, and so on.
+pub fn coefficients(slopes: [u16; 16], nodes: [u16; 16], k: usize, p: u16, m: u16) -> [u16; 16]
+    requires { ⌜ Reciprocal p m × Row p slopes × Row p nodes × (k < 16) ⌝ }
+    ensures { λ a. ⌜ Coefficients p k slopes nodes a ⌝ }
+{
+    let mut a = [0u16; 16];
+    let mut i = k + 1;
+    while i > 0 {
+        i -= 1;
+        let next = rows::add_multiple(raise(a, slopes[i]), p - nodes[i], a, p, m);
+        a = next;
+    }
+    a
+}

@@ -1,0 +1,72 @@
+// The order in which cells enter: by doubt, and by place among cells of one doubt. A cell's key is 16 times its doubt and its place.
+ghost use mathlib.Core.Path.{_≡_};
+ghost use mathlib.Core.Bool.{cond};
+ghost use Prim.Native.Nat.{_≤_, min};
+ghost use lib.Dec.{eqb};
+ghost use Rattle.bounded.specs.Bounded.{at};
+ghost use Rattle.field.specs.Row.{row};
+ghost use Rattle.distance.specs.Doubts.{Doubts};
+ghost use Rattle.welch_berlekamp.specs.Order.{taken, key, Least};
+
+// The key of a cell that has entered, or is none. Every other key is less, since doubts are below 65,536.
+pub const TAKEN: u32 = 1048576;
+
+// The keys of the n cells.
+pub fn keys(n: usize, u: [u32; 16]) -> [u32; 16]
+    requires { ⌜ (n ≤ 16) × Doubts 65535 n (at u) ⌝ }
+    ensures { λ r. ⌜ r ≡ row (λ j. key n (at u j) j) ⌝ }
+{
+    let mut out = [TAKEN; 16];
+    let mut j = 0;
+    while j < n {
+        out[j] = u[j] * 16 + j as u32;
+        j += 1;
+    }
+    out
+}
+
+// The lower of two keys.
+fn lower(a: u32, b: u32) -> u32
+    ensures { λ r. ⌜ r ≡ min a b ⌝ }
+{
+    if a < b {
+        return a;
+    }
+    b
+}
+
+// The least key.
+pub fn least(keys: [u32; 16]) -> u32
+    ensures { λ r. ⌜ Least 16 keys r ⌝ }
+{
+    let mut best = TAKEN;
+    let mut j = 0;
+    while j < 16 {
+        best = lower(keys[j], best);
+        j += 1;
+    }
+    best
+}
+
+// The key v, where w is not 0.
+fn kept(w: u16, v: u32) -> u32
+    ensures { λ r. ⌜ r ≡ cond (eqb w 0) taken v ⌝ }
+{
+    if w == 0 {
+        return TAKEN;
+    }
+    v
+}
+
+// The keys of the cells that w marks.
+pub fn marked(w: [u16; 16], keys: [u32; 16]) -> [u32; 16]
+    ensures { λ r. ⌜ r ≡ row (λ j. cond (eqb (at w j) 0) taken (at keys j)) ⌝ }
+{
+    let mut out = [TAKEN; 16];
+    let mut j = 0;
+    while j < 16 {
+        out[j] = kept(w[j], keys[j]);
+        j += 1;
+    }
+    out
+}
