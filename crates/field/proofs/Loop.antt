@@ -6,7 +6,7 @@ use mathlib.Core.List.{List}
 use Prim.Native.Nat.{ℕ, _+_, _≤_, _<_}
 use native.Mathlib.Omega.{arith}
 use native.Mathlib.Decide.{ℕ-discrete}
-use lib.ListN.{length, set, length-set}
+use lib.ListN.{length, getD, set, length-set}
 use lib.Seq.{getD-set-same, getD-set-other}
 use Rattle.field.specs.Loop.{Upto, Passed}
 
@@ -44,4 +44,12 @@ module _ {A : Type 0} {n : ℕ} {z : A} {U T : ℕ → A → Type 0} where
       | no e ↦ rw (getD-set-other l i j v z e) (p .done j (omega arith))
     ];
     todo = λ j k m. let e : j ≢ i = omega arith in rw (getD-set-other l i j v z e) (p .todo j (omega arith) m);
+  }
+
+  -- an element that is as it should be
+  pub passed-over : {l : List A} {i : ℕ} → T i (getD l i z) → Passed n z U T l i → Passed n z U T l (i + 1)
+  passed-over {i} t p = record {
+    size = p .size;
+    done = λ j k. elim (ℕ-discrete j i) [ yes e ↦ rw e t | no e ↦ p .done j (omega arith) ];
+    todo = λ j k m. p .todo j (omega arith) m;
   }

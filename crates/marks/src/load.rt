@@ -1,4 +1,5 @@
 // Lent bytes of a photograph as rows of sixteen, 0 beyond their end.
+use definitions::UNREAD;
 use records::load;
 ghost use mathlib.Core.Path.{_≡_};
 ghost use Prim.Native.Nat.{_*_, _≤_, _<_};
@@ -11,7 +12,7 @@ ghost use Rattle.marks.specs.Loading.{residue, squareCell, SymbolRows, D
 fn symbol_residue(symbol: u16) -> u16
     ensures { λ r. ⌜ r ≡ residue symbol ⌝ }
 {
-    if symbol == 255 {
+    if symbol == UNREAD as u16 {
         return 0;
     }
     symbol

@@ -4,6 +4,7 @@ use crate::guess;
 use crate::load;
 use definitions::FULL;
 use definitions::Reading;
+use definitions::UNREAD;
 use distance::summary;
 use distance::word;
 use field::inverse::inverses;
@@ -31,7 +32,7 @@ ghost use Rattle.marks.specs.Guess.{Coefficients};
 fn cell_flag(symbol: u16, left: u16) -> u16
     ensures { λ r. ⌜ r ≡ flag symbol left ⌝ }
 {
-    if symbol == 255 {
+    if symbol == UNREAD as u16 {
         return 1;
     }
     left

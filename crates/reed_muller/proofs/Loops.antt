@@ -8,16 +8,7 @@ use native.Mathlib.Decide.{ℕ-discrete}
 use lib.ListN.{length, getD, set, length-set}
 use lib.Seq.{getD-set-same, getD-set-other}
 use Rattle.bounded.specs.Bounded.{at}
-use Rattle.field.specs.Loop.{Passed}
 use Rattle.reed_muller.specs.Loops.{Both, Stretch}
-
--- an element that is as it should be
-pub passed-over : {A : Type 0} {n : ℕ} {z : A} {U T : ℕ → A → Type 0} {l : List A} {i : ℕ} → T i (getD l i z) → Passed n z U T l i → Passed n z U T l (i + 1)
-passed-over {i} t p = record {
-  size = p .size;
-  done = λ j k. elim (ℕ-discrete j i) [ yes e ↦ rw e t | no e ↦ p .done j (omega arith) ];
-  todo = λ j k m. p .todo j (omega arith) m;
-}
 
 module _ {A : Type 0} {n : ℕ} {z : A} {U T : ℕ → A → ℕ → Type 0} where
   pub both-step : {l : List A} {k : List ℕ} {i : ℕ} (v : A) (w : ℕ) → i < 16 → T i v w → Both n z U T l k i → Both n z U T (set l i v) (set k i w) (i + 1)

@@ -1,16 +1,11 @@
 -- What is left of the symbols through the degree steps: all of them at the start, a term less after each step, and after the last the
--- symbol less the value: nothing where the symbol is the value, and only there. Assumes nothing.
-use mathlib.Core.Path.{_≡_, refl, sym, _∙_}
-use mathlib.Core.Bool.{Bool, true, false}
-use Prim.Native.Nat.{ℕ, suc, _+_, _*_, _-_, _%_, _^_, _≤_, _<_}
+-- symbol less the value. Assumes nothing.
+use mathlib.Core.Path.{refl}
+use Prim.Native.Nat.{ℕ, suc, _+_, _*_, _-_, _^_, _≤_, _<_}
 use native.Mathlib.Omega.{arith}
-use native.Mathlib.Nat.{mod-eq-of-lt}
-use lib.Dec.{eqb}
-use borrow.Author.Tests.{eqb-true, eqb-false}
 use Rattle.field.specs.Congruence.{Cong}
-use Rattle.field.proofs.Congruence.{same, ~sym, _⨾_, ~add, ~mul-right, cancel, to-mod, remainder, below-eq}
-use Rattle.polynomial.specs.Eval.{eval, values}
-use Rattle.polynomial.specs.Record.{row}
+use Rattle.field.proofs.Congruence.{same, ~sym, _⨾_, ~add, ~mul-right, cancel}
+use Rattle.polynomial.specs.Eval.{eval}
 use Rattle.polynomial.proofs.Eval.{eval-cong}
 use Rattle.reed_muller.specs.Line.{Subtracted}
 use Rattle.reed_muller.specs.Degree.{lines}
@@ -36,23 +31,3 @@ module _ {q a b d : ℕ} {y : ℕ → ℕ} {s : ℕ → ℕ → ℕ} where
     below = small;
     whole = λ r c l m. R .makes (lines d x h) (λ t r _ k _. eval-cong (suc (d - t)) (x r) λ i n. e t i (omega arith)) r c l m ⨾ same (omega arith);
   }
-
--- a cell whose symbol is a residue is changed where something is left of it
-pub remains-changed : {q a b d : ℕ} {x y : ℕ → ℕ} {s left h : ℕ → ℕ → ℕ} → Remains q a b d x y s left h → (r c : ℕ) → r < a → c < b → s r c < suc q →
-    eqb (s r c) (values q (suc d) (row d h (x r)) y c) ≡ eqb (left r c) 0
-remains-changed {q} {a} {b} {d} {x} {y} {s} {left} {h} R r c l m small = go (eqb (s r c) (v % suc q)) (eqb (left r c) 0) refl refl
-  where
-    v : ℕ
-    v = eval (suc d) (row d h (x r)) (y c)
-
-    nothing-left : s r c ≡ v % suc q → left r c ≡ 0
-    nothing-left e = below-eq (R .below r c l m) (omega arith) (cancel {b = 0} {f = v} (same refl) (R .whole r c l m ⨾ same e ⨾ remainder v ⨾ same (omega arith)))
-
-    right : left r c ≡ 0 → s r c ≡ v % suc q
-    right e = sym (mod-eq-of-lt small) ∙ sym (to-mod (same (omega arith) ⨾ R .whole r c l m))
-
-    go : (i j : Bool) → eqb (s r c) (v % suc q) ≡ i → eqb (left r c) 0 ≡ j → i ≡ j
-    go true true e f = refl
-    go false false e f = refl
-    go true false e f = absurd (eqb-false _ _ f (nothing-left (eqb-true _ _ e)))
-    go false true e f = absurd (eqb-false _ _ e (right (eqb-true _ _ f)))

@@ -10,12 +10,11 @@ use Rattle.field.specs.Loop.{Passed}
 use Rattle.bounded.proofs.Tab.{tab-is}
 use Rattle.field.specs.Row.{row, Row}
 use Rattle.field.proofs.Congruence.{cong-mod, less}
-use Rattle.field.proofs.Loop.{upto-put, passed-step}
+use Rattle.field.proofs.Loop.{upto-put, passed-step, passed-over}
 use Rattle.field.proofs.Row.{result-row}
 use Rattle.polynomial.specs.Powers.{Rows}
 use Rattle.reed_muller.specs.Loops.{line, cells}
 use Rattle.reed_muller.proofs.Answers.{positive}
-use Rattle.reed_muller.proofs.Loops.{passed-over}
 use borrow.Author.Needs.{needs}
 use Rattle.reed_muller.proofs.solver.subtract.Statement.{statement}
 use Rattle.reed_muller.proofs.solver.subtract.Tie as tie
