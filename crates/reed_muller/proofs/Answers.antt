@@ -8,13 +8,15 @@ use native.Mathlib.Omega.{arith}
 use native.Mathlib.Nat.{mod-eq-of-lt, mul-le-mul}
 use lib.ListN.{replicate, getD-replicate}
 use Rattle.bounded.specs.Bounded.{at}
-use Rattle.field.specs.Row.{Row}
-use Rattle.field.proofs.Row.{row-of}
+use Rattle.bounded.proofs.Tab.{length-tab}
+use Rattle.field.specs.Row.{row, Row}
+use Rattle.field.proofs.Row.{row-at, row-of}
 use Rattle.polynomial.specs.Powers.{Rows}
 use Rattle.distance.specs.Doubts.{Doubts}
 use Rattle.reed_solomon.specs.Strip.{Strip}
 use Rattle.reed_muller.specs.declared.grid.Grid.{Grid}
 use Rattle.reed_muller.specs.Fit.{Fit}
+use Rattle.reed_muller.specs.Loops.{cells}
 use Rattle.reed_muller.specs.Answers.{unknown, Answer, Known, Answered}
 use Rattle.reed_muller.proofs.Line.{line-answered, line-unanswered}
 
@@ -23,6 +25,10 @@ row-zeros z = row-of z refl λ j k. rw (getD-replicate {A = ℕ} 16 j 0 0 k) z
 
 pub rows-zeros : {p : ℕ} → 0 < p → Rows p (replicate 16 (replicate 16 0))
 rows-zeros z = record { size = refl; done = λ r k. rw (getD-replicate {A = List ℕ} 16 r (replicate 16 0) [] k) (row-zeros z) }
+
+-- a place of each of some rows
+pub column-row : {p : ℕ} {m : List (List ℕ)} {l : List ℕ} (t : ℕ) → 0 < p → Rows p m → l ≡ row (λ r. cells m r t) → Row p l
+column-row {m} t z R e = rw e (row-of z (length-tab 16 _) λ r k. rw (row-at (λ r. cells m r t) r k) (R .done r k .small t))
 
 pub positive : {g : Grid} → Fit g → 0 < g .p
 positive f = omega (arith, f .prime .least)

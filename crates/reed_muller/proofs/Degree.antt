@@ -17,23 +17,40 @@ use Rattle.polynomial.proofs.Grid.{radius-split}
 use Rattle.distance.proofs.Cost.{cell-less}
 use Rattle.reed_solomon.specs.Strip.{Strip}
 use Rattle.reed_muller.specs.Line.{Entered, Subtracted}
-use Rattle.reed_muller.specs.Degree.{total, remaining, Agrees, Near, Left, lines, Bivariate, gridCost, GridNear, GridLeft}
+use Rattle.reed_muller.specs.Degree.{total, remaining, Agrees, Costs, Near, Left, lines, Bivariate, gridCost, GridNear, GridCosts, GridLeft}
+
+module _ {q F a b d : ℕ} {y : ℕ → ℕ} {u : ℕ → ℕ → ℕ} where
+  pub costs-start : (s found : ℕ → ℕ → ℕ) → Costs q F a b d y u (suc d) s s found
+  costs-start s found = record { keeps = λ g n. refl }
+
+  -- the values w of the coefficients of Y^t, subtracted, leave the cost of the lower terms
+  pub costs-next : {s left left′ found found′ : ℕ → ℕ → ℕ} {t : ℕ} (w : ℕ → ℕ) → t ≤ d → Costs q F a b d y u (suc t) s left found →
+      ((r : ℕ) → r < a → Subtracted q b t y (w r) (left r) (left′ r)) → ((r : ℕ) → r < a → Cong q (found′ t r) (w r)) →
+      ((t′ r : ℕ) → t < t′ → t′ ≤ d → r < a → Cong q (found′ t′ r) (found t′ r)) → Costs q F a b d y u t s left′ found′
+  costs-next {left} {left′} {found′} {t} w td C sub new old = record {
+    keeps = λ g f. less g f ∙ C .keeps g λ t′ r l m i. ~sym (old t′ r l m i) ⨾ f t′ r (omega arith) m i;
+  }
+    where
+      less : (g : ℕ → ℕ → ℕ) → Agrees q a d t found′ g → total q F a b y u t left′ g ≡ total q F a b y u (suc t) left g
+      less g f = sum-eq a λ r l. sum-eq b λ c m.
+          cell-less F (left r c) (left′ r c) (u r c) (eval t (λ t. g t r) (y c)) (g t r * y c ^ t) (sub r l .before c m) (sub r l .after c m)
+          (~add (same refl) (~mul-right (y c ^ t) (~sym (f t r (omega arith) td l) ⨾ new r l)) ⨾ sub r l .term c m)
+
+  -- after the last step
+  pub costs-last : {s left found : ℕ → ℕ → ℕ} → Costs q F a b d y u 0 s left found → (g : ℕ → ℕ → ℕ) → Agrees q a d 0 found g →
+      total q F a b y u (suc d) s g ≡ remaining F a b u left
+  costs-last {left} C g f = sym (C .keeps g f) ∙ sum-eq a λ r _. sum-eq b λ c _. ap (cell F (left r c) (u r c)) (zero-mod (suc q))
 
 module _ {q F a b d D : ℕ} {y : ℕ → ℕ} {u : ℕ → ℕ → ℕ} {Code : (ℕ → ℕ → ℕ) → Type 0} where
   pub left-start : (s found : ℕ → ℕ → ℕ) → Left q F a b d D y u Code (suc d) s s found
-  left-start s found = record { agrees = λ g n t r l m. absurd (omega arith); costs = λ g n. refl }
-
-  -- after the last step
-  pub left-cost : {s left found : ℕ → ℕ → ℕ} → Left q F a b d D y u Code 0 s left found → (g : ℕ → ℕ → ℕ) → Agrees q a d 0 found g →
-      total q F a b y u (suc d) s g ≡ remaining F a b u left
-  left-cost {left} L g f = sym (L .costs g f) ∙ sum-eq a λ r _. sum-eq b λ c _. ap (cell F (left r c) (u r c)) (zero-mod (suc q))
+  left-start s found = record { agrees = λ g n t r l m. absurd (omega arith); costs = costs-start s found }
 
   -- E is the distance of the words that the coefficients of Y^t form
   module _ {s left found : ℕ → ℕ → ℕ} {t : ℕ} (td : t ≤ d) (E : ℕ) (enough : D ≤ (b - t) * E) (L : Left q F a b d D y u Code (suc t) s left found)
       {e v : ℕ → ℕ} (cells : (r : ℕ) → r < a → Entered q F b t y (left r) (u r) (e r) (v r)) where
     -- these are under their radius
     pub lower-near : (g : ℕ → ℕ → ℕ) → Near q F a b d D y u Code s g → cost (F * (b - t)) a e v (λ r. g t r % suc q) < F * (b - t) * E
-    lower-near g n = omega (arith, sum-le a (λ r l. cells r l .cheap (λ t. g t r)), L .costs g (L .agrees g n), n .1, mul-le-mul-left F enough)
+    lower-near g n = omega (arith, sum-le a (λ r l. cells r l .cheap (λ t. g t r)), L .costs .keeps g (L .agrees g n), n .1, mul-le-mul-left F enough)
 
     -- what the reader with one coordinate fewer answers: w has the coefficients of Y^t of every message that is under the radius there
     module _ {answered : Bool} {w : ℕ → ℕ}
@@ -44,18 +61,13 @@ module _ {q F a b d D : ℕ} {y : ℕ → ℕ} {u : ℕ → ℕ → ℕ} {Code :
 
       pub left-next : {left′ found′ : ℕ → ℕ → ℕ} → ((r : ℕ) → r < a → Subtracted q b t y (w r) (left r) (left′ r)) →
           ((r : ℕ) → r < a → Cong q (found′ t r) (w r)) → ((t′ r : ℕ) → t < t′ → t′ ≤ d → r < a → Cong q (found′ t′ r) (found t′ r)) → Left q F a b d D y u Code t s left′ found′
-      left-next {left′} {found′} sub new old = record {
+      left-next sub new old = record {
         agrees = λ g n t′ r l m i. elim (ℕ-discrete t′ t) [
           | yes z ↦ rw z (new r i ⨾ S g (n .0) (lower-near g n) .1 r i)
           | no z ↦ old t′ r (omega arith) m i ⨾ L .agrees g n t′ r (omega arith) m i
         ];
-        costs = λ g f. less g f ∙ L .costs g λ t′ r l m i. ~sym (old t′ r l m i) ⨾ f t′ r (omega arith) m i;
+        costs = costs-next w td (L .costs) sub new old;
       }
-        where
-          less : (g : ℕ → ℕ → ℕ) → Agrees q a d t found′ g → total q F a b y u t left′ g ≡ total q F a b y u (suc t) left g
-          less g f = sum-eq a λ r l. sum-eq b λ c m.
-              cell-less F (left r c) (left′ r c) (u r c) (eval t (λ t. g t r) (y c)) (g t r * y c ^ t) (sub r l .before c m) (sub r l .after c m)
-              (~add (same refl) (~mul-right (y c ^ t) (~sym (f t r (omega arith) td l) ⨾ new r l)) ⨾ sub r l .term c m)
 
 -- two coordinates: the reader with one coordinate fewer is the reader of strips
 pub bivariate-strip : {q R a : ℕ} (d t : ℕ) {x e v w : ℕ → ℕ} {answered : Bool} {c : ℕ} → Strip q R a (d - t) x e v answered w c →
@@ -86,11 +98,13 @@ module _ {q F a b d : ℕ} (x : ℕ → ℕ) {y : ℕ → ℕ} {u : ℕ → ℕ 
         (λ r l. eval-cong (suc (d - t)) (x r) (λ i k. new i (omega arith)) ⨾ ~sym (value r l))
         (λ t′ r l m _. eval-cong (suc (d - t′)) (x r) λ i k. old t′ i l (omega arith))
 
-  module _ {s left : ℕ → ℕ → ℕ} (found : ℕ → ℕ → ℕ) (L : GridLeft q F a b d x y u 0 s left found) where
+  module _ {s left : ℕ → ℕ → ℕ} (found : ℕ → ℕ → ℕ) where
     -- the record found costs what is left
-    pub grid-cost : (h : ℕ → ℕ → ℕ) → ((t i : ℕ) → i + t ≤ d → Cong q (found i t) (h i t)) → gridCost q F a b d x y u s h ≡ remaining F a b u left
-    grid-cost h e = left-cost L (lines d x h) λ t r _ m _. eval-cong (suc (d - t)) (x r) λ i k. e t i (omega arith)
+    pub grid-cost : GridCosts q F a b d x y u 0 s left found → (h : ℕ → ℕ → ℕ) → ((t i : ℕ) → i + t ≤ d → Cong q (found i t) (h i t)) →
+        gridCost q F a b d x y u s h ≡ remaining F a b u left
+    grid-cost C h e = costs-last C (lines d x h) λ t r _ m _. eval-cong (suc (d - t)) (x r) λ i k. e t i (omega arith)
 
-    -- so where that is over the radius, no record is under it
-    pub grid-over : F * radius a b d ≤ remaining F a b u left → (h : ℕ → ℕ → ℕ) → GridNear q F a b d x y u s h → ⊥
-    grid-over m h n = omega (arith, left-cost L (lines d x h) (L .agrees (lines d x h) ((h, λ t r. refl), n)))
+    -- where every record under the radius is the one found, and that is not under it, there is none
+    pub grid-over : GridLeft q F a b d x y u 0 s left found → F * radius a b d ≤ remaining F a b u left →
+        (h : ℕ → ℕ → ℕ) → GridNear q F a b d x y u s h → ⊥
+    grid-over L m h n = omega (arith, costs-last (L .costs) (lines d x h) (L .agrees (lines d x h) ((h, λ t r. refl), n)))

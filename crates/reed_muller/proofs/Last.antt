@@ -1,25 +1,21 @@
--- After the last step: what is left, measured against 0, decides whether the record found is the answer. Assumes nothing.
+-- What the decoder hands over where there is no record under the radius, and where what is left of one costs less. Assumes nothing.
 use mathlib.Core.Path.{_≡_, refl, sym, _∙_}
 use mathlib.Core.Bool.{true, false, false≢true}
 use Prim.Native.Nat.{ℕ, suc, _+_, _*_, _≤_, _<_}
 use Rattle.field.proofs.Congruence.{same}
 use Rattle.polynomial.specs.Grid.{radius}
-use Rattle.reed_muller.specs.Degree.{remaining, GridNear, GridLeft}
+use Rattle.reed_muller.specs.Degree.{remaining, GridNear, GridCosts}
 use Rattle.reed_muller.specs.Mark.{Decoded}
-use Rattle.reed_muller.proofs.Degree.{grid-cost, grid-over}
+use Rattle.reed_muller.proofs.Degree.{grid-cost}
 
 module _ {q F a b d : ℕ} {x y : ℕ → ℕ} {s u : ℕ → ℕ → ℕ} (w : ℕ → ℕ → ℕ) {g : ℕ} where
   pub decoded-none : ((h : ℕ → ℕ → ℕ) → GridNear q F a b d x y u s h → ⊥) → Decoded q F a b d x y s u false w g
   decoded-none z = record { sound = λ e. absurd (false≢true e); below = λ e. absurd (false≢true e); only = λ h n. absurd (z h n) }
 
-  module _ {left : ℕ → ℕ → ℕ} (found : ℕ → ℕ → ℕ) (L : GridLeft q F a b d x y u 0 s left found) where
-    pub decoded-over : F * radius a b d ≤ remaining F a b u left → Decoded q F a b d x y s u false w g
-    decoded-over m = decoded-none (grid-over x found L m)
-
-    pub decoded-found : ((t i : ℕ) → i + t ≤ d → w i t ≡ found i t) → ((t i : ℕ) → i + t ≤ d → w i t < suc q) → g ≡ remaining F a b u left → g < F * radius a b d →
-        Decoded q F a b d x y s u true w g
-    decoded-found e small r m = record {
-      sound = λ _. (r ∙ sym (grid-cost x found L w λ t i l. same (sym (e t i l))), m);
-      below = λ _. small;
-      only = λ h n. refl;
-    }
+  pub decoded-found : {left : ℕ → ℕ → ℕ} (found : ℕ → ℕ → ℕ) → GridCosts q F a b d x y u 0 s left found → ((t i : ℕ) → i + t ≤ d → w i t ≡ found i t) →
+      ((t i : ℕ) → i + t ≤ d → w i t < suc q) → g ≡ remaining F a b u left → g < F * radius a b d → Decoded q F a b d x y s u true w g
+  decoded-found found C e small r m = record {
+    sound = λ _. (r ∙ sym (grid-cost x found C w λ t i l. same (sym (e t i l))), m);
+    below = λ _. small;
+    only = λ h n. refl;
+  }

@@ -8,6 +8,7 @@ pub mod Last
 pub mod Mark
 pub mod Answers
 pub mod Rest
+pub mod Drawn
 pub mod Steps
 pub mod Outcome
 pub mod Square

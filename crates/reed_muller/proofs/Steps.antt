@@ -1,7 +1,7 @@
 -- One degree step and all of them: what is subtracted, which answers are carried, and that the steps keep their invariant. Assumes nothing.
 use mathlib.Core.Logic.{_≢_}
 use mathlib.Core.Path.{_≡_, refl, sym, ap, _∙_}
-use mathlib.Core.Bool.{Bool, true, false, cond, true≢false, false≢true}
+use mathlib.Core.Bool.{Bool, true, false, cond, false≢true}
 use mathlib.Core.List.{List, []}
 use Prim.Native.Nat.{ℕ, suc, _+_, _*_, _-_, _%_, _^_, _≤_, _<_, min}
 use native.Mathlib.Omega.{arith}
@@ -15,7 +15,7 @@ use Rattle.field.specs.Congruence.{Cong}
 use Rattle.field.specs.Row.{row, Row}
 use Rattle.field.proofs.Congruence.{same, ~sym, _⨾_, ~add, ~mul, ~mul-right, less}
 use Rattle.field.proofs.Loop.{upto-put}
-use Rattle.field.proofs.Row.{row-at, row-of, result-row, result-cong}
+use Rattle.field.proofs.Row.{row-at, result-row, result-cong}
 use Rattle.polynomial.specs.Eval.{eval}
 use Rattle.polynomial.specs.Powers.{Rows}
 use Rattle.polynomial.proofs.Eval.{eval-cong}
@@ -26,10 +26,11 @@ use Rattle.reed_muller.specs.Degree.{lines}
 use Rattle.reed_muller.specs.Fit.{Fit, DoubtRows}
 use Rattle.reed_muller.specs.Loops.{line, cells}
 use Rattle.reed_muller.specs.Answers.{unknown, Answer, kept, KnownRows, AnsweredRows}
-use Rattle.reed_muller.specs.Steps.{found, Without, Lessened, Stepped, Solving, Solved}
-use Rattle.reed_muller.proofs.Answers.{positive}
+use Rattle.reed_muller.specs.Steps.{found, Without, Lessened, limit, left-over, Stepped, Solving, Solved}
+use Rattle.reed_muller.proofs.Answers.{positive, column-row}
 use Rattle.reed_muller.proofs.Line.{answer-carried}
-use Rattle.reed_muller.proofs.Degree.{grid-start, grid-none, grid-next}
+use Rattle.reed_muller.proofs.Degree.{grid-start, grid-none, grid-next, grid-over}
+use Rattle.reed_muller.proofs.Drawn.{solving-drawn}
 use Rattle.reed_muller.proofs.Rest.{rest-start, rest-next}
 
 -- what was subtracted, added again
@@ -95,7 +96,7 @@ module _ {g : Grid} {j : ℕ} (f : Fit g) (left u left′ ws : List (List ℕ)) 
 module _ {g : Grid} {t : ℕ} (f : Fit g) (left u ws : List (List ℕ)) {e v : List ℕ} (A : AnsweredRows g t left u ws v)
     (leading : e ≡ row λ r. cells ws r t) where
   pub leading-row : Row (g .p) e
-  leading-row = rw leading (row-of (positive f) (length-tab 16 _) λ r k. rw (row-at (λ r. cells ws r t) r k) (A .rows .done r k .small t))
+  leading-row = column-row t (positive f) (A .rows) leading
 
   pub leading-entered : (r : ℕ) → r < g .a → Entered (g .p - 1) (g .full) (g .b) t (at (g .y)) (cells left r) (cells u r) (at e r) (at v r)
   leading-entered r l = rw (leading, row-at (λ r. cells ws r t) r (omega (arith, f .rows))) (A .answered r l .entered)
@@ -110,6 +111,7 @@ module _ {g : Grid} {t : ℕ} (f : Fit g) (left u ws : List (List ℕ)) {e v : L
       entered = leading-entered;
       strip = rw z at S;
       good = good;
+      lines = A .rows;
       rows = λ y. absurd (false≢true y);
       subtracted = λ y. absurd (false≢true y);
       known = λ y. absurd (false≢true y);
@@ -125,6 +127,7 @@ module _ {g : Grid} {t : ℕ} (f : Fit g) (left u ws : List (List ℕ)) {e v : L
       entered = leading-entered;
       strip = rw y at S;
       good = good;
+      lines = A .rows;
       rows = λ _. W .rows;
       subtracted = λ _. S′;
       known = λ _ j i. known-next f left u left′ ws column {z = z} du (rw i at A) (rw i at leading) (rw i at values) (rw i at carried) (rw i at S′);
@@ -154,13 +157,10 @@ module _ {g : Grid} {t : ℕ} (f : Fit g) (td : t ≤ g .d) (s u left left′ co
   low = omega (arith, f .low, f .narrow)
 
   -- a step without an answer: no record is under the radius
-  pub solving-none : ok ≡ false → (last : List (List ℕ)) → Solved g s u last columns false
+  pub solving-none : ok ≡ false → (last : List (List ℕ)) → Solved g s u last columns (limit g)
   solving-none z last = record {
-    none = λ _. grid-none (at (g .x)) (found columns) low td (S .steps) (T .entered) (T .strip) z;
-    steps = λ y. absurd (false≢true y);
-    rest = λ y. absurd (false≢true y);
-    rows = λ y. absurd (false≢true y);
-    coefficients = λ y. absurd (false≢true y);
+    under = λ l. absurd (omega arith);
+    over = λ _. grid-none (at (g .x)) (found columns) low td (S .steps) (T .entered) (T .strip) z;
   }
 
   -- the column found stands in its place, and those found before stay
@@ -185,11 +185,6 @@ module _ {g : Grid} {t : ℕ} (f : Fit g) (td : t ≤ g .d) (s u left left′ co
   }
 
 -- after the last step
-pub solving-done : {g : Grid} {s u left columns ws : List (List ℕ)} {vs : List ℕ} → Solving g 0 s u left columns ws vs → Solved g s u left columns true
-solving-done S = record {
-  none = λ z. absurd (true≢false z);
-  steps = λ _. S .steps;
-  rest = λ _. S .rest;
-  rows = λ _. S .rows;
-  coefficients = λ _. S .coefficients;
-}
+pub solving-done : {g : Grid} {s u left columns ws : List (List ℕ)} {vs : List ℕ} → Solving g 0 s u left columns ws vs →
+    Solved g s u left columns (left-over g u left)
+solving-done {g} {columns} S = record { under = λ _. (refl, solving-drawn S); over = grid-over (at (g .x)) (found columns) (S .steps) }

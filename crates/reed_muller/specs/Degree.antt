@@ -5,14 +5,16 @@
 --   remaining F a b u left     what is left, measured against 0
 --   Near .. s g                g is a message, and under the radius F D
 --   Agrees q a d k found g     g has the coefficients found, those of Y^k and higher
+--   Costs .. k s left found    whatever has them costs below Y^k, against what is left, what it costs in full against the symbols
 --   Left .. k s left found     the invariant of the steps, from Y^d down to Y^k
 --     agrees                   every message under the radius has the coefficients found
---     costs                    whatever has them costs below Y^k, against what is left, what it costs in full against the symbols
+--     costs                    Costs
 --
 -- Two coordinates, the lines being row points x: h i t stands before X^i Y^t, i + t ≤ d.
 --
 --   lines d x h, Bivariate d x g   the message of such a polynomial; and that g is one
---   gridCost, GridNear, GridLeft   the same three for it, with the distance `radius a b d`
+--   gridCost, GridNear, GridCosts, GridLeft
+--                                  the same four for it, with the distance `radius a b d`
 --
 -- What this file is for: the coefficients of one power of Y form a word with one coordinate fewer; it is read, and subtracted.
 use mathlib.Core.Path.{_≡_}
@@ -33,13 +35,16 @@ remaining F a b u left = sum a λ r. cost F b (left r) (u r) λ c. 0
 abbrev pub Agrees : (q a d k : ℕ) (found g : ℕ → ℕ → ℕ) → Type 0
 Agrees q a d k found g = (t r : ℕ) → k ≤ t → t ≤ d → r < a → Cong q (found t r) (g t r)
 
+pub record Costs (q F a b d : ℕ) (y : ℕ → ℕ) (u : ℕ → ℕ → ℕ) (k : ℕ) (s left found : ℕ → ℕ → ℕ) : Type 0 where
+  pub keeps : (g : ℕ → ℕ → ℕ) → Agrees q a d k found g → total q F a b y u k left g ≡ total q F a b y u (suc d) s g
+
 module _ (q F a b d D : ℕ) (y : ℕ → ℕ) (u : ℕ → ℕ → ℕ) (Code : (ℕ → ℕ → ℕ) → Type 0) where
   abbrev pub Near : (s g : ℕ → ℕ → ℕ) → Type 0
   Near s g = Code g × (total q F a b y u (suc d) s g < F * D)
 
   pub record Left (k : ℕ) (s left found : ℕ → ℕ → ℕ) : Type 0 where
     pub agrees : (g : ℕ → ℕ → ℕ) → Near s g → Agrees q a d k found g
-    pub costs : (g : ℕ → ℕ → ℕ) → Agrees q a d k found g → total q F a b y u k left g ≡ total q F a b y u (suc d) s g
+    pub costs : Costs q F a b d y u k s left found
 
 abbrev pub lines : (d : ℕ) (x : ℕ → ℕ) (h : ℕ → ℕ → ℕ) → ℕ → ℕ → ℕ
 lines d x h t r = column d h t (x r)
@@ -53,6 +58,9 @@ module _ (q F a b d : ℕ) (x y : ℕ → ℕ) (u : ℕ → ℕ → ℕ) where
 
   abbrev pub GridNear : (s h : ℕ → ℕ → ℕ) → Type 0
   GridNear s h = gridCost s h < F * radius a b d
+
+  abbrev pub GridCosts : (k : ℕ) (s left found : ℕ → ℕ → ℕ) → Type 0
+  GridCosts k s left found = Costs q F a b d y u k s left (lines d x found)
 
   abbrev pub GridLeft : (k : ℕ) (s left found : ℕ → ℕ → ℕ) → Type 0
   GridLeft k s left found = Left q F a b d (radius a b d) y u (Bivariate d x) k s left (lines d x found)

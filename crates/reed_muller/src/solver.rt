@@ -1,6 +1,9 @@
-// The degree steps: one coefficient of Y at a time, from Y^d down to Y^0, is read from the lines and subtracted.
+// The degree steps: one coefficient of Y at a time, from Y^d down to Y^0, is read from the lines and subtracted. Drafts come first.
+use crate::draft;
 use crate::grid::Grid;
 use crate::lines;
+use crate::remainder;
+use crate::trial;
 use polynomial::bivariate;
 use polynomial::evaluation;
 ghost use mathlib.Core.Path.{_≡_};
@@ -8,33 +11,16 @@ ghost use Prim.Native.Nat.{_%_, _^_, _≤_};
 ghost use Rattle.bounded.specs.Bounded.{at};
 ghost use Rattle.field.specs.Prime.{Inverses};
 ghost use Rattle.field.specs.Row.{row, Row};
-ghost use Rattle.polynomial.specs.Powers.{Rows};
+ghost use Rattle.polynomial.specs.Powers.{Rows, Powers};
 ghost use Rattle.reed_muller.specs.Fit.{Fit, DoubtRows};
 ghost use Rattle.reed_muller.specs.Answers.{KnownRows};
-ghost use Rattle.reed_muller.specs.Steps.{Without, Stepped, Solved};
+ghost use Rattle.reed_muller.specs.Steps.{Stepped, Solved};
 
 // What a step gives: the coefficients of Y^t by rising power of X, and the costs of the lines whose answers are kept.
 pub struct Column {
-    pub found: bool,
     pub message: [u16; 16],
     pub known: [u32; 16],
-}
-
-// Subtracts the column with the values v at the row points, times the power of Y.
-fn subtract(g: Grid, left: &mut [[u16; 16]; 16], v: [u16; 16], power: [u16; 16])
-    requires { ⌜ Fit g × Rows (g .p) (now left) × Row (g .p) v × Row (g .p) power ⌝ }
-    ensures { λ _. ⌜ Without g (now (left .entry)) v power (now (left .exit)) ⌝ }
-{
-    let a = g.a;
-    let mut r = 0;
-    while r < a {
-        if v[r] != 0 {
-            let row = left[r];
-            let next = field::rows::add_multiple(row, g.p - v[r], power, g.p, g.m);
-            left[r] = next;
-        }
-        r += 1;
-    }
+    pub found: bool,
 }
 
 // The coefficients of Y^t: the lines' leading coefficients are a strip over the row points of degree d - t, whose doubts
@@ -76,7 +62,7 @@ fn step(
         };
     }
     let v = strip.values;
-    subtract(g, left, v, power);
+    remainder::subtract(g, left, v, power);
     Column {
         found: true,
         message,
@@ -84,41 +70,70 @@ fn step(
     }
 }
 
-// All steps, from Y^d down: the coefficients of Y^t go to row t of the columns, and what is left stays in `left`. False at
-// the first step without an answer: then no record is under the radius.
+// All steps, from Y^d down: the coefficients of Y^t go to row t of the columns, and what is left stays in `left`. Returns what it costs;
+// at a step without an answer the radius, since then no record is under it. As soon as enough lines are known the columns that are
+// missing are drafted from them, once.
+fn solve_by_degrees(
+    g: Grid,
+    inverses: &[u16; 251],
+    xs: &[[u16; 16]; 16],
+    ys: &[[u16; 16]; 16],
+    left: &mut [[u16; 16]; 16],
+    doubts: &[[u32; 16]; 16],
+    columns: &mut [[u16; 16]; 16],
+) -> u32
+    requires { ⌜ Fit g × Rows (g .p) (now left) × DoubtRows g (now doubts) × Rows (g .p) (now columns) × Inverses (g .p) (now inverses) × Rows (g .p) (now xs) × Powers (g .p) (g .x) (now xs) × Rows (g .p) (now ys) × Powers (g .p) (g .y) (now ys) ⌝ }
+    ensures { λ r. ⌜ Solved g (now (left .entry)) (now (doubts .entry)) (now (left .exit)) (now (columns .exit)) r ⌝ }
+{
+    let radius = remainder::radius(g);
+    let mut messages = [[0u16; 16]; 16];
+    let mut known = [lines::UNKNOWN; 16];
+    let mut untried = true;
+    let mut t = g.d + 1;
+    while t > 0 {
+        t -= 1;
+        let column = step(g, inverses, t, ys[t], known, &mut messages, left, doubts);
+        if !column.found {
+            return radius;
+        }
+        let w = column.message;
+        columns[t] = w;
+        known = column.known;
+        if untried {
+            if draft::from_lines(g, inverses, t, &messages, known, columns) {
+                untried = false;
+                let cost = trial::complete(g, t, xs, ys, columns, left, doubts);
+                if cost < radius {
+                    return cost;
+                }
+            }
+        }
+    }
+    remainder::measure(g, left, doubts)
+}
+
+// The record under the radius, if there is one: its coefficients of Y^t in row t of the columns, what it leaves of the symbols in `left`,
+// and its cost. Where there is none a cost that is not under the radius.
 pub fn solve(
     g: Grid,
     inverses: &[u16; 251],
     left: &mut [[u16; 16]; 16],
     doubts: &[[u32; 16]; 16],
     columns: &mut [[u16; 16]; 16],
-) -> bool
+) -> u32
     requires { ⌜ Fit g × Rows (g .p) (now left) × DoubtRows g (now doubts) × Rows (g .p) (now columns) × Inverses (g .p) (now inverses) ⌝ }
     ensures { λ r. ⌜ Solved g (now (left .entry)) (now (doubts .entry)) (now (left .exit)) (now (columns .exit)) r ⌝ }
 {
+    let d = g.d;
+    let x = g.x;
     let y = g.y;
-    let powers = evaluation::powers(y, g.p, g.m);
-    let mut messages = [[0u16; 16]; 16];
-    let mut known = [lines::UNKNOWN; 16];
-    let mut t = g.d + 1;
-    while t > 0 {
-        t -= 1;
-        let column = step(
-            g,
-            inverses,
-            t,
-            powers[t],
-            known,
-            &mut messages,
-            left,
-            doubts,
-        );
-        if !column.found {
-            return false;
+    let xs = evaluation::powers(x, g.p, g.m);
+    let ys = evaluation::powers(y, g.p, g.m);
+    if draft::from_cells(g, inverses, left, columns) {
+        let cost = trial::complete(g, d + 1, &xs, &ys, columns, left, doubts);
+        if cost < remainder::radius(g) {
+            return cost;
         }
-        let w = column.message;
-        columns[t] = w;
-        known = column.known;
     }
-    true
+    solve_by_degrees(g, inverses, &xs, &ys, left, doubts, columns)
 }

@@ -1,10 +1,10 @@
--- `reed_muller::decoder::radius` meets its contract: the longer side, and the shorter one less the degree. Assumes nothing.
+-- `reed_muller::remainder::radius` meets its contract: the longer side, and the shorter one less the degree. Assumes nothing.
 use mathlib.Core.Path.{_≡_}
 use Prim.Native.Nat.{min, max}
 use native.Mathlib.Omega.{arith}
 use borrow.Author.Needs.{needs}
-use Rattle.reed_muller.proofs.decoder.radius.Statement.{statement}
-use Rattle.reed_muller.proofs.decoder.radius.Tie as tie
+use Rattle.reed_muller.proofs.remainder.radius.Statement.{statement}
+use Rattle.reed_muller.proofs.remainder.radius.Tie as tie
 
 sub-area : tie.Need-sub-area
 sub-area c = search needs

@@ -1,4 +1,4 @@
--- `reed_muller::decoder::measure` meets its contract: the rows before r are measured; a row costs at most 2,097,152. Assumes nothing.
+-- `reed_muller::remainder::measure` meets its contract: the rows before r are measured; a row costs at most 2,097,152. Assumes nothing.
 use mathlib.Core.Path.{_≡_, refl}
 use Prim.Native.Nat.{_*_, _-_, _≤_}
 use native.Mathlib.Omega.{arith}
@@ -6,8 +6,8 @@ use Rattle.reed_muller.specs.Degree.{remaining}
 use Rattle.reed_muller.specs.Loops.{cells}
 use Rattle.reed_muller.proofs.Outcome.{remaining-more}
 use borrow.Author.Needs.{needs}
-use Rattle.reed_muller.proofs.decoder.measure.Statement.{statement}
-use Rattle.reed_muller.proofs.decoder.measure.Tie as tie
+use Rattle.reed_muller.proofs.remainder.measure.Statement.{statement}
+use Rattle.reed_muller.proofs.remainder.measure.Tie as tie
 
 abbrev Inv-loop : tie.InvT-loop
 Inv-loop g left doubts a sum₀ r₀ sum r = (a ≡ g .a) × (r ≤ a) × (sum ≡ remaining (g .full) r (g .b) (cells doubts) (cells left)) × (sum ≤ 2097152 * r)

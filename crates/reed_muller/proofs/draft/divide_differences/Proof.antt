@@ -1,14 +1,12 @@
--- `marks::guess::divide_differences` meets its contract: rows of residues stay such. Assumes nothing.
+-- `reed_muller::draft::divide_differences` meets its contract: rows of residues stay such. Assumes nothing.
 use Prim.Native.Nat.{_+_, _-_, _≤_, _<_}
 use native.Mathlib.Omega.{arith}
-use Rattle.bounded.specs.Bounded.{at}
 use Rattle.field.specs.Row.{Row}
 use Rattle.field.proofs.Loop.{upto-put}
 use Rattle.polynomial.specs.Powers.{Rows}
-use Rattle.polynomial.proofs.Points.{points-rise}
 use borrow.Author.Needs.{needs}
-use Rattle.marks.proofs.guess.divide_differences.Statement.{statement}
-use Rattle.marks.proofs.guess.divide_differences.Tie as tie
+use Rattle.reed_muller.proofs.draft.divide_differences.Statement.{statement}
+use Rattle.reed_muller.proofs.draft.divide_differences.Tie as tie
 
 abbrev Inv-loop2 : tie.InvT-loop2
 Inv-loop2 f₀ d p m inverses x k base j₀ f j = (k < j) × (j ≤ d + 1) × Row p base × Rows p f
@@ -39,49 +37,42 @@ loop2-holds c =
     let l = c .before .before .loop in
     (omega arith, omega arith, l .inv .1 .done (l .k) (omega (arith, c .before .before .before .pre .4)), l .inv .1)
 
-mul-c : tie.Need-mul-c Inv-loop2 μ-loop2 Inv-loop μ-loop
-mul-c c = search needs
+mul-reduce : tie.Need-mul-reduce Inv-loop2 μ-loop2 Inv-loop μ-loop
+mul-reduce c = search needs
 
-array-read-c : tie.Need-array-read-c Inv-loop2 μ-loop2 Inv-loop μ-loop
-array-read-c c = search needs
+array-read-reduce : tie.Need-array-read-reduce Inv-loop2 μ-loop2 Inv-loop μ-loop
+array-read-reduce c = search needs
 
-mul-c-2 : tie.Need-mul-c-2 Inv-loop2 μ-loop2 Inv-loop μ-loop
-mul-c-2 c = search needs
+mul-reduce-2 : tie.Need-mul-reduce-2 Inv-loop2 μ-loop2 Inv-loop μ-loop
+mul-reduce-2 c = search needs
 
-array-read-c-2 : tie.Need-array-read-c-2 Inv-loop2 μ-loop2 Inv-loop μ-loop
-array-read-c-2 c = search needs
+array-read-reduce-2 : tie.Need-array-read-reduce-2 Inv-loop2 μ-loop2 Inv-loop μ-loop
+array-read-reduce-2 c = search needs
 
-sub-c : tie.Need-sub-c Inv-loop2 μ-loop2 Inv-loop μ-loop
-sub-c c =
-    let start = c .before .before .before .before .before in
+sub-reduce : tie.Need-sub-reduce Inv-loop2 μ-loop2 Inv-loop μ-loop
+sub-reduce c =
     let k = c .before .before .before .before .loop .k in
-    let j = c .before .loop2 .j in
-    let rise = points-rise (start .pre .3) k j (omega arith) (omega arith) in
-    omega (arith, rise)
+    omega (arith, c .before .before .before .before .before .pre .3 .small k)
 
-cast-c : tie.Need-cast-c Inv-loop2 μ-loop2 Inv-loop μ-loop
-cast-c c =
+add-reduce : tie.Need-add-reduce Inv-loop2 μ-loop2 Inv-loop μ-loop
+add-reduce c =
     let start = c .before .before .before .before .before in
-    let k = c .before .before .before .before .loop .k in
-    let j = c .before .loop2 .j in
-    let rise = points-rise (start .pre .3) k j (omega arith) (omega arith) in
-    omega (arith, rise, start .pre .3 .below j (omega arith), start .pre .0 .most)
+    omega (arith, start .pre .3 .small (c .before .loop2 .j), start .pre .0 .most)
 
-mul-c-3 : tie.Need-mul-c-3 Inv-loop2 μ-loop2 Inv-loop μ-loop
-mul-c-3 c =
-    let start = c .before .before .before .before .before in
-    let k = c .before .before .before .before .loop .k in
-    let j = c .before .loop2 .j in
-    let rise = points-rise (start .pre .3) k j (omega arith) (omega arith) in
-    omega (arith, rise, start .pre .3 .below j (omega arith), start .pre .0 .most)
+reduce-requires : tie.Need-reduce-requires Inv-loop2 μ-loop2 Inv-loop μ-loop
+reduce-requires c κs = search needs
 
-element-copy-out-c : tie.Need-element-copy-out-c Inv-loop2 μ-loop2 Inv-loop μ-loop
-element-copy-out-c c =
-    let start = c .before .before .before .before .before in
-    let k = c .before .before .before .before .loop .k in
-    let j = c .before .loop2 .j in
-    let rise = points-rise (start .pre .3) k j (omega arith) (omega arith) in
-    omega (arith, rise, start .pre .3 .below j (omega arith), start .pre .0 .most)
+cast-reduce : tie.Need-cast-reduce Inv-loop2 μ-loop2 Inv-loop μ-loop
+cast-reduce c = search needs
+
+mul-reduce-3 : tie.Need-mul-reduce-3 Inv-loop2 μ-loop2 Inv-loop μ-loop
+mul-reduce-3 c = search needs
+
+element-copy-out-reduce : tie.Need-element-copy-out-reduce Inv-loop2 μ-loop2 Inv-loop μ-loop
+element-copy-out-reduce c = search needs
+
+reduce-requires-2 : tie.Need-reduce-requires-2 Inv-loop2 μ-loop2 Inv-loop μ-loop
+reduce-requires-2 c κs = search needs
 
 mul-row : tie.Need-mul-row Inv-loop2 μ-loop2 Inv-loop μ-loop
 mul-row c = search needs
@@ -91,13 +82,9 @@ element-copy-out-row c = search needs
 
 quotient-requires : tie.Need-quotient-requires Inv-loop2 μ-loop2 Inv-loop μ-loop
 quotient-requires c κs =
-    let here = c .before .before .before in
+    let here = c .before .before .before .before .before in
     let start = here .before .before .before .before in
-    let k = here .before .before .before .loop .k in
-    let j = here .loop2 .j in
-    let rise = points-rise (start .pre .3) k j (omega arith) (omega arith) in
-    let inverse = start .pre .1 .each (at (start .args .t2) j - at (start .args .t2) k) (omega (arith, rise)) (omega (arith, rise, start .pre .3 .below j (omega arith))) in
-    (start .pre .0, here .loop2 .inv .3 .done j (omega (arith, start .pre .4)), here .loop2 .inv .2, inverse .below)
+    (start .pre .0, here .loop2 .inv .3 .done (here .loop2 .j) (omega (arith, start .pre .4)), here .loop2 .inv .2, c .before .reduce2 .ensures .1)
 
 mul-next : tie.Need-mul-next Inv-loop2 μ-loop2 Inv-loop μ-loop
 mul-next c = search needs
@@ -113,7 +100,7 @@ loop2-less c = search needs
 
 loop2-again : tie.Need-loop2-again Inv-loop2 μ-loop2 Inv-loop μ-loop
 loop2-again c =
-    let here = c .before .before .before .before in
+    let here = c .before .before .before .before .before .before in
     (omega arith, omega arith, here .loop2 .inv .2, upto-put _ (omega (arith, here .before .before .before .before .pre .4)) (c .quotient .ensures) (here .loop2 .inv .3))
 
 add-k : tie.Need-add-k Inv-loop2 μ-loop2 Inv-loop μ-loop
@@ -141,14 +128,17 @@ divide-differences-spec =
     element-copy-out-base
     add-j
     loop2-holds
-    mul-c
-    array-read-c
-    mul-c-2
-    array-read-c-2
-    sub-c
-    cast-c
-    mul-c-3
-    element-copy-out-c
+    mul-reduce
+    array-read-reduce
+    mul-reduce-2
+    array-read-reduce-2
+    sub-reduce
+    add-reduce
+    reduce-requires
+    cast-reduce
+    mul-reduce-3
+    element-copy-out-reduce
+    reduce-requires-2
     mul-row
     element-copy-out-row
     quotient-requires

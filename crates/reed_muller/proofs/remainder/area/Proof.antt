@@ -1,9 +1,9 @@
--- `reed_muller::decoder::area` meets its contract: sides of sixteen have 256 cells. Assumes nothing.
+-- `reed_muller::remainder::area` meets its contract: sides of sixteen have 256 cells. Assumes nothing.
 use native.Mathlib.Omega.{arith}
 use native.Mathlib.Nat.{mul-le-mul}
 use borrow.Author.Needs.{needs}
-use Rattle.reed_muller.proofs.decoder.area.Statement.{statement}
-use Rattle.reed_muller.proofs.decoder.area.Tie as tie
+use Rattle.reed_muller.proofs.remainder.area.Statement.{statement}
+use Rattle.reed_muller.proofs.remainder.area.Tie as tie
 
 mul-result : tie.Need-mul-result
 mul-result c = omega (arith, mul-le-mul (c .pre .1) (c .pre .2))

@@ -1,4 +1,4 @@
--- `marks::guess::change_to_powers` meets its contract: rows of residues stay such. Assumes nothing.
+-- `reed_muller::draft::change_to_powers` meets its contract: rows of residues stay such. Assumes nothing.
 use Prim.Native.Nat.{_-_, _≤_}
 use native.Mathlib.Omega.{arith}
 use Rattle.field.specs.Row.{Row}
@@ -6,8 +6,8 @@ use Rattle.field.proofs.Loop.{upto-put}
 use Rattle.field.proofs.Row.{result-row}
 use Rattle.polynomial.specs.Powers.{Rows}
 use borrow.Author.Needs.{needs}
-use Rattle.marks.proofs.guess.change_to_powers.Statement.{statement}
-use Rattle.marks.proofs.guess.change_to_powers.Tie as tie
+use Rattle.reed_muller.proofs.draft.change_to_powers.Statement.{statement}
+use Rattle.reed_muller.proofs.draft.change_to_powers.Tie as tie
 
 abbrev Inv-loop2 : tie.InvT-loop2
 Inv-loop2 f₀ d p m x i high₀ j₀ f high j = (i ≤ j) × (j ≤ d) × Row p high × Rows p f
@@ -57,7 +57,7 @@ array-read-add-multiple c = search needs
 sub-add-multiple-2 : tie.Need-sub-add-multiple-2 Inv-loop2 μ-loop2 Inv-loop μ-loop
 sub-add-multiple-2 c =
     let k = c .before .before .loop2 .j - 1 - c .before .before .before .before .before .loop .i in
-    omega (arith, c .before .before .before .before .before .before .pre .2 .below k (omega arith))
+    omega (arith, c .before .before .before .before .before .before .pre .2 .small k)
 
 add-multiple-requires : tie.Need-add-multiple-requires Inv-loop2 μ-loop2 Inv-loop μ-loop
 add-multiple-requires c κs =

@@ -1,9 +1,9 @@
--- `marks::guess::quotient` meets its contract: remainders are a row. Assumes nothing.
+-- `reed_muller::draft::quotient` meets its contract: remainders are a row. Assumes nothing.
 use native.Mathlib.Omega.{arith}
 use Rattle.field.proofs.Row.{result-row}
 use borrow.Author.Needs.{needs}
-use Rattle.marks.proofs.guess.quotient.Statement.{statement}
-use Rattle.marks.proofs.guess.quotient.Tie as tie
+use Rattle.reed_muller.proofs.draft.quotient.Statement.{statement}
+use Rattle.reed_muller.proofs.draft.quotient.Tie as tie
 
 subtract-requires : tie.Need-subtract-requires
 subtract-requires c κs = let b = c .pre in (b .1, b .2, b .0 .most)

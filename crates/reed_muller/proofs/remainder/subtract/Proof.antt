@@ -1,4 +1,4 @@
--- `reed_muller::solver::subtract` meets its contract: from the rows before r the multiple is subtracted, the others are as they were. Assumes nothing.
+-- `reed_muller::remainder::subtract` meets its contract: from the rows before r the multiple is subtracted, the others are as they were. Assumes nothing.
 use mathlib.Core.Logic.{⊎-elim}
 use mathlib.Core.Path.{_≡_, refl, sym, _∙_}
 use mathlib.Core.List.{List, []}
@@ -16,8 +16,8 @@ use Rattle.polynomial.specs.Powers.{Rows}
 use Rattle.reed_muller.specs.Loops.{line, cells}
 use Rattle.reed_muller.proofs.Answers.{positive}
 use borrow.Author.Needs.{needs}
-use Rattle.reed_muller.proofs.solver.subtract.Statement.{statement}
-use Rattle.reed_muller.proofs.solver.subtract.Tie as tie
+use Rattle.reed_muller.proofs.remainder.subtract.Statement.{statement}
+use Rattle.reed_muller.proofs.remainder.subtract.Tie as tie
 
 -- a multiple of 0 leaves the row as it is
 unchanged : {p z : ℕ} {l : List ℕ} (w : List ℕ) → Row p l → 0 < p → z ≡ 0 → l ≡ row (λ c. (at l c + (p - z) * at w c) % p)

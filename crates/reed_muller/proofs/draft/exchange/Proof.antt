@@ -1,0 +1,63 @@
+-- `reed_muller::draft::exchange` meets its contract: columns of residues are made, and those from k on stay. Assumes nothing.
+use mathlib.Core.Path.{refl, _∙_}
+use mathlib.Core.List.{[]}
+use Prim.Native.Nat.{_-_, _≤_}
+use native.Mathlib.Omega.{arith}
+use lib.Seq.{getD-set-other}
+use Rattle.field.proofs.Loop.{upto-put}
+use Rattle.reed_muller.specs.Steps.{Redrawn}
+use Rattle.reed_muller.proofs.Answers.{column-row}
+use borrow.Author.Needs.{needs}
+use Rattle.reed_muller.proofs.draft.exchange.Statement.{statement}
+use Rattle.reed_muller.proofs.draft.exchange.Tie as tie
+
+abbrev Inv-loop : tie.InvT-loop
+Inv-loop f k p columns₀ t₀ columns t = (t ≤ k) × Redrawn p k columns₀ columns
+
+abbrev μ-loop : tie.MeasureT-loop
+μ-loop f k p columns₀ t₀ columns t = k - t
+
+loop-holds : tie.Need-loop-holds Inv-loop μ-loop
+loop-holds c = (omega arith, record { rows = c .pre .2; kept = λ t l. refl })
+
+place-of-each-requires : tie.Need-place-of-each-requires Inv-loop μ-loop
+place-of-each-requires c κs = search needs
+
+mul-line : tie.Need-mul-line Inv-loop μ-loop
+mul-line c = search needs
+
+element-set-from-line : tie.Need-element-set-from-line Inv-loop μ-loop
+element-set-from-line c = search needs
+
+add-t : tie.Need-add-t Inv-loop μ-loop
+add-t c = search needs
+
+loop-less : tie.Need-loop-less Inv-loop μ-loop
+loop-less c = search needs
+
+loop-again : tie.Need-loop-again Inv-loop μ-loop
+loop-again c =
+    let l = c .before .before .loop in
+    let start = c .before .before .before in
+    (omega arith, record {
+      rows = upto-put _ (omega (arith, start .pre .3)) (column-row (l .t) (start .pre .0) (start .pre .1) (c .place-of-each .ensures)) (l .inv .1 .rows);
+      kept = λ j k. getD-set-other (l .columns) (l .t) j (c .place-of-each .result) [] (omega arith) ∙ l .inv .1 .kept j k;
+    })
+
+returns : tie.Need-returns Inv-loop μ-loop
+returns c = c .before .loop .inv .1
+
+pub exchange-spec : {M : Type 1} → statement M
+exchange-spec =
+    tie.close
+    (tie.spec
+    Inv-loop
+    μ-loop
+    loop-holds
+    place-of-each-requires
+    mul-line
+    element-set-from-line
+    add-t
+    loop-less
+    loop-again
+    returns)

@@ -1,0 +1,100 @@
+-- `reed_muller::draft::gather` meets its contract: rows of residues stay such, and at most one line is taken in a turn. Assumes nothing.
+use mathlib.Core.Logic.{⊎-elim}
+use Prim.Native.Nat.{ℕ, _-_, _≤_, _<_}
+use native.Mathlib.Omega.{arith}
+use Rattle.field.specs.Row.{Row}
+use Rattle.field.proofs.Loop.{upto-put}
+use Rattle.polynomial.specs.Powers.{Rows}
+use Rattle.reed_muller.proofs.Loops.{set-row}
+use borrow.Author.Needs.{needs}
+use Rattle.reed_muller.proofs.draft.gather.Statement.{statement}
+use Rattle.reed_muller.proofs.draft.gather.Tie as tie
+
+abbrev Inv-loop : tie.InvT-loop
+Inv-loop f₀ z₀ known a x i₀ r₀ f z i r = (r ≤ a) × (i ≤ r) × ((p : ℕ) → Rows p f₀ → Rows p f) × ((p : ℕ) → Row p x → Row p z₀ → Row p z)
+
+abbrev μ-loop : tie.MeasureT-loop
+μ-loop f₀ z₀ known a x i₀ r₀ f z i r = a - r
+
+loop-holds : tie.Need-loop-holds Inv-loop μ-loop
+loop-holds c = search needs
+
+mul-if1 : tie.Need-mul-if1 Inv-loop μ-loop
+mul-if1 c = search needs
+
+array-read-if1 : tie.Need-array-read-if1 Inv-loop μ-loop
+array-read-if1 c = search needs
+
+mul-line : tie.Need-mul-line Inv-loop μ-loop
+mul-line c = search needs
+
+element-copy-out-line : tie.Need-element-copy-out-line Inv-loop μ-loop
+element-copy-out-line c = search needs
+
+mul-line-2 : tie.Need-mul-line-2 Inv-loop μ-loop
+mul-line-2 c = search needs
+
+element-set-from-line : tie.Need-element-set-from-line Inv-loop μ-loop
+element-set-from-line c = search needs
+
+mul-z : tie.Need-mul-z Inv-loop μ-loop
+mul-z c = search needs
+
+array-read-z : tie.Need-array-read-z Inv-loop μ-loop
+array-read-z c = search needs
+
+mul-z-2 : tie.Need-mul-z-2 Inv-loop μ-loop
+mul-z-2 c = search needs
+
+element-write-z : tie.Need-element-write-z Inv-loop μ-loop
+element-write-z c = search needs
+
+add-i : tie.Need-add-i Inv-loop μ-loop
+add-i c = search needs
+
+add-r : tie.Need-add-r Inv-loop μ-loop
+add-r c = search needs
+
+loop-less : tie.Need-loop-less Inv-loop μ-loop
+loop-less c = search needs
+
+loop-again : tie.Need-loop-again Inv-loop μ-loop
+loop-again c =
+    let l = c .before .before .loop in
+    let f = c .before .before .before .before .pre .0 in
+    let here : l .r < 16 = omega (arith, f .rows) in
+    let there : l .i < 16 = omega (arith, f .rows) in (
+      omega arith,
+      ⊎-elim (λ w. omega (arith, w .4)) (λ w. omega (arith, w .3)) (c .if1 .came),
+      λ p R. ⊎-elim (λ w. rw (w .2) (upto-put _ there (l .inv .2 p R .done (l .r) here) (l .inv .2 p R))) (λ w. rw (w .1) (l .inv .2 p R)) (c .if1 .came),
+      λ p X Z. ⊎-elim (λ w. rw (w .3) (set-row (l .i) _ there (X .small (l .r)) (l .inv .3 p X Z))) (λ w. rw (w .2) (l .inv .3 p X Z)) (c .if1 .came),
+    )
+
+returns : tie.Need-returns Inv-loop μ-loop
+returns c =
+    let l = c .before .loop in
+    let start = c .before .before .before in
+    (l .inv .2 _ (start .pre .1), l .inv .3 _ (start .pre .0 .rowPoints) (start .pre .2), omega (arith, start .pre .0 .rows))
+
+pub gather-spec : {M : Type 1} → statement M
+gather-spec =
+    tie.close
+    (tie.spec
+    Inv-loop
+    μ-loop
+    loop-holds
+    mul-if1
+    array-read-if1
+    mul-line
+    element-copy-out-line
+    mul-line-2
+    element-set-from-line
+    mul-z
+    array-read-z
+    mul-z-2
+    element-write-z
+    add-i
+    add-r
+    loop-less
+    loop-again
+    returns)

@@ -1,0 +1,28 @@
+-- `reed_muller::trial::complete` meets its contract: what is left is measured, and over the radius it is as it was. Assumes nothing.
+use mathlib.Core.Path.{refl}
+use native.Mathlib.Omega.{arith}
+use borrow.Author.Needs.{needs}
+use Rattle.reed_muller.proofs.trial.complete.Statement.{statement}
+use Rattle.reed_muller.proofs.trial.complete.Tie as tie
+
+subtract-below-requires : tie.Need-subtract-below-requires
+subtract-below-requires c κs = search needs
+
+measure-requires : tie.Need-measure-requires
+measure-requires c κs = search needs
+
+radius-requires : tie.Need-radius-requires
+radius-requires c κs = search needs
+
+returns : tie.Need-returns
+returns c = record { under = λ l. absurd (omega (arith, c .if1 .taken, c .before .radius .ensures)); over = λ _. refl }
+
+returns-2 : tie.Need-returns-2
+returns-2 c = record {
+  under = λ _. (c .before .before .measure .ensures, λ s D. c .before .before .before .before .subtract-below .ensures .1 s _ D);
+  over = λ h. absurd (omega (arith, c .if1 .left, c .before .radius .ensures));
+}
+
+pub complete-spec : {M : Type 1} → statement M
+complete-spec =
+    tie.close (tie.spec subtract-below-requires measure-requires radius-requires returns returns-2)

@@ -1,0 +1,185 @@
+// Drafts of a mark's columns: made by interpolation, without looking for errors. Nothing is said of a draft but that its numbers are
+// residues, since it is tried like any record; where the cells or lines that it comes from are right it is the answer.
+use crate::grid::Grid;
+use crate::lines;
+use field::rows;
+use polynomial::bivariate::place_of_each;
+ghost use Prim.Native.Nat.{_≤_, _<_};
+ghost use Rattle.field.specs.Prime.{Inverses};
+ghost use Rattle.field.specs.Row.{Row, Reciprocal};
+ghost use Rattle.polynomial.specs.Powers.{Rows};
+ghost use Rattle.reed_muller.specs.Fit.{Fit};
+ghost use Rattle.reed_muller.specs.Steps.{Redrawn};
+
+// c (a - b).
+fn quotient(a: [u16; 16], b: [u16; 16], c: u16, p: u16, m: u16) -> [u16; 16]
+    requires { ⌜ Reciprocal p m × Row p a × Row p b × (c < p) ⌝ }
+    ensures { λ r. ⌜ Row p r ⌝ }
+{
+    let difference = rows::subtract(a, b, p);
+    rows::scale(c, difference, p, m)
+}
+
+// Newton's coefficients of sixteen polynomials at once, from their values at the first d + 1 points.
+fn divide_differences(
+    f: &mut [[u16; 16]; 16],
+    x: [u16; 16],
+    d: usize,
+    p: u16,
+    m: u16,
+    inverses: &[u16; 251],
+)
+    requires { ⌜ Reciprocal p m × Inverses p (now inverses) × Rows p (now f) × Row p x × (d < 16) ⌝ }
+    ensures { λ _. ⌜ Rows p (now (f .exit)) ⌝ }
+{
+    let mut k = 0;
+    while k < d {
+        let base = f[k];
+        let mut j = k + 1;
+        while j <= d {
+            let difference = rows::reduce(x[j] + (p - x[k]), p, m);
+            let c = rows::reduce(inverses[difference as usize], p, m);
+            let row = f[j];
+            let next = quotient(row, base, c, p, m);
+            f[j] = next;
+            j += 1;
+        }
+        k += 1;
+    }
+}
+
+// Their coefficients by powers, from Newton's: from the highest on each is freed of a multiple of the one above it, as just made, so that
+// the compiler doesn't work across rows.
+fn change_to_powers(f: &mut [[u16; 16]; 16], x: [u16; 16], d: usize, p: u16, m: u16)
+    requires { ⌜ Reciprocal p m × Rows p (now f) × Row p x × (d < 16) ⌝ }
+    ensures { λ _. ⌜ Rows p (now (f .exit)) ⌝ }
+{
+    let mut i = 0;
+    while i < d {
+        let mut high = f[d];
+        let mut j = d;
+        while j > i {
+            j -= 1;
+            let row = f[j];
+            let next = rows::add_multiple(row, p - x[j - i], high, p, m);
+            f[j] = next;
+            high = next;
+        }
+        i += 1;
+    }
+}
+
+// The first k places of the rows become the first k columns.
+fn exchange(f: &[[u16; 16]; 16], k: usize, p: u16, columns: &mut [[u16; 16]; 16])
+    requires { ⌜ (0 < p) × Rows p (now f) × Rows p (now columns) × (k ≤ 16) ⌝ }
+    ensures { λ _. ⌜ Redrawn p k (now (columns .entry)) (now (columns .exit)) ⌝ }
+{
+    let mut t = 0;
+    while t < k {
+        let line = place_of_each(f, t);
+        columns[t] = line;
+        t += 1;
+    }
+}
+
+// How many of the first k numbers are not v.
+fn others(row: [u16; 16], k: usize, v: u16) -> u16
+    requires { ⌜ k ≤ 16 ⌝ }
+{
+    let mut count = 0;
+    let mut j = 0;
+    while j < k {
+        if row[j] != v {
+            count += 1;
+        }
+        j += 1;
+    }
+    count
+}
+
+// The columns of the polynomial through the cells of the first d + 1 rows and columns. False where its degree in X and Y is above d: then
+// one of these cells is wrong, and the columns are of no use.
+pub fn from_cells(
+    g: Grid,
+    inverses: &[u16; 251],
+    cells: &[[u16; 16]; 16],
+    columns: &mut [[u16; 16]; 16],
+) -> bool
+    requires { ⌜ Fit g × Inverses (g .p) (now inverses) × Rows (g .p) (now cells) × Rows (g .p) (now columns) ⌝ }
+    ensures { λ _. ⌜ Rows (g .p) (now (columns .exit)) ⌝ }
+{
+    let p = g.p;
+    let m = g.m;
+    let d = g.d;
+    let x = g.x;
+    let y = g.y;
+    let mut f = *cells;
+    divide_differences(&mut f, x, d, p, m, inverses);
+    let highest = f[d];
+    if others(highest, d + 1, highest[0]) != 0 {
+        return false;
+    }
+    change_to_powers(&mut f, x, d, p, m);
+    exchange(&f, d + 1, p, columns);
+    divide_differences(columns, y, d, p, m, inverses);
+    change_to_powers(columns, y, d, p, m);
+    true
+}
+
+// The lines whose answers are known, and their points, come first; how many they are.
+fn gather(g: Grid, known: [u32; 16], f: &mut [[u16; 16]; 16], z: &mut [u16; 16]) -> usize
+    requires { ⌜ Fit g × Rows (g .p) (now f) × Row (g .p) (now z) ⌝ }
+    ensures { λ i. ⌜ Rows (g .p) (now (f .exit)) × Row (g .p) (now (z .exit)) × (i ≤ 16) ⌝ }
+{
+    let a = g.a;
+    let x = g.x;
+    let mut i = 0;
+    let mut r = 0;
+    while r < a {
+        if known[r] != lines::UNKNOWN {
+            let line = f[r];
+            f[i] = line;
+            z[i] = x[r];
+            i += 1;
+        }
+        r += 1;
+    }
+    i
+}
+
+// The columns of Y^0 to Y^(t - 1) through the first d + 1 lines whose answers are known. False where these are fewer, or where the next
+// one does not fit them.
+pub fn from_lines(
+    g: Grid,
+    inverses: &[u16; 251],
+    t: usize,
+    messages: &[[u16; 16]; 16],
+    known: [u32; 16],
+    columns: &mut [[u16; 16]; 16],
+) -> bool
+    requires { ⌜ Fit g × Inverses (g .p) (now inverses) × (t ≤ g .d) × Rows (g .p) (now messages) × Rows (g .p) (now columns) ⌝ }
+    ensures { λ _. ⌜ Redrawn (g .p) t (now (columns .entry)) (now (columns .exit)) ⌝ }
+{
+    let p = g.p;
+    let m = g.m;
+    let d = g.d;
+    let mut f = *messages;
+    let mut z = g.x;
+    let count = gather(g, known, &mut f, &mut z);
+    if count <= d {
+        return false;
+    }
+    let mut last = d;
+    if count > d + 1 {
+        last = d + 1;
+    }
+    divide_differences(&mut f, z, last, p, m, inverses);
+    if last > d {
+        if others(f[last], t, 0) != 0 {
+            return false;
+        }
+    }
+    change_to_powers(&mut f, z, d, p, m);
+    exchange(&f, t, p, columns);
+    true
+}
