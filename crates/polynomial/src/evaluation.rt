@@ -2,7 +2,7 @@
 // reciprocal of p (crate `field`).
 ghost use mathlib.Core.Path.{_≡_};
 ghost use mathlib.Core.List.{List};
-ghost use Prim.Native.Nat.{ℕ, suc, _%_, _<_};
+ghost use Prim.Native.Nat.{ℕ, suc, _+_, _*_, _%_, _<_};
 ghost use Rattle.bounded.specs.Bounded.{at};
 ghost use Rattle.field.specs.Row.{row, Row, Reciprocal};
 ghost use Rattle.polynomial.specs.Eval.{eval};
@@ -25,9 +25,9 @@ pub fn powers(x: [u16; 16], d: usize, p: u16, m: u16) -> [[u16; 16]; 16]
     rows
 }
 
-// c v added to the sums.
+// c v added to the sums. The bounds keep each of them within 32 bits.
 pub fn add_product(sum: &mut [u32; 16], c: u16, v: &[u16; 16])
-    requires { ⌜ ((j : ℕ) → j < 16 → at (now sum) j + c * at (now v) j < 4294967296) ⌝ }
+    requires { ⌜ Row 16777216 (now sum) × (c < 256) × Row 256 (now v) ⌝ }
     ensures { λ _. ⌜ now (sum .exit) ≡ row (λ j. at (now (sum .entry)) j + c * at (now (v .entry)) j) ⌝ }
 {
     let mut j = 0;
