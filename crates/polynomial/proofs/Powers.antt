@@ -45,14 +45,17 @@ terms m w i j = sum i λ t. w t * at (getD m t []) j
 pub terms-none : (m : List (List ℕ)) (w : ℕ → ℕ) → replicate 16 0 ≡ row (terms m w 0)
 terms-none m w = tab-is 16 _ (replicate 16 0) refl λ j k. getD-replicate 16 j 0 0 k
 
-pub terms-more : (m : List (List ℕ)) (w : ℕ → ℕ) (i : ℕ) {s l : List ℕ} → s ≡ row (terms m w i) → l ≡ row (λ j. at s j + w i * at (getD m i []) j) →
-    l ≡ row (terms m w (i + 1))
-terms-more m w i e f = f ∙ rw e (tab-eq 16 λ j k. ap (λ v. v + w i * at (getD m i []) j) (row-at (terms m w i) j k) ∙ sym (sum-more i λ t. w t * at (getD m t []) j))
+pub terms-more : (m : List (List ℕ)) (w : ℕ → ℕ) (i : ℕ) {s l : List ℕ} → s ≡ row (terms m w i) →
+    l ≡ row (λ j. at s j + w i * at (getD m i []) j) → l ≡ row (terms m w (i + 1))
+terms-more m w i e f = f ∙ rw e (tab-eq 16 λ j k. omega (arith, row-at (terms m w i) j k, sum-more i (λ t. w t * at (getD m t []) j)))
 
 -- each term is a product of two residues, so that the sums are small, and one term more can be added
 module _ {p : ℕ} {m : List (List ℕ)} {w : ℕ → ℕ} (h : p ≤ 251) (R : Rows p m) (W : (t : ℕ) → t < 16 → w t < p) where
   terms-most : (i j : ℕ) → i ≤ 16 → terms m w i j ≤ i * 62750
-  terms-most i j l = omega (arith, sum-le i {g = λ t. 62750} (λ t k. product-fits h (le-of-lt (W t (omega arith))) (R .done t (omega arith) .small j)), sum-const i 62750)
+  terms-most i j l = omega (arith, sum-le i {g = λ t. 62750} each, sum-const i 62750)
+    where
+      each : (t : ℕ) → t < i → w t * at (getD m t []) j ≤ 62750
+      each t k = let s : t < 16 = omega arith in product-fits h (le-of-lt (W t s)) (R .done t s .small j)
 
   pub terms-row : (i : ℕ) {s : List ℕ} → i ≤ 16 → s ≡ row (terms m w i) → Row 16777216 s
   terms-row i l e = rw e (row-of (omega arith) (length-tab 16 (terms m w i)) λ j k. rw (row-at (terms m w i) j k) (omega (arith, terms-most i j l)))

@@ -29,12 +29,14 @@ inverse-of-one l = record { below = l; one = mod-eq-of-lt l }
 first : {t : List ℕ} → Inverses 251 t → at t 1 ≡ 1
 first i = omega (arith, (i .each 1 (omega arith) (omega arith)) .one, (i .each 1 (omega arith) (omega arith)) .below)
 
--- and p - 1 is that of p - 1
+-- and so p - 1 is that of p - 1
 made-start : {p : ℕ} {t : List ℕ} → 2 ≤ p → p ≤ 251 → Inverses 251 t → Made p 2 (set t (p - 1) (p - 1))
 made-start {p} {t} l k i = record {
   size = length-set t (p - 1) (p - 1) ∙ i .size;
   each = λ b z h m. elim (ℕ-discrete b (p - 1)) [
-    | yes e ↦ let n : p - 1 < length t = omega (arith, i .size) in rw (e, getD-set-same t (p - 1) (p - 1) 0 n) (inverse-minus (omega arith) (inverse-of-one l))
+    | yes e ↦
+        let n : p - 1 < length t = omega (arith, i .size) in
+        rw (e, getD-set-same t (p - 1) (p - 1) 0 n) (inverse-minus (omega arith) (inverse-of-one l))
     | no e ↦ let f : b ≡ 1 = omega arith in rw (getD-set-other t (p - 1) b (p - 1) 0 e, f, first i) (inverse-of-one l)
   ];
 }
@@ -49,7 +51,9 @@ made-step : {p a v : ℕ} {l : List ℕ} → p ≤ 251 → a + a < p → Inverse
 made-step {p} {a} {v} {l} k h i m = record {
   size = length-set (set l a v) (p - a) (p - v) ∙ n;
   each = λ b z t s. elim (ℕ-discrete b (p - a)) [
-    | yes e ↦ let f : p - a < length (set l a v) = omega (arith, n) in rw (e, getD-set-same (set l a v) (p - a) (p - v) 0 f) (inverse-minus (omega arith) i)
+    | yes e ↦
+        let f : p - a < length (set l a v) = omega (arith, n) in
+        rw (e, getD-set-same (set l a v) (p - a) (p - v) 0 f) (inverse-minus (omega arith) i)
     | no e ↦ rw (getD-set-other (set l a v) (p - a) b (p - v) 0 e) (lower b z t s e)
   ];
 }

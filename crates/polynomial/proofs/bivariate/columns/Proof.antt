@@ -55,7 +55,9 @@ loop-again c =
     let w = c .before .coefficient-of-y .ensures in (
       omega arith,
       upto-put _ (omega arith) (c .values .ensures .0) (l .inv .1),
-      λ x P. upto-step _ (omega arith) (column-values (b .args .d) (l .t) F z (b .pre .3) (omega arith) w x (c .values .ensures .1 x (powers-less (b .args .p) x (omega arith) P))) (l .inv .2 x P),
+      λ x P.
+          let v = c .values .ensures .1 x (powers-less (b .args .p) x (omega arith) P) in
+          upto-step _ (omega arith) (column-values (b .args .d) (l .t) F z (b .pre .3) (omega arith) w x v) (l .inv .2 x P),
     )
 
 returns : tie.Need-returns Inv-loop μ-loop

@@ -7,6 +7,7 @@ use lib.ListN.{getD}
 use Rattle.bounded.specs.Bounded.{at}
 use Rattle.field.specs.Row.{row}
 use Rattle.field.proofs.Row.{result-row}
+use Rattle.polynomial.specs.Powers.{Rows}
 use Rattle.polynomial.proofs.Columns.{row-values-are}
 use Rattle.polynomial.proofs.Powers.{terms, terms-none, terms-more, terms-row, term-fits, terms-values}
 use borrow.Author.Needs.{needs}
@@ -16,6 +17,9 @@ use Rattle.polynomial.proofs.bivariate.row_values.Tie as tie
 -- the coefficients of row r
 abbrev coefficients : (columns : List (List ℕ)) (r : ℕ) → ℕ → ℕ
 coefficients columns r t = at (getD columns t []) r
+
+residues : {p : ℕ} {columns : List (List ℕ)} (r : ℕ) → Rows p columns → (t : ℕ) → t < 16 → coefficients columns r t < p
+residues r R t l = R .done t l .small r
 
 abbrev Inv-loop : tie.InvT-loop
 Inv-loop columns powers r d p m sum₀ t₀ sum t = (t ≤ d + 1) × (sum ≡ row (terms powers (coefficients columns r) t))
@@ -48,7 +52,7 @@ add-product-requires : tie.Need-add-product-requires Inv-loop μ-loop
 add-product-requires c κs =
     let b = c .before .before .before .before .before in
     let l = c .before .before .before .before .loop in
-    term-fits (b .pre .0 .most) (b .pre .2) (λ t m. b .pre .1 .done t m .small (b .args .r)) (l .t) (omega arith) (l .inv .1)
+    term-fits (b .pre .0 .most) (b .pre .2) (residues (b .args .r) (b .pre .1)) (l .t) (omega arith) (l .inv .1)
 
 add-t : tie.Need-add-t Inv-loop μ-loop
 add-t c = search needs
@@ -66,7 +70,7 @@ fold-row-requires : tie.Need-fold-row-requires Inv-loop μ-loop
 fold-row-requires c κs =
     let b = c .before .before in
     let l = c .before .loop in
-    (b .pre .0, λ j k. terms-row (b .pre .0 .most) (b .pre .2) (λ t m. b .pre .1 .done t m .small (b .args .r)) (l .t) (omega arith) (l .inv .1) .small j)
+    (b .pre .0, λ j k. terms-row (b .pre .0 .most) (b .pre .2) (residues (b .args .r) (b .pre .1)) (l .t) (omega arith) (l .inv .1) .small j)
 
 returns : tie.Need-returns Inv-loop μ-loop
 returns c =

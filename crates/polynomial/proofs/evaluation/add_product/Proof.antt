@@ -61,7 +61,8 @@ loop-again : tie.Need-loop-again Inv-loop μ-loop
 loop-again c =
     let b = c .before .before .before .before .args in
     let l = c .before .before .before .loop in
-    (omega arith, passed-step _ (omega arith) (ap (λ s. s + b .c * at (b .v .now) (l .j)) (l .inv .1 .todo (l .j) (omega arith) (omega arith))) (l .inv .1))
+    let as-it-was = l .inv .1 .todo (l .j) (omega arith) (omega arith) in
+    (omega arith, passed-step _ (omega arith) (ap (λ s. s + b .c * at (b .v .now) (l .j)) as-it-was) (l .inv .1))
 
 returns : tie.Need-returns Inv-loop μ-loop
 returns c = let u = c .before .loop .inv .1 in tab-is 16 _ (c .before .loop .sum) (u .size) λ j k. u .done j (omega arith)
