@@ -4,7 +4,7 @@ use mathlib.Core.Path.{_≡_, refl, sym, ap, _∙_}
 use mathlib.Core.Bool.{Bool, true, false, not, _&&_, false≢true}
 use Prim.Native.Nat.{ℕ, zero, suc, _+_, _*_, _-_, _/_, _%_, _≤_, _<_}
 use native.Mathlib.Omega.{arith}
-use native.Mathlib.Nat.{div-add-mod, mod-lt, zero-mod, mul-le-mul, mul-le-mul-left, mul-mod-left, div-le-self, sub-add-cancel}
+use native.Mathlib.Nat.{le-of-lt, div-add-mod, mod-lt, zero-mod, mul-le-mul, mul-le-mul-left, mul-mod-left, div-le-self, sub-add-cancel}
 use native.Mathlib.Decide.{ℕ-discrete, decLe}
 use lib.Dec.{eqb, leb}
 use borrow.Author.Tests.{eqb-false, ne-eqb, le-leb, leb-true}
@@ -85,6 +85,30 @@ inverse-step {p} {a} {s} z h = record {
 
     down : d * a + p * 1 ≡ p % a + p * a
     down = omega (arith, ap (λ t. t * a) (sub-add-cancel (div-le-self p a)), div-add-mod p a)
+
+-- 0 is no inverse
+inverse-positive : {p a s : ℕ} → Inverse p a s → 0 < s
+inverse-positive {p} {a} {s} h = elim (ℕ-discrete s 0) [
+  | yes e ↦ let z : s * a ≡ 0 = omega (arith, ap (λ t. t * a) e) in absurd (omega (arith, h .one, ap (λ t. t % p) z, zero-mod p))
+  | no e ↦ omega arith
+]
+
+-- minus an inverse is the inverse of minus the number
+pub inverse-minus : {p a s : ℕ} → a ≤ p → Inverse p a s → Inverse p (p - a) (p - s)
+inverse-minus {p} {a} {s} l h = record {
+  below = omega (arith, h .below, inverse-positive h);
+  one = cong-mod (omega (arith, h .below)) {a = (p - s) * (p - a)} {b = s * a} (record { k = a; l = p - s; eq = rw whole turned }) ∙ h .one;
+}
+  where
+    whole : suc (p - 1) ≡ p
+    whole = omega (arith, h .below)
+
+    turned : (p - s) * (p - a) + p * a ≡ s * a + p * (p - s)
+    turned = omega (arith, ap (λ t. t * a) (sub-add-cancel (le-of-lt (h .below))), ap (λ t. (p - s) * t) (sub-add-cancel l))
+
+-- an odd prime is no number twice
+pub not-twice : {p a : ℕ} → Prime p → 2 ≤ a → p ≢ a + a
+not-twice {p} {a} r h e = let d : p ≡ 2 * a = omega arith in r .alone a h (omega arith) (ap (λ t. t % a) d ∙ mul-mod-left 2 a)
 
 module _ {q : ℕ} (prime : Prime (suc q)) where
   euclid : (f a b : ℕ) → a ≤ f → 0 < a → a < suc q → Cong q (a * b) 0 → Cong q b 0

@@ -266,7 +266,8 @@ fn table() -> [u16; 251]
 }
 
 // The inverses modulo p by the number, from 1 to p - 1; the entries from p are any. At 251, the largest modulus and the
-// usual one, by the table; else each from one before it: p = k a + r makes 1 / a the same as -k / r, and r is less than a.
+// usual one, by the table; else each of the lower half from one before it: p = k a + r makes 1 / a the same as -k / r, and r
+// is less than a; and each of the upper half from its mirror in the lower: 1 / (p - a) is -1 / a.
 pub fn inverses(p: u16, m: u16) -> [u16; 251]
     requires { ⌜ Prime p × (p ≤ 251) × Reciprocal p m ⌝ }
     ensures { λ r. ⌜ Inverses p r ⌝ }
@@ -275,9 +276,12 @@ pub fn inverses(p: u16, m: u16) -> [u16; 251]
     if p == 251 {
         return out;
     }
+    out[(p - 1) as usize] = p - 1;
     let mut a: u16 = 2;
-    while a < p {
-        out[a as usize] = crate::rows::reduce((p - p / a) * out[(p % a) as usize], p, m);
+    while a + a < p {
+        let inverse = crate::rows::reduce((p - p / a) * out[(p % a) as usize], p, m);
+        out[a as usize] = inverse;
+        out[(p - a) as usize] = p - inverse;
         a += 1;
     }
     out

@@ -6,28 +6,21 @@ use mathlib.Core.List.{List, []}
 use Prim.Native.Nat.{ℕ, suc, _+_, _*_, _-_, _%_, _^_, _≤_, _<_}
 use native.Mathlib.Omega.{arith}
 use lib.Dec.{leb}
-use lib.ListN.{getD, replicate, getD-replicate}
+use lib.ListN.{getD}
 use borrow.Author.Tests.{le-leb, leb-true}
 use Rattle.bounded.specs.Bounded.{at}
 use Rattle.bounded.proofs.Sum.{sum-eq}
 use Rattle.bounded.proofs.Tab.{length-tab, tab-eq}
-use Rattle.field.specs.Congruence.{Cong}
 use Rattle.field.specs.Row.{row, Row}
-use Rattle.field.proofs.Congruence.{same, _⨾_, cong-mod}
+use Rattle.field.proofs.Congruence.{cong-mod}
 use Rattle.field.proofs.Row.{row-at, row-of, result-cong}
 use Rattle.definitions.specs.Code.{start, valueXY}
 use Rattle.definitions.specs.Word.{Word}
 use Rattle.polynomial.specs.Eval.{eval}
 use Rattle.polynomial.specs.Record.{coef, column}
-use Rattle.polynomial.specs.Powers.{Rows, Columns}
+use Rattle.polynomial.specs.Powers.{Columns}
 use Rattle.polynomial.proofs.Eval.{eval-cong}
 use Rattle.polynomial.proofs.Record.{start-below, value-rows}
-
-pub zero-rows : {p : ℕ} → 0 < p → Rows p (replicate 16 (replicate {A = ℕ} 16 0))
-zero-rows z = record {
-  size = refl;
-  done = λ t l. rw (getD-replicate 16 t (replicate {A = ℕ} 16 0) [] l) (row-of z refl λ j k. rw (getD-replicate {A = ℕ} 16 j 0 0 k) z);
-}
 
 -- the coefficients w of Y^t
 module _ {p : ℕ} (d t : ℕ) (F : List ℕ) {w : List ℕ} (z : 0 < p) (h : d < 16) (m : t ≤ d) (e : w ≡ row λ i. cond (leb (i + t) d) (coef F i t) 0) where
@@ -44,14 +37,8 @@ module _ {p : ℕ} (d t : ℕ) (F : List ℕ) {w : List ℕ} (z : 0 < p) (h : d 
       each : (i : ℕ) → i + t ≤ d → at w i ≡ coef F i t
       each i l = let k : i < 16 = omega arith in rw (e, row-at (λ i. cond (leb (i + t) d) (coef F i t) 0) i k, le-leb _ _ l)
 
--- place r of each row
-module _ {p : ℕ} (r : ℕ) (columns : List (List ℕ)) {w : List ℕ} (z : 0 < p) (h : r < 16) (e : w ≡ row λ t. at (getD columns t []) r) where
-  pub place-row : Rows p columns → Row p w
-  place-row R = rw e (row-of z (length-tab 16 _) λ t l. rw (row-at (λ t. at (getD columns t []) r) t l) (R .done t l .small r))
-
-  pub row-values-are : (d : ℕ) (x y F : List ℕ) {v : List ℕ} → d < 16 → Columns p d x F columns → v ≡ row (λ j. eval (suc d) (at w) (at y j) % p) →
-      v ≡ row (λ j. valueXY p d F (at x r) (at y j))
-  row-values-are d x y F l C f = f ∙ tab-eq 16 λ j k. cong-mod z (eval-cong (suc d) (at y j) each) ∙ sym (value-rows p d F (at x r) (at y j))
-    where
-      each : (t : ℕ) → t < suc d → Cong (p - 1) (at w t) (column d (coef F) t (at x r))
-      each t m = let k : t < 16 = omega arith in same (rw e (row-at (λ t. at (getD columns t []) r) t k)) ⨾ result-cong _ z (C .done t m) r h
+-- the polynomial in Y whose coefficients are place r of the columns has the values of row r
+pub row-values-are : {p d r : ℕ} (columns : List (List ℕ)) (x y F : List ℕ) {v : List ℕ} → 0 < p → r < 16 → Columns p d x F columns →
+    v ≡ row (λ j. eval (suc d) (λ t. at (getD columns t []) r) (at y j) % p) → v ≡ row (λ j. valueXY p d F (at x r) (at y j))
+row-values-are {p} {d} {r} columns x y F z h C f = f ∙ tab-eq 16 λ j k.
+    cong-mod z (eval-cong (suc d) (at y j) λ t m. result-cong _ z (C .done t m) r h) ∙ sym (value-rows p d F (at x r) (at y j))

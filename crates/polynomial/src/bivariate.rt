@@ -78,7 +78,7 @@ pub fn columns(
     m: u16,
 ) -> [[u16; 16]; 16]
     requires { ⌜ Reciprocal p m × Rows p (now powers) × Word p (startOf (suc d)) (now message) × (d < 16) ⌝ }
-    ensures { λ r. ⌜ Rows p r × ((x : List ℕ) → Powers p x (now (powers .entry)) → Columns p d x (now (message .entry)) r) ⌝ }
+    ensures { λ r. ⌜ Rows p r × ((x : List ℕ) → Powers p x d (now (powers .entry)) → Columns p d x (now (message .entry)) r) ⌝ }
 {
     let mut out = [[0u16; 16]; 16];
     let mut t = 0;
@@ -114,8 +114,13 @@ pub fn row_values(
     m: u16,
 ) -> [u16; 16]
     requires { ⌜ Reciprocal p m × Rows p (now columns) × Rows p (now powers) × (r < 16) × (d < 16) ⌝ }
-    ensures { λ v. ⌜ Row p v × ((x y F : List ℕ) → Columns p d x F (now (columns .entry)) → Powers p y (now (powers .entry)) → v ≡ row (λ j. valueXY p d F (at x r) (at y j))) ⌝ }
+    ensures { λ v. ⌜ Row p v × ((x y F : List ℕ) → Columns p d x F (now (columns .entry)) → Powers p y d (now (powers .entry)) → v ≡ row (λ j. valueXY p d F (at x r) (at y j))) ⌝ }
 {
-    let w = place_of_each(columns, r);
-    evaluation::values(powers, d, w, p, m)
+    let mut sum = [0u32; 16];
+    let mut t = 0;
+    while t <= d {
+        evaluation::add_product(&mut sum, columns[t][r], &powers[t]);
+        t += 1;
+    }
+    field::rows::fold_row(sum, p, m)
 }

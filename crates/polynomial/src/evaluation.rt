@@ -2,21 +2,21 @@
 // reciprocal of p (crate `field`).
 ghost use mathlib.Core.Path.{_≡_};
 ghost use mathlib.Core.List.{List};
-ghost use Prim.Native.Nat.{ℕ, suc, _%_, _<_};
+ghost use Prim.Native.Nat.{ℕ, suc, _+_, _*_, _%_, _<_};
 ghost use Rattle.bounded.specs.Bounded.{at};
 ghost use Rattle.field.specs.Row.{row, Row, Reciprocal};
 ghost use Rattle.polynomial.specs.Eval.{eval};
 ghost use Rattle.polynomial.specs.Powers.{Rows, Powers};
 
-// Row t has the powers t of the points x, t from 0 to 15.
-pub fn powers(x: [u16; 16], p: u16, m: u16) -> [[u16; 16]; 16]
-    requires { ⌜ Reciprocal p m × Row p x ⌝ }
-    ensures { λ r. ⌜ Powers p x r ⌝ }
+// Row t has the powers t of the points x, t from 0 to d.
+pub fn powers(x: [u16; 16], d: usize, p: u16, m: u16) -> [[u16; 16]; 16]
+    requires { ⌜ Reciprocal p m × Row p x × (d < 16) ⌝ }
+    ensures { λ r. ⌜ Rows p r × Powers p x d r ⌝ }
 {
     let mut power = [1; 16];
     let mut rows = [power; 16];
     let mut t = 0;
-    while t < 16 {
+    while t <= d {
         rows[t] = power;
         let next = field::rows::multiply(power, x, p, m);
         power = next;
@@ -25,22 +25,28 @@ pub fn powers(x: [u16; 16], p: u16, m: u16) -> [[u16; 16]; 16]
     rows
 }
 
+// c v added to the sums. The bounds keep each of them within 32 bits.
+pub fn add_product(sum: &mut [u32; 16], c: u16, v: &[u16; 16])
+    requires { ⌜ Row 16777216 (now sum) × (c < 256) × Row 256 (now v) ⌝ }
+    ensures { λ _. ⌜ now (sum .exit) ≡ row (λ j. at (now (sum .entry)) j + c * at (now (v .entry)) j) ⌝ }
+{
+    let mut j = 0;
+    while j < 16 {
+        sum[j] += c as u32 * v[j] as u32;
+        j += 1;
+    }
+}
+
 // The values at the points, whose powers are given, of the polynomial with the k + 1 coefficients w. The sums of products are
 // reduced once, at the end: sixteen products of numbers below 251 are less than 2^20.
 pub fn values(powers: &[[u16; 16]; 16], k: usize, w: [u16; 16], p: u16, m: u16) -> [u16; 16]
     requires { ⌜ Reciprocal p m × Rows p (now powers) × Row p w × (k < 16) ⌝ }
-    ensures { λ r. ⌜ Row p r × ((x : List ℕ) → Powers p x (now (powers .entry)) → r ≡ row (λ j. eval (suc k) (at w) (at x j) % p)) ⌝ }
+    ensures { λ r. ⌜ Row p r × ((x : List ℕ) → Powers p x k (now (powers .entry)) → r ≡ row (λ j. eval (suc k) (at w) (at x j) % p)) ⌝ }
 {
     let mut sum = [0u32; 16];
     let mut i = 0;
     while i <= k {
-        let c = w[i] as u32;
-        let power = powers[i];
-        let mut j = 0;
-        while j < 16 {
-            sum[j] += c * power[j] as u32;
-            j += 1;
-        }
+        add_product(&mut sum, w[i], &powers[i]);
         i += 1;
     }
     field::rows::fold_row(sum, p, m)

@@ -32,7 +32,7 @@ pub fn measure_mark(plan: &[u8], record: &[u8], symbols: &[u8], doubts: &[u8]) -
     let n = plan[3] as usize;
     let d = plan[4] as usize;
     let m = reciprocal(p);
-    let powers = evaluation::powers(plan::points(plan), p, m);
+    let powers = evaluation::powers(plan::points(plan), d, p, m);
     let columns = bivariate::columns(record, &powers, d, p, m);
     let tally = measure_rows(symbols, doubts, n, &columns, &powers, d, p, m);
     let radius = summary::radius(FULL, n, n, d);
@@ -48,7 +48,7 @@ pub fn measure_strip(plan: &[u8], record: &[u8], symbols: &[u8], doubts: &[u8]) 
     let n = plan[3] as usize;
     let d = plan[4] as usize;
     let m = reciprocal(p);
-    let powers = evaluation::powers(plan::points(plan), p, m);
+    let powers = evaluation::powers(plan::points(plan), d, p, m);
     let values = evaluation::values(&powers, d, load::row(record), p, m);
     let tally = measure_row(symbols, doubts, n, values);
     let radius = summary::radius(FULL, 1, n, d);
@@ -73,7 +73,7 @@ fn measure_rows(
     m: u16,
 ) -> Tally
     requires { ⌜ Reciprocal p m × Rows p (now columns) × Rows p (now powers) × (n ≤ 16) × (d < 16) × (length (now symbols) ≡ n * n) × (length (now doubts) ≡ n * n) × Doubts full (n * n) (at (now doubts)) ⌝ }
-    ensures { λ t. ⌜ (t .cost ≤ 33554432) × ((x y F : List ℕ) → Columns p d x F (now (columns .entry)) → Powers p y (now (powers .entry)) → Measured (n * n) (at (now (symbols .entry))) (at (now (doubts .entry))) (gridValue p d n (at x) (at y) F) (t .cost) (t .changed)) ⌝ }
+    ensures { λ t. ⌜ (t .cost ≤ 33554432) × ((x y F : List ℕ) → Columns p d x F (now (columns .entry)) → Powers p y d (now (powers .entry)) → Measured (n * n) (at (now (symbols .entry))) (at (now (doubts .entry))) (gridValue p d n (at x) (at y) F) (t .cost) (t .changed)) ⌝ }
 {
     let mut cost = 0;
     let mut changed = 0;

@@ -22,7 +22,7 @@ pub fn write_mark(plan: &[u8], record: &[u8], mark: &mut [u8])
     let n = plan[3] as usize;
     let d = plan[4] as usize;
     let m = reciprocal(p);
-    let powers = evaluation::powers(plan::points(plan), p, m);
+    let powers = evaluation::powers(plan::points(plan), d, p, m);
     let columns = bivariate::columns(record, &powers, d, p, m);
     write_rows(mark, n, &columns, &powers, d, p, m);
 }
@@ -38,7 +38,7 @@ fn write_rows(
     m: u16,
 )
     requires { ⌜ Reciprocal p m × Rows p (now columns) × Rows p (now powers) × (n ≤ 16) × (d < 16) × (length (now mark) ≡ n * n) ⌝ }
-    ensures { λ _. ⌜ ((x y F : List ℕ) → Columns p d x F (now (columns .entry)) → Powers p y (now (powers .entry)) → now (mark .exit) ≡ tab (n * n) (gridValue p d n (at x) (at y) F)) ⌝ }
+    ensures { λ _. ⌜ ((x y F : List ℕ) → Columns p d x F (now (columns .entry)) → Powers p y d (now (powers .entry)) → now (mark .exit) ≡ tab (n * n) (gridValue p d n (at x) (at y) F)) ⌝ }
 {
     for r in 0..n {
         let values = bivariate::row_values(columns, powers, r, d, p, m);
@@ -56,7 +56,7 @@ pub fn write_strip(plan: &[u8], record: &[u8], strip: &mut [u8])
     let p = plan[2] as u16;
     let d = plan[4] as usize;
     let m = reciprocal(p);
-    let powers = evaluation::powers(plan::points(plan), p, m);
+    let powers = evaluation::powers(plan::points(plan), d, p, m);
     let values = evaluation::values(&powers, d, load::row(record), p, m);
     write_row(strip, values);
 }

@@ -1,39 +1,74 @@
--- `field::inverse::inverses` meets its contract: the entries below a are inverses, and entry a is worked out from one of them. Assumes nothing.
-use mathlib.Core.Path.{_≡_, ap, _∙_}
+-- `field::inverse::inverses` meets its contract: the entries below a, and those less than a before p, are inverses; entry a is worked out
+-- from one of them, and gives its mirror. Assumes nothing.
+use mathlib.Core.Logic.{_≢_}
+use mathlib.Core.Path.{_≡_, _∙_}
 use mathlib.Core.List.{List}
-use Prim.Native.Nat.{ℕ, _-_, _*_, _/_, _%_, _≤_, _<_}
+use Prim.Native.Nat.{ℕ, _+_, _-_, _/_, _%_, _≤_, _<_, min}
 use native.Mathlib.Omega.{arith}
+use native.Mathlib.Decide.{ℕ-discrete}
 use native.Mathlib.Nat.{mod-lt, mod-eq-of-lt, div-le-self}
+use lib.ListN.{length, set, length-set}
+use lib.Seq.{getD-set-same, getD-set-other}
 use Rattle.bounded.specs.Bounded.{at}
-use Rattle.field.specs.Loop.{Upto}
 use Rattle.field.specs.Prime.{Prime, Inverse, Inverses}
-use Rattle.field.proofs.Loop.{upto-step}
-use Rattle.field.proofs.Prime.{inverse-step}
+use Rattle.field.proofs.Prime.{inverse-step, inverse-minus, not-twice}
 use Rattle.field.proofs.Reciprocal.{product-fits}
 use borrow.Author.Needs.{needs}
 use Rattle.field.proofs.inverse.inverses.Statement.{statement}
 use Rattle.field.proofs.inverse.inverses.Tie as tie
 
--- the entries below a are inverses
-abbrev Made : (p a : ℕ) → List ℕ → Type 0
-Made p a l = (2 ≤ a) × (a ≤ p) × Upto 251 0 (λ b v. 0 < b → Inverse p b v) l a
+-- the numbers that are less than a, or less than a before p, have their inverses
+record Made (p a : ℕ) (l : List ℕ) : Type 0 where
+  size : length l ≡ 251
+  each : (b : ℕ) → 0 < b → b < p → min b (p - b) < a → Inverse p b (at l b)
 
 -- entry 1 of the table is 1, the inverse of 1 by every modulus
-first : {p b : ℕ} {t : List ℕ} → 2 ≤ p → 0 < b → b < 2 → Inverses 251 t → Inverse p b (at t b)
-first {p} {b} {t} l z h i = rw b-one (record { below = omega (arith, one); one = ap (λ x. x * 1 % p) one ∙ mod-eq-of-lt l })
-  where
-    b-one : b ≡ 1
-    b-one = omega arith
+inverse-of-one : {p : ℕ} → 2 ≤ p → Inverse p 1 1
+inverse-of-one l = record { below = l; one = mod-eq-of-lt l }
 
-    one : at t 1 ≡ 1
-    one = omega (arith, (i .each 1 (omega arith) (omega arith)) .one, (i .each 1 (omega arith) (omega arith)) .below)
+first : {t : List ℕ} → Inverses 251 t → at t 1 ≡ 1
+first i = omega (arith, (i .each 1 (omega arith) (omega arith)) .one, (i .each 1 (omega arith) (omega arith)) .below)
+
+-- and so p - 1 is that of p - 1
+made-start : {p : ℕ} {t : List ℕ} → 2 ≤ p → p ≤ 251 → Inverses 251 t → Made p 2 (set t (p - 1) (p - 1))
+made-start {p} {t} l k i = record {
+  size = length-set t (p - 1) (p - 1) ∙ i .size;
+  each = λ b z h m. elim (ℕ-discrete b (p - 1)) [
+    | yes e ↦
+        let n : p - 1 < length t = omega (arith, i .size) in
+        rw (e, getD-set-same t (p - 1) (p - 1) 0 n) (inverse-minus (omega arith) (inverse-of-one l))
+    | no e ↦ let f : b ≡ 1 = omega arith in rw (getD-set-other t (p - 1) b (p - 1) 0 e, f, first i) (inverse-of-one l)
+  ];
+}
 
 -- what is left of p is below a, and not 0 as p is prime
-before : {p a : ℕ} {l : List ℕ} → Prime p → Made p a l → a < p → Inverse p (p % a) (at l (p % a))
-before {p} {a} r m l = m .2 .done (p % a) (mod-lt p (omega arith)) (omega (arith, r .alone a (m .0) l))
+before : {p a : ℕ} {l : List ℕ} → Prime p → 2 ≤ a → a < p → Made p a l → Inverse p (p % a) (at l (p % a))
+before {p} {a} r h l m =
+    let k = mod-lt p {m = a} (omega arith) in
+    m .each (p % a) (omega (arith, r .alone a h l)) (omega (arith, k)) (omega (arith, k))
+
+made-step : {p a v : ℕ} {l : List ℕ} → p ≤ 251 → a + a < p → Inverse p a v → Made p a l → Made p (a + 1) (set (set l a v) (p - a) (p - v))
+made-step {p} {a} {v} {l} k h i m = record {
+  size = length-set (set l a v) (p - a) (p - v) ∙ n;
+  each = λ b z t s. elim (ℕ-discrete b (p - a)) [
+    | yes e ↦
+        let f : p - a < length (set l a v) = omega (arith, n) in
+        rw (e, getD-set-same (set l a v) (p - a) (p - v) 0 f) (inverse-minus (omega arith) i)
+    | no e ↦ rw (getD-set-other (set l a v) (p - a) b (p - v) 0 e) (lower b z t s e)
+  ];
+}
+  where
+    n : length (set l a v) ≡ 251
+    n = length-set l a v ∙ m .size
+
+    lower : (b : ℕ) → 0 < b → b < p → min b (p - b) < a + 1 → b ≢ p - a → Inverse p b (at (set l a v) b)
+    lower b z t s d = elim (ℕ-discrete b a) [
+      | yes e ↦ let f : a < length l = omega (arith, m .size) in rw (e, getD-set-same l a v 0 f) i
+      | no e ↦ rw (getD-set-other l a b v 0 e) (m .each b z t (omega arith))
+    ]
 
 abbrev Inv-loop : tie.InvT-loop
-Inv-loop p m out₀ a₀ out a = Made p a out
+Inv-loop p m out₀ a₀ out a = (2 ≤ a) × (a ≤ p) × Made p a out
 
 abbrev μ-loop : tie.MeasureT-loop
 μ-loop p m out₀ a₀ out a = p - a
@@ -46,15 +81,26 @@ returns c =
     let e : c .before .before .args .p ≡ 251 = omega arith in
     rw e (c .before .table .ensures)
 
+sub-out : tie.Need-sub-out Inv-loop μ-loop
+sub-out c = search needs
+
+sub-out-2 : tie.Need-sub-out-2 Inv-loop μ-loop
+sub-out-2 c = search needs
+
+cast-out : tie.Need-cast-out Inv-loop μ-loop
+cast-out c = search needs
+
+mul-out : tie.Need-mul-out Inv-loop μ-loop
+mul-out c = search needs
+
+array-write-out : tie.Need-array-write-out Inv-loop μ-loop
+array-write-out c = search needs
+
 loop-holds : tie.Need-loop-holds Inv-loop μ-loop
-loop-holds c = (
-  omega arith,
-  c .before .before .pre .0 .least,
-  record {
-    size = c .before .table .ensures .size;
-    done = λ b l z. first (c .before .before .pre .0 .least) z l (c .before .table .ensures);
-  },
-)
+loop-holds c = let b = c .before .before .pre in (omega arith, b .0 .least, made-start (b .0 .least) (b .1) (c .before .table .ensures))
+
+add-loop : tie.Need-add-loop Inv-loop μ-loop
+add-loop c = search needs
 
 div-reduce : tie.Need-div-reduce Inv-loop μ-loop
 div-reduce c = search needs
@@ -77,20 +123,36 @@ array-read-reduce c = omega (arith, mod-lt (c .before .before .before .before .a
 mul-reduce-2 : tie.Need-mul-reduce-2 Inv-loop μ-loop
 mul-reduce-2 c =
     let b = c .before .before .before .before in
-    let i = before (b .pre .0) (c .before .loop .inv) (omega arith) in
-    omega (arith, product-fits {x = b .args .p - b .args .p / c .before .loop .a} (b .pre .1) (omega arith) (i .below))
+    let l = c .before .loop in
+    let i = before (b .pre .0) (l .inv .0) (omega arith) (l .inv .2) in
+    omega (arith, product-fits {x = b .args .p - b .args .p / l .a} (b .pre .1) (omega arith) (i .below))
 
 reduce-requires : tie.Need-reduce-requires Inv-loop μ-loop
 reduce-requires c κs = search needs
 
-cast-out : tie.Need-cast-out Inv-loop μ-loop
-cast-out c = search needs
+cast-out-2 : tie.Need-cast-out-2 Inv-loop μ-loop
+cast-out-2 c = search needs
 
-mul-out : tie.Need-mul-out Inv-loop μ-loop
-mul-out c = search needs
+mul-out-2 : tie.Need-mul-out-2 Inv-loop μ-loop
+mul-out-2 c = search needs
 
-array-write-out : tie.Need-array-write-out Inv-loop μ-loop
-array-write-out c = search needs
+array-write-out-2 : tie.Need-array-write-out-2 Inv-loop μ-loop
+array-write-out-2 c = search needs
+
+sub-out-3 : tie.Need-sub-out-3 Inv-loop μ-loop
+sub-out-3 c = search needs
+
+sub-out-4 : tie.Need-sub-out-4 Inv-loop μ-loop
+sub-out-4 c = search needs
+
+cast-out-3 : tie.Need-cast-out-3 Inv-loop μ-loop
+cast-out-3 c = search needs
+
+mul-out-3 : tie.Need-mul-out-3 Inv-loop μ-loop
+mul-out-3 c = search needs
+
+array-write-out-3 : tie.Need-array-write-out-3 Inv-loop μ-loop
+array-write-out-3 c = search needs
 
 add-a : tie.Need-add-a Inv-loop μ-loop
 add-a c = search needs
@@ -102,13 +164,14 @@ loop-again : tie.Need-loop-again Inv-loop μ-loop
 loop-again c =
     let b = c .before .before .before .before .before in
     let l = c .before .before .loop in
-    let i = before (b .pre .0) (l .inv) (omega arith) in
-    (omega arith, omega arith, upto-step (c .reduce .result) (omega arith) (λ z. rw (c .reduce .ensures .0) (inverse-step (omega arith) i)) (l .inv .2))
+    let i = before (b .pre .0) (l .inv .0) (omega arith) (l .inv .2) in
+    (omega arith, omega arith, made-step (b .pre .1) (omega arith) (rw (c .reduce .ensures .0) (inverse-step (omega arith) i)) (l .inv .2))
 
 returns-2 : tie.Need-returns-2 Inv-loop μ-loop
 returns-2 c =
     let l = c .before .loop in
-    record { size = l .inv .2 .size; each = λ b z k. l .inv .2 .done b (omega arith) z }
+    let odd = not-twice (c .before .before .before .before .pre .0) (l .inv .0) in
+    record { size = l .inv .2 .size; each = λ b z k. l .inv .2 .each b z k (omega (arith, odd)) }
 
 pub inverses-spec : {M : Type 1} → statement M
 inverses-spec =
@@ -118,7 +181,13 @@ inverses-spec =
     μ-loop
     table-requires
     returns
+    sub-out
+    sub-out-2
+    cast-out
+    mul-out
+    array-write-out
     loop-holds
+    add-loop
     div-reduce
     sub-reduce
     rem-reduce
@@ -127,9 +196,14 @@ inverses-spec =
     array-read-reduce
     mul-reduce-2
     reduce-requires
-    cast-out
-    mul-out
-    array-write-out
+    cast-out-2
+    mul-out-2
+    array-write-out-2
+    sub-out-3
+    sub-out-4
+    cast-out-3
+    mul-out-3
+    array-write-out-3
     add-a
     loop-less
     loop-again

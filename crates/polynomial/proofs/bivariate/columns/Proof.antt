@@ -9,20 +9,21 @@ use Rattle.field.specs.Row.{row}
 use Rattle.field.proofs.Loop.{upto-start, upto-step, upto-put}
 use Rattle.polynomial.specs.Powers.{Rows, Powers}
 use Rattle.polynomial.specs.Record.{coef, column}
-use Rattle.polynomial.proofs.Columns.{zero-rows, coefficients-row, column-values}
+use Rattle.polynomial.proofs.Powers.{equal-rows, powers-less}
+use Rattle.polynomial.proofs.Columns.{coefficients-row, column-values}
 use borrow.Author.Needs.{needs}
 use Rattle.polynomial.proofs.bivariate.columns.Statement.{statement}
 use Rattle.polynomial.proofs.bivariate.columns.Tie as tie
 
 abbrev Inv-loop : tie.InvT-loop
 Inv-loop message powers d p m out₀ t₀ out t =
-    (t ≤ d + 1) × Rows p out × ((x : List ℕ) → Powers p x powers → Upto 16 [] (λ t l. l ≡ row λ r. column d (coef message) t (at x r) % p) out t)
+    (t ≤ d + 1) × Rows p out × ((x : List ℕ) → Powers p x d powers → Upto 16 [] (λ t l. l ≡ row λ r. column d (coef message) t (at x r) % p) out t)
 
 abbrev μ-loop : tie.MeasureT-loop
 μ-loop message powers d p m out₀ t₀ out t = d + 1 - t
 
 loop-holds : tie.Need-loop-holds Inv-loop μ-loop
-loop-holds c = (omega arith, zero-rows (omega (arith, c .before .pre .0 .least)), λ x P. upto-start refl)
+loop-holds c = (omega arith, equal-rows 0 (omega (arith, c .before .pre .0 .least)), λ x P. upto-start refl)
 
 coefficient-of-y-requires : tie.Need-coefficient-of-y-requires Inv-loop μ-loop
 coefficient-of-y-requires c κs = search needs
@@ -54,7 +55,9 @@ loop-again c =
     let w = c .before .coefficient-of-y .ensures in (
       omega arith,
       upto-put _ (omega arith) (c .values .ensures .0) (l .inv .1),
-      λ x P. upto-step _ (omega arith) (column-values (b .args .d) (l .t) F z (b .pre .3) (omega arith) w x (c .values .ensures .1 x P)) (l .inv .2 x P),
+      λ x P.
+          let v = c .values .ensures .1 x (powers-less (b .args .p) x (omega arith) P) in
+          upto-step _ (omega arith) (column-values (b .args .d) (l .t) F z (b .pre .3) (omega arith) w x v) (l .inv .2 x P),
     )
 
 returns : tie.Need-returns Inv-loop μ-loop

@@ -1,22 +1,105 @@
--- `polynomial::bivariate::row_values` meets its contract: the polynomial in Y of row r is worked out as any other. Assumes nothing.
+-- `polynomial::bivariate::row_values` meets its contract: the sums have the first t terms at each column point. Assumes nothing.
+use mathlib.Core.Path.{_≡_}
+use mathlib.Core.List.{List, []}
+use Prim.Native.Nat.{ℕ, suc, _+_, _-_, _≤_, _<_}
 use native.Mathlib.Omega.{arith}
-use Rattle.polynomial.proofs.Columns.{place-row, row-values-are}
+use lib.ListN.{getD}
+use Rattle.bounded.specs.Bounded.{at}
+use Rattle.field.specs.Row.{row}
+use Rattle.field.proofs.Row.{result-row}
+use Rattle.polynomial.specs.Powers.{Rows}
+use Rattle.polynomial.proofs.Columns.{row-values-are}
+use Rattle.polynomial.proofs.Powers.{terms, terms-none, terms-more, terms-row, term-fits, terms-values}
 use borrow.Author.Needs.{needs}
 use Rattle.polynomial.proofs.bivariate.row_values.Statement.{statement}
 use Rattle.polynomial.proofs.bivariate.row_values.Tie as tie
 
-place-of-each-requires : tie.Need-place-of-each-requires
-place-of-each-requires c κs = search needs
+-- the coefficients of row r
+abbrev coefficients : (columns : List (List ℕ)) (r : ℕ) → ℕ → ℕ
+coefficients columns r t = at (getD columns t []) r
 
-values-requires : tie.Need-values-requires
-values-requires c κs =
-    let b = c .before in
-    (b .pre .0, b .pre .2, place-row (b .args .r) (b .args .columns .now) (omega (arith, b .pre .0 .least)) (b .pre .3) (c .place-of-each .ensures) (b .pre .1), b .pre .4)
+residues : {p : ℕ} {columns : List (List ℕ)} (r : ℕ) → Rows p columns → (t : ℕ) → t < 16 → coefficients columns r t < p
+residues r R t l = R .done t l .small r
 
-returns : tie.Need-returns
-returns c =
+abbrev Inv-loop : tie.InvT-loop
+Inv-loop columns powers r d p m sum₀ t₀ sum t = (t ≤ d + 1) × (sum ≡ row (terms powers (coefficients columns r) t))
+
+abbrev μ-loop : tie.MeasureT-loop
+μ-loop columns powers r d p m sum₀ t₀ sum t = d + 1 - t
+
+loop-holds : tie.Need-loop-holds Inv-loop μ-loop
+loop-holds c = let b = c .args in (omega arith, terms-none (b .powers .now) (coefficients (b .columns .now) (b .r)))
+
+mul-add-product : tie.Need-mul-add-product Inv-loop μ-loop
+mul-add-product c = search needs
+
+mul-add-product-2 : tie.Need-mul-add-product-2 Inv-loop μ-loop
+mul-add-product-2 c = search needs
+
+index-1-add-product : tie.Need-index-1-add-product Inv-loop μ-loop
+index-1-add-product c = search needs
+
+index-2-add-product : tie.Need-index-2-add-product Inv-loop μ-loop
+index-2-add-product c = search needs
+
+mul-add-product-3 : tie.Need-mul-add-product-3 Inv-loop μ-loop
+mul-add-product-3 c = search needs
+
+index-1-add-product-2 : tie.Need-index-1-add-product-2 Inv-loop μ-loop
+index-1-add-product-2 c = search needs
+
+add-product-requires : tie.Need-add-product-requires Inv-loop μ-loop
+add-product-requires c κs =
+    let b = c .before .before .before .before .before in
+    let l = c .before .before .before .before .loop in
+    term-fits (b .pre .0 .most) (b .pre .2) (residues (b .args .r) (b .pre .1)) (l .t) (omega arith) (l .inv .1)
+
+add-t : tie.Need-add-t Inv-loop μ-loop
+add-t c = search needs
+
+loop-less : tie.Need-loop-less Inv-loop μ-loop
+loop-less c = search needs
+
+loop-again : tie.Need-loop-again Inv-loop μ-loop
+loop-again c =
+    let b = c .before .before .before .before .before .before .args in
+    let l = c .before .before .before .before .before .loop in
+    (omega arith, terms-more (b .powers .now) (coefficients (b .columns .now) (b .r)) (l .t) (l .inv .1) (c .add-product .ensures))
+
+fold-row-requires : tie.Need-fold-row-requires Inv-loop μ-loop
+fold-row-requires c κs =
     let b = c .before .before in
-    (c .values .ensures .0, λ x y F C P. row-values-are (b .args .r) (b .args .columns .now) (omega (arith, b .pre .0 .least)) (b .pre .3) (c .before .place-of-each .ensures) (b .args .d) x y F (b .pre .4) C (c .values .ensures .1 y P))
+    let l = c .before .loop in
+    (b .pre .0, λ j k. terms-row (b .pre .0 .most) (b .pre .2) (residues (b .args .r) (b .pre .1)) (l .t) (omega arith) (l .inv .1) .small j)
+
+returns : tie.Need-returns Inv-loop μ-loop
+returns c =
+    let b = c .before .before .before in
+    let l = c .before .before .loop in
+    let a = b .args in
+    let z : 0 < a .p = omega (arith, b .pre .0 .least) in
+    let e : l .t ≡ suc (a .d) = omega arith in (
+      result-row _ z (c .fold-row .ensures),
+      λ x y F C P. row-values-are (a .columns .now) x y F z (b .pre .3) C
+          (terms-values (coefficients (a .columns .now) (a .r)) y z P (rw e at (l .inv .1)) (c .fold-row .ensures)),
+    )
 
 pub row-values-spec : {M : Type 1} → statement M
-row-values-spec = tie.close (tie.spec place-of-each-requires values-requires returns)
+row-values-spec =
+    tie.close
+    (tie.spec
+    Inv-loop
+    μ-loop
+    loop-holds
+    mul-add-product
+    mul-add-product-2
+    index-1-add-product
+    index-2-add-product
+    mul-add-product-3
+    index-1-add-product-2
+    add-product-requires
+    add-t
+    loop-less
+    loop-again
+    fold-row-requires
+    returns)

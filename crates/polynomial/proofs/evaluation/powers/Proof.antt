@@ -1,27 +1,28 @@
 -- `polynomial::evaluation::powers` meets its contract: the rows below t are set, and `power` is the next one. Assumes nothing.
 use mathlib.Core.Path.{_≡_, refl}
 use mathlib.Core.List.{[]}
-use Prim.Native.Nat.{_%_, _^_, _-_, _≤_}
+use Prim.Native.Nat.{_+_, _-_, _%_, _^_, _≤_, _<_}
 use native.Mathlib.Omega.{arith}
 use borrow.Author.Needs.{needs}
 use Rattle.bounded.specs.Bounded.{at}
 use Rattle.field.specs.Loop.{Upto}
 use Rattle.field.specs.Row.{row}
-use Rattle.field.proofs.Loop.{upto-start, upto-step, upto-less}
+use Rattle.field.proofs.Loop.{upto-start, upto-step, upto-put, upto-less}
 use Rattle.field.proofs.Row.{result-row}
-use Rattle.polynomial.proofs.Powers.{powers-start, powers-step}
+use Rattle.polynomial.specs.Powers.{Rows}
+use Rattle.polynomial.proofs.Powers.{equal-rows, powers-start, powers-step}
 use Rattle.polynomial.proofs.evaluation.powers.Statement.{statement}
 use Rattle.polynomial.proofs.evaluation.powers.Tie as tie
 
 abbrev Inv-loop : tie.InvT-loop
-Inv-loop x p m power₀ rows₀ t₀ power rows t =
-    (t ≤ 16) × (power ≡ row λ j. at x j ^ t % p) × Upto 16 [] (λ t l. l ≡ row λ j. at x j ^ t % p) rows t
+Inv-loop x d p m power₀ rows₀ t₀ power rows t =
+    (t ≤ d + 1) × Rows p rows × (power ≡ row λ j. at x j ^ t % p) × Upto 16 [] (λ t l. l ≡ row λ j. at x j ^ t % p) rows t
 
 abbrev μ-loop : tie.MeasureT-loop
-μ-loop x p m power₀ rows₀ t₀ power rows t = 16 - t
+μ-loop x d p m power₀ rows₀ t₀ power rows t = d + 1 - t
 
 loop-holds : tie.Need-loop-holds Inv-loop μ-loop
-loop-holds c = (omega arith, powers-start (c .args .x) (c .pre .0 .least), upto-start refl)
+loop-holds c = (omega arith, equal-rows 1 (c .pre .0 .least), powers-start (c .args .x) (c .pre .0 .least), upto-start refl)
 
 mul-rows : tie.Need-mul-rows Inv-loop μ-loop
 mul-rows c = search needs
@@ -30,7 +31,7 @@ array-set-from-rows : tie.Need-array-set-from-rows Inv-loop μ-loop
 array-set-from-rows c = search needs
 
 multiply-requires : tie.Need-multiply-requires Inv-loop μ-loop
-multiply-requires c κs = let b = c .before .before in (b .pre .0, result-row _ (omega (arith, b .pre .0 .least)) (c .before .loop .inv .1), b .pre .1)
+multiply-requires c κs = let b = c .before .before in (b .pre .0, result-row _ (omega (arith, b .pre .0 .least)) (c .before .loop .inv .2), b .pre .1)
 
 add-t : tie.Need-add-t Inv-loop μ-loop
 add-t c = search needs
@@ -42,10 +43,15 @@ loop-again : tie.Need-loop-again Inv-loop μ-loop
 loop-again c =
     let l = c .before .before .loop in
     let b = c .before .before .before in
-    (omega arith, powers-step (l .t) (b .args .x) (omega (arith, b .pre .0 .least)) (l .inv .1) (c .multiply .ensures), upto-step _ (omega arith) (l .inv .1) (l .inv .2))
+    let z : 0 < b .args .p = omega (arith, b .pre .0 .least) in (
+      omega arith,
+      upto-put _ (omega arith) (result-row _ z (l .inv .2)) (l .inv .1),
+      powers-step (l .t) (b .args .x) z (l .inv .2) (c .multiply .ensures),
+      upto-step _ (omega arith) (l .inv .2) (l .inv .3),
+    )
 
 returns : tie.Need-returns Inv-loop μ-loop
-returns c = upto-less (omega arith) (c .before .loop .inv .2)
+returns c = let l = c .before .loop in (l .inv .1, upto-less (omega arith) (l .inv .3))
 
 pub powers-spec : {M : Type 1} → statement M
 powers-spec =

@@ -1,7 +1,6 @@
 -- `records::measuring::measure_mark` meets its contract: the plan's points are put in for X and for Y. Assumes nothing.
 use mathlib.Core.Path.{refl, _∙_}
 use native.Mathlib.Omega.{arith}
-use Rattle.polynomial.proofs.Powers.{powers-rows}
 use Rattle.records.proofs.Square.{points-residues, square-word, square-value}
 use Rattle.records.proofs.Measured.{measured-eq, reading-is}
 use borrow.Author.Needs.{needs}
@@ -33,20 +32,22 @@ points-requires : tie.Need-points-requires
 points-requires c κs = search needs
 
 powers-requires : tie.Need-powers-requires
-powers-requires c κs = (c .before .reciprocal .ensures, points-residues (c .before .before .before .before .before .before .before .before .before .pre .0) (c .points .ensures))
+powers-requires c κs =
+    let s = c .before .before .before .before .before .before .before .before .before .pre .0 in
+    (c .before .reciprocal .ensures, points-residues s (c .points .ensures), omega (arith, s .low, s .most))
 
 columns-requires : tie.Need-columns-requires
 columns-requires c κs =
     let b = c .before .before .before .before .before .before .before .before .before .before .before in
     let s = b .pre .0 in
     let m = c .before .before .before .reciprocal .ensures in
-    (m, powers-rows (c .before .before .points .result) (omega (arith, m .least)) (c .before .powers .ensures), square-word (b .args .plan .now) (b .pre .2), omega (arith, s .low, s .most))
+    (m, c .before .powers .ensures .0, square-word (b .args .plan .now) (b .pre .2), omega (arith, s .low, s .most))
 
 measure-rows-requires : tie.Need-measure-rows-requires
 measure-rows-requires c κs =
     let b = c .before .before .before .before .before .before .before .before .before .before .before .before .before .before .pre in
     let m = c .before .before .before .before .before .before .reciprocal .ensures in
-    (m, c .before .before .columns .ensures .0, powers-rows (c .before .before .before .before .before .points .result) (omega (arith, m .least)) (c .before .before .before .before .powers .ensures), b .0 .most, omega (arith, b .0 .low, b .0 .most), b .1 .symbols, b .1 .doubts, b .1 .doubt)
+    (m, c .before .before .columns .ensures .0, c .before .before .before .before .powers .ensures .0, b .0 .most, omega (arith, b .0 .low, b .0 .most), b .1 .symbols, b .1 .doubts, b .1 .doubt)
 
 radius-requires : tie.Need-radius-requires
 radius-requires c κs = search needs
@@ -58,7 +59,7 @@ returns : tie.Need-returns
 returns c =
     let b = c .before .before .before .before .before .before .before .before .before .before .before .before .before .before .before .before .before .pre in
     let x = c .before .before .before .before .before .before .before .before .points in
-    let P = c .before .before .before .before .before .before .before .powers .ensures in
+    let P = c .before .before .before .before .before .before .before .powers .ensures .1 in
     let C = c .before .before .before .before .before .columns .ensures .1 (x .result) P in
     c .reading .ensures ∙ reading-is _ _ _ _ _ (c .before .radius .ensures .0) (measured-eq (λ i l. refl) (λ i l. refl) (square-value (b .0) (x .ensures) _) (c .before .before .measure-rows .ensures .1 (x .result) (x .result) _ C P))
 

@@ -17,7 +17,7 @@ use Rattle.records.proofs.measuring.measure_rows.Tie as tie
 abbrev Inv-loop : tie.InvT-loop
 Inv-loop symbols doubts n columns powers d p m cost₀ changed₀ r₀ cost changed r =
     (r ≤ n) × (cost ≤ 2097152 * r) × (changed ≤ 16 * r)
-    × ((x y F : List ℕ) → Columns p d x F columns → Powers p y powers → Measured (r * n) (at symbols) (at doubts) (gridValue p d n (at x) (at y) F) cost changed)
+    × ((x y F : List ℕ) → Columns p d x F columns → Powers p y d powers → Measured (r * n) (at symbols) (at doubts) (gridValue p d n (at x) (at y) F) cost changed)
 
 abbrev μ-loop : tie.MeasureT-loop
 μ-loop symbols doubts n columns powers d p m cost₀ changed₀ r₀ cost changed r = n - r

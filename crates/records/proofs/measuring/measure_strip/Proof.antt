@@ -1,7 +1,6 @@
 -- `records::measuring::measure_strip` meets its contract: a strip is measured as one row. Assumes nothing.
 use mathlib.Core.Path.{refl, _∙_}
 use native.Mathlib.Omega.{arith}
-use Rattle.polynomial.proofs.Powers.{powers-rows}
 use Rattle.records.proofs.Square.{points-residues, strip-row, strip-value}
 use Rattle.records.proofs.Measured.{measured-eq, reading-is}
 use borrow.Author.Needs.{needs}
@@ -33,7 +32,9 @@ points-requires : tie.Need-points-requires
 points-requires c κs = search needs
 
 powers-requires : tie.Need-powers-requires
-powers-requires c κs = (c .before .reciprocal .ensures, points-residues (c .before .before .before .before .before .before .before .before .before .pre .0) (c .points .ensures))
+powers-requires c κs =
+    let s = c .before .before .before .before .before .before .before .before .before .pre .0 in
+    (c .before .reciprocal .ensures, points-residues s (c .points .ensures), omega (arith, s .low, s .most))
 
 row-requires : tie.Need-row-requires
 row-requires c κs = search needs
@@ -42,7 +43,7 @@ values-requires : tie.Need-values-requires
 values-requires c κs =
     let b = c .before .before .before .before .before .before .before .before .before .before .before .before .pre in
     let m = c .before .before .before .before .reciprocal .ensures in
-    (m, powers-rows (c .before .before .before .points .result) (omega (arith, m .least)) (c .before .before .powers .ensures), strip-row (b .0) (b .2) (c .row .ensures), omega (arith, b .0 .low, b .0 .most))
+    (m, c .before .before .powers .ensures .0, strip-row (b .0) (b .2) (c .row .ensures), omega (arith, b .0 .low, b .0 .most))
 
 measure-row-requires : tie.Need-measure-row-requires
 measure-row-requires c κs = search needs
@@ -57,7 +58,7 @@ returns : tie.Need-returns
 returns c =
     let b = c .before .before .before .before .before .before .before .before .before .before .before .before .before .before .before .before .pre in
     let x = c .before .before .before .before .before .before .before .points in
-    let P = c .before .before .before .before .before .before .powers .ensures in
+    let P = c .before .before .before .before .before .before .powers .ensures .1 in
     let v = c .before .before .before .values in
     c .reading .ensures ∙ reading-is _ _ _ _ _ (c .before .radius .ensures .0) (measured-eq (λ i l. refl) (λ i l. refl) (strip-value (b .0) (x .ensures) _ (c .before .before .before .before .row .ensures) (v .ensures .1 (x .result) P)) (c .before .before .measure-row .ensures .0))
 

@@ -3,7 +3,6 @@ use mathlib.Core.Path.{_∙_}
 use native.Mathlib.Omega.{arith}
 use Rattle.bounded.proofs.Tab.{tab-eq}
 use Rattle.definitions.specs.Code.{mark}
-use Rattle.polynomial.proofs.Powers.{powers-rows}
 use Rattle.records.proofs.Square.{points-residues, square-word, square-value}
 use borrow.Author.Needs.{needs}
 use Rattle.records.proofs.writing.write_mark.Statement.{statement}
@@ -34,19 +33,21 @@ points-requires : tie.Need-points-requires
 points-requires c κs = search needs
 
 powers-requires : tie.Need-powers-requires
-powers-requires c κs = (c .before .reciprocal .ensures, points-residues (c .before .before .before .before .before .before .before .before .pre .sound) (c .points .ensures))
+powers-requires c κs =
+    let s = c .before .before .before .before .before .before .before .before .pre .sound in
+    (c .before .reciprocal .ensures, points-residues s (c .points .ensures), omega (arith, s .low, s .most))
 
 columns-requires : tie.Need-columns-requires
 columns-requires c κs =
     let b = c .before .before .before .before .before .before .before .before .before .before in
     let m = c .before .before .before .reciprocal .ensures in
-    (m, powers-rows (c .before .before .points .result) (omega (arith, m .least)) (c .before .powers .ensures), square-word (b .args .plan .now) (b .pre .given), omega (arith, b .pre .sound .low, b .pre .sound .most))
+    (m, c .before .powers .ensures .0, square-word (b .args .plan .now) (b .pre .given), omega (arith, b .pre .sound .low, b .pre .sound .most))
 
 write-rows-requires : tie.Need-write-rows-requires
 write-rows-requires c κs =
     let b = c .before .before .before .before .before .before .before .before .before .before .before .before .before .before .pre in
     let m = c .before .before .before .before .before .before .before .reciprocal .ensures in
-    (m, c .before .before .before .columns .ensures .0, powers-rows (c .before .before .before .before .before .before .points .result) (omega (arith, m .least)) (c .before .before .before .before .before .powers .ensures), b .sound .most, omega (arith, b .sound .low, b .sound .most), b .room)
+    (m, c .before .before .before .columns .ensures .0, c .before .before .before .before .before .powers .ensures .0, b .sound .most, omega (arith, b .sound .low, b .sound .most), b .room)
 
 same-length : tie.Need-same-length
 same-length c = search needs
@@ -56,7 +57,7 @@ unfolding mark
 returns c =
     let b = c .before .before .before .before .before .before .before .before .before .before .before .before .before .before .before .before .before .pre in
     let x = c .before .before .before .before .before .before .before .before .before .points in
-    let P = c .before .before .before .before .before .before .before .before .powers .ensures in
+    let P = c .before .before .before .before .before .before .before .before .powers .ensures .1 in
     c .before .before .write-rows .ensures (x .result) (x .result) _ (c .before .before .before .before .before .before .columns .ensures .1 (x .result) P) P ∙ tab-eq _ (square-value (b .sound) (x .ensures) _)
 
 pub write-mark-spec : {M : Type 1} → statement M

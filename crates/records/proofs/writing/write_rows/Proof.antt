@@ -18,7 +18,7 @@ use Rattle.records.proofs.writing.write_rows.Tie as tie
 abbrev Inv-loop : tie.InvT-loop
 Inv-loop mark₀ n columns powers d p m r₀ mark r =
     (r ≤ n) × (length mark ≡ length mark₀)
-    × ((x y F : List ℕ) → Columns p d x F columns → Powers p y powers → mark ≡ tab (r * n) (gridValue p d n (at x) (at y) F) ++ drop (r * n) mark₀)
+    × ((x y F : List ℕ) → Columns p d x F columns → Powers p y d powers → mark ≡ tab (r * n) (gridValue p d n (at x) (at y) F) ++ drop (r * n) mark₀)
 
 abbrev μ-loop : tie.MeasureT-loop
 μ-loop mark₀ n columns powers d p m r₀ mark r = n - r

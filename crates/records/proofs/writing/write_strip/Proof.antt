@@ -4,7 +4,6 @@ use native.Mathlib.Omega.{arith}
 use Rattle.bounded.specs.Bounded.{at, tab}
 use Rattle.bounded.proofs.Tab.{tab-eq}
 use Rattle.definitions.specs.Code.{mark}
-use Rattle.polynomial.proofs.Powers.{powers-rows}
 use Rattle.records.proofs.Square.{points-residues, strip-row, strip-value}
 use borrow.Author.Needs.{needs}
 use Rattle.records.proofs.writing.write_strip.Statement.{statement}
@@ -29,7 +28,9 @@ points-requires : tie.Need-points-requires
 points-requires c κs = search needs
 
 powers-requires : tie.Need-powers-requires
-powers-requires c κs = (c .before .reciprocal .ensures, points-residues (c .before .before .before .before .before .before .before .pre .sound) (c .points .ensures))
+powers-requires c κs =
+    let s = c .before .before .before .before .before .before .before .pre .sound in
+    (c .before .reciprocal .ensures, points-residues s (c .points .ensures), omega (arith, s .low, s .most))
 
 row-requires : tie.Need-row-requires
 row-requires c κs = search needs
@@ -38,7 +39,7 @@ values-requires : tie.Need-values-requires
 values-requires c κs =
     let b = c .before .before .before .before .before .before .before .before .before .before .pre in
     let m = c .before .before .before .before .reciprocal .ensures in
-    (m, powers-rows (c .before .before .before .points .result) (omega (arith, m .least)) (c .before .before .powers .ensures), strip-row (b .sound) (b .given) (c .row .ensures), omega (arith, b .sound .low, b .sound .most))
+    (m, c .before .before .powers .ensures .0, strip-row (b .sound) (b .given) (c .row .ensures), omega (arith, b .sound .low, b .sound .most))
 
 write-row-requires : tie.Need-write-row-requires
 write-row-requires c κs =
@@ -54,7 +55,7 @@ returns c =
     let b = c .before .before .before .before .before .before .before .before .before .before .before .before .before .before .before .pre in
     let x = c .before .before .before .before .before .before .before .before .points in
     let v = c .before .before .before .before .values in
-    let P = c .before .before .before .before .before .before .before .powers .ensures in
+    let P = c .before .before .before .before .before .before .before .powers .ensures .1 in
     c .before .before .write-row .ensures ∙ ap (λ k. tab k (at (v .result))) (b .room) ∙ tab-eq _ (strip-value (b .sound) (x .ensures) _ (c .before .before .before .before .before .row .ensures) (v .ensures .1 (x .result) P))
 
 pub write-strip-spec : {M : Type 1} → statement M
