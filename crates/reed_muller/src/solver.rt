@@ -82,7 +82,7 @@ fn solve_by_degrees(
     doubts: &[[u32; 16]; 16],
     columns: &mut [[u16; 16]; 16],
 ) -> u32
-    requires { ⌜ Fit g × Rows (g .p) (now left) × DoubtRows g (now doubts) × Rows (g .p) (now columns) × Inverses (g .p) (now inverses) × Rows (g .p) (now xs) × Powers (g .p) (g .x) (now xs) × Rows (g .p) (now ys) × Powers (g .p) (g .y) (now ys) ⌝ }
+    requires { ⌜ Fit g × Rows (g .p) (now left) × DoubtRows g (now doubts) × Rows (g .p) (now columns) × Inverses (g .p) (now inverses) × Rows (g .p) (now xs) × Powers (g .p) (g .x) (g .d) (now xs) × Rows (g .p) (now ys) × Powers (g .p) (g .y) (g .d) (now ys) ⌝ }
     ensures { λ r. ⌜ Solved g (now (left .entry)) (now (doubts .entry)) (now (left .exit)) (now (columns .exit)) r ⌝ }
 {
     let radius = remainder::radius(g);
@@ -127,8 +127,8 @@ pub fn solve(
     let d = g.d;
     let x = g.x;
     let y = g.y;
-    let xs = evaluation::powers(x, g.p, g.m);
-    let ys = evaluation::powers(y, g.p, g.m);
+    let xs = evaluation::powers(x, d, g.p, g.m);
+    let ys = evaluation::powers(y, d, g.p, g.m);
     if draft::from_cells(g, inverses, left, columns) {
         let cost = trial::complete(g, d + 1, &xs, &ys, columns, left, doubts);
         if cost < remainder::radius(g) {

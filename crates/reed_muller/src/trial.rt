@@ -17,7 +17,7 @@ fn subtract_below(
     columns: &[[u16; 16]; 16],
     left: &mut [[u16; 16]; 16],
 )
-    requires { ⌜ Fit g × (t ≤ suc (g .d)) × Rows (g .p) (now columns) × Rows (g .p) (now left) × Rows (g .p) (now xs) × Powers (g .p) (g .x) (now xs) × Rows (g .p) (now ys) × Powers (g .p) (g .y) (now ys) ⌝ }
+    requires { ⌜ Fit g × (t ≤ suc (g .d)) × Rows (g .p) (now columns) × Rows (g .p) (now left) × Rows (g .p) (now xs) × Powers (g .p) (g .x) (g .d) (now xs) × Rows (g .p) (now ys) × Powers (g .p) (g .y) (g .d) (now ys) ⌝ }
     ensures { λ _. ⌜ Rows (g .p) (now (left .exit)) × ((s u : List (List ℕ)) → Drawn g t s u (now (left .entry)) (now (columns .entry)) → Drawn g 0 s u (now (left .exit)) (now (columns .entry))) ⌝ }
 {
     let mut j = t;
@@ -39,7 +39,7 @@ pub fn complete(
     left: &mut [[u16; 16]; 16],
     doubts: &[[u32; 16]; 16],
 ) -> u32
-    requires { ⌜ Fit g × (t ≤ suc (g .d)) × Rows (g .p) (now columns) × Rows (g .p) (now left) × DoubtRows g (now doubts) × Rows (g .p) (now xs) × Powers (g .p) (g .x) (now xs) × Rows (g .p) (now ys) × Powers (g .p) (g .y) (now ys) ⌝ }
+    requires { ⌜ Fit g × (t ≤ suc (g .d)) × Rows (g .p) (now columns) × Rows (g .p) (now left) × DoubtRows g (now doubts) × Rows (g .p) (now xs) × Powers (g .p) (g .x) (g .d) (now xs) × Rows (g .p) (now ys) × Powers (g .p) (g .y) (g .d) (now ys) ⌝ }
     ensures { λ r. ⌜ Completed g t (now (doubts .entry)) (now (columns .entry)) (now (left .entry)) (now (left .exit)) r ⌝ }
 {
     let before = *left;

@@ -4,8 +4,6 @@ use mathlib.Core.Logic.{⊎-elim}
 use mathlib.Core.Path.{_≡_, _∙_}
 use native.Mathlib.Numerals.{add-one}
 use native.Mathlib.Omega.{arith}
-use Rattle.polynomial.proofs.Powers.{powers-rows}
-use Rattle.reed_muller.proofs.Answers.{positive}
 use Rattle.reed_muller.proofs.Drawn.{drawn-start, drawn-solved}
 use borrow.Author.Needs.{needs}
 use Rattle.reed_muller.proofs.solver.solve.Statement.{statement}
@@ -29,7 +27,7 @@ complete-requires c κs =
     let f = start .pre .0 in
     let xs = c .before .before .before .before .before .before .before .before .before .powers .ensures in
     let ys = c .before .before .before .before .before .before .before .before .powers2 .ensures in
-    (f, omega arith, c .before .before .before .before .before .from-cells .ensures, start .pre .1, start .pre .2, powers-rows (start .args .g .x) (positive f) xs, xs, powers-rows (start .args .g .y) (positive f) ys, ys)
+    (f, omega arith, c .before .before .before .before .before .from-cells .ensures, start .pre .1, start .pre .2, xs .0, xs .1, ys .0, ys .1)
 
 radius-requires : tie.Need-radius-requires
 radius-requires c κs = search needs
@@ -37,8 +35,8 @@ radius-requires c κs = search needs
 returns : tie.Need-returns
 returns c =
     let start = c .before .before .before .before .before .before .before .before .before .before .before .before .before .before .before in
-    let D = drawn-start {u = start .args .doubts .now} (start .pre .1) (c .before .before .before .before .before .before .before .before .from-cells .ensures) in
-    drawn-solved (rw (add-one (start .args .g .d)) at D) (c .before .before .complete .ensures) (omega (arith, c .if2 .taken, c .before .radius .ensures))
+    let D = drawn-start {g = start .args .g} {u = start .args .doubts .now} (start .pre .1) (c .before .before .before .before .before .before .before .before .from-cells .ensures) in
+    drawn-solved (rw (← add-one (start .args .g .d)) at D) (c .before .before .complete .ensures) (omega (arith, c .if2 .taken, c .before .radius .ensures))
 
 solve-by-degrees-requires : tie.Need-solve-by-degrees-requires
 solve-by-degrees-requires c κs =
@@ -47,16 +45,16 @@ solve-by-degrees-requires c κs =
     let xs = c .before .before .before .before .before .before .before .before .before .powers .ensures in
     let ys = c .before .before .before .before .before .before .before .before .powers2 .ensures in
     let tried = c .before .before .before .before .if1 in
-    let all : tried .left ≡ start .args .left .now =
-        ⊎-elim (λ w. w .8 ∙ w .5 .ensures .over (omega (arith, w .7 .left, w .6 .ensures))) (λ w. w .1) (tried .came) in
-    (f, rw all (start .pre .1), start .pre .2, c .before .before .before .before .before .from-cells .ensures, start .pre .4, powers-rows (start .args .g .x) (positive f) xs, xs, powers-rows (start .args .g .y) (positive f) ys, ys)
+    let all =
+        ⊎-elim {C = tried .left ≡ start .args .left .now} (λ w. w .8 ∙ w .5 .ensures .over (omega (arith, w .7 .left, w .6 .ensures))) (λ w. w .1) (tried .came) in
+    (f, rw all (start .pre .1), start .pre .2, c .before .before .before .before .before .from-cells .ensures, start .pre .4, xs .0, xs .1, ys .0, ys .1)
 
 returns-2 : tie.Need-returns-2
 returns-2 c =
     let start = c .before .before .before .before .before .before .before .before .before .before .before .before .before in
     let tried = c .before .before .before .before .before .if1 in
-    let all : tried .left ≡ start .args .left .now =
-        ⊎-elim (λ w. w .8 ∙ w .5 .ensures .over (omega (arith, w .7 .left, w .6 .ensures))) (λ w. w .1) (tried .came) in
+    let all =
+        ⊎-elim {C = tried .left ≡ start .args .left .now} (λ w. w .8 ∙ w .5 .ensures .over (omega (arith, w .7 .left, w .6 .ensures))) (λ w. w .1) (tried .came) in
     rw all at (c .solve-by-degrees .ensures)
 
 pub solve-spec : {M : Type 1} → statement M

@@ -74,7 +74,7 @@ from-lines-requires c κs =
     let l = found .before .before .before .before .before .before .before .loop in
     let start = found .before .before .before .before .before .before .before .before .before .before in
     let f = start .pre .0 in
-    let e : l .t ≡ suc (l .t - 1) = omega arith in
+    let e : l .t ≡ suc (l .t - 1) = omega (arith, found .before .before .before .before .before .before .loop-test .taken) in
     let S = solving-next f (omega (arith, e, l .inv .1)) _ _ _ _ _ _ _ (rw e at (l .inv .2)) (found .before .before .step .ensures) (not-false _ (found .if1 .left)) in
     (f, start .pre .4, omega arith, found .before .before .step .ensures .lines, S .coefficients)
 
@@ -84,7 +84,7 @@ complete-requires c κs =
     let l = found .before .before .before .before .before .before .before .loop in
     let start = found .before .before .before .before .before .before .before .before .before .before in
     let f = start .pre .0 in
-    let e : l .t ≡ suc (l .t - 1) = omega arith in
+    let e : l .t ≡ suc (l .t - 1) = omega (arith, found .before .before .before .before .before .before .loop-test .taken) in
     let S = solving-next f (omega (arith, e, l .inv .1)) _ _ _ _ _ _ _ (rw e at (l .inv .2)) (found .before .before .step .ensures) (not-false _ (found .if1 .left)) in
     let R = c .before .before .before .from-lines .ensures in
     (f, omega arith, R .rows, S .rows, start .pre .2, start .pre .5, start .pre .6, start .pre .7, start .pre .8)
@@ -95,7 +95,7 @@ returns-2 c =
     let l = found .before .before .before .before .before .before .before .loop in
     let start = found .before .before .before .before .before .before .before .before .before .before in
     let f = start .pre .0 in
-    let e : l .t ≡ suc (l .t - 1) = omega arith in
+    let e : l .t ≡ suc (l .t - 1) = omega (arith, found .before .before .before .before .before .before .loop-test .taken) in
     let S = solving-next f (omega (arith, e, l .inv .1)) _ _ _ _ _ _ _ (rw e at (l .inv .2)) (found .before .before .step .ensures) (not-false _ (found .if1 .left)) in
     let R = c .before .before .before .before .before .from-lines .ensures in
     drawn-solved (solving-drawn (solving-redrawn S R)) (c .before .complete .ensures) (omega (arith, c .if4 .taken, l .inv .0))
@@ -109,7 +109,7 @@ loop-again c =
     let l = found .before .before .before .before .before .before .before .loop in
     let start = found .before .before .before .before .before .before .before .before .before .before in
     let f = start .pre .0 in
-    let e : l .t ≡ suc (l .t - 1) = omega arith in
+    let e : l .t ≡ suc (l .t - 1) = omega (arith, found .before .before .before .before .before .before .loop-test .taken) in
     let S = solving-next f (omega (arith, e, l .inv .1)) _ _ _ _ _ _ _ (rw e at (l .inv .2)) (found .before .before .step .ensures) (not-false _ (found .if1 .left)) in
     let R = c .before .before .before .before .before .from-lines .ensures in
     (l .inv .0, omega arith, rw (c .before .complete .ensures .over (omega (arith, c .if4 .left, l .inv .0))) (solving-redrawn S R))
@@ -123,7 +123,7 @@ loop-again-2 c =
     let l = found .before .before .before .before .before .before .before .loop in
     let start = found .before .before .before .before .before .before .before .before .before .before in
     let f = start .pre .0 in
-    let e : l .t ≡ suc (l .t - 1) = omega arith in
+    let e : l .t ≡ suc (l .t - 1) = omega (arith, found .before .before .before .before .before .before .loop-test .taken) in
     let S = solving-next f (omega (arith, e, l .inv .1)) _ _ _ _ _ _ _ (rw e at (l .inv .2)) (found .before .before .step .ensures) (not-false _ (found .if1 .left)) in
     (l .inv .0, omega arith, solving-redrawn S (c .before .from-lines .ensures))
 
@@ -136,7 +136,7 @@ loop-again-3 c =
     let l = found .before .before .before .before .before .before .before .loop in
     let start = found .before .before .before .before .before .before .before .before .before .before in
     let f = start .pre .0 in
-    let e : l .t ≡ suc (l .t - 1) = omega arith in
+    let e : l .t ≡ suc (l .t - 1) = omega (arith, found .before .before .before .before .before .before .loop-test .taken) in
     let S = solving-next f (omega (arith, e, l .inv .1)) _ _ _ _ _ _ _ (rw e at (l .inv .2)) (found .before .before .step .ensures) (not-false _ (found .if1 .left)) in
     (l .inv .0, omega arith, S)
 

@@ -5,6 +5,7 @@ use Prim.Native.Nat.{ℕ, suc, _-_, _≤_}
 use native.Mathlib.Omega.{arith}
 use Rattle.field.proofs.Row.{result-row}
 use Rattle.polynomial.specs.Powers.{Rows}
+use Rattle.polynomial.proofs.Powers.{powers-less}
 use Rattle.reed_muller.specs.Loops.{line}
 use Rattle.reed_muller.specs.Steps.{Drawn}
 use Rattle.reed_muller.proofs.Answers.{positive}
@@ -65,7 +66,7 @@ loop-again c =
     let start = c .before .before .before .before .before .before .before .before in
     let f = start .pre .0 in
     let e : l .j ≡ suc (l .j - 1) = omega arith in
-    let values = c .before .before .before .values .ensures .1 (start .args .g .x) (start .pre .5) in
+    let values = c .before .before .before .values .ensures .1 (start .args .g .x) (powers-less (start .args .g .p) (start .args .g .x) (omega arith) (start .pre .5)) in
     let power = start .pre .7 .done (l .j - 1) (omega (arith, f .low, f .rows)) in
     let W = c .subtract .ensures in
     let lessened = without-subtracted (l .j - 1) f _ _ (line (start .args .columns .now) (l .j - 1)) (l .inv .1) values power W in
