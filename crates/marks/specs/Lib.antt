@@ -1,4 +1,3 @@
 -- What the contracts of writing, measuring and reading need beside the definitions.
 pub mod Loading
 pub mod Changed
-pub mod Guess

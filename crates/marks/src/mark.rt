@@ -1,6 +1,4 @@
-// Reading a photographed mark where refusals 1 to 8 do not apply, as `reading` reads a strip: first by a guess, which a mark without errors
-// fits, and else by the decoder.
-use crate::guess;
+// Reading a photographed mark where refusals 1 to 8 do not apply, as `reading` reads a strip.
 use crate::load;
 use definitions::FULL;
 use definitions::Reading;
@@ -9,24 +7,17 @@ use distance::summary;
 use distance::word;
 use field::inverse::inverses;
 use field::rows::reciprocal;
-use records::measuring::measure_mark;
 use reed_muller::decoder::decode;
 use reed_muller::grid::Grid;
 ghost use mathlib.Core.Path.{_≡_};
 ghost use Prim.Native.Nat.{ℕ, _*_, _≤_, _<_};
 ghost use lib.ListN.{length};
 ghost use Rattle.bounded.specs.Bounded.{at, sum, tab};
-ghost use Rattle.field.specs.Prime.{Inverses};
 ghost use Rattle.field.specs.Row.{row as rowOf};
-ghost use Rattle.definitions.specs.Plan.{modulus, side, degree};
-ghost use Rattle.definitions.specs.Code.{square, size};
-ghost use Rattle.definitions.specs.Calls.{readingOf};
-ghost use Rattle.definitions.specs.Photograph.{Photograph};
+ghost use Rattle.definitions.specs.Code.{square};
 ghost use Rattle.definitions.specs.Reads.{Reads};
-ghost use Rattle.definitions.specs.Sound.{Sound};
-ghost use Rattle.marks.specs.Loading.{SymbolRows, Taken};
+ghost use Rattle.marks.specs.Loading.{Taken};
 ghost use Rattle.marks.specs.Changed.{flag, changedCells};
-ghost use Rattle.marks.specs.Guess.{Coefficients};
 
 // Other than 0 for a cell that is changed: it is unread, or something is left of its symbol.
 fn cell_flag(symbol: u16, left: u16) -> u16
@@ -89,46 +80,9 @@ fn total(doubts: &[u8]) -> u32
     sum
 }
 
-// Writes the message's record and measures it.
-fn measured(
-    plan: &[u8],
-    symbols: &[u8],
-    doubts: &[u8],
-    message: [u16; 136],
-    record: &mut [u8],
-) -> Reading
-    requires { ⌜ Sound (now plan) × Photograph square (now plan) (now symbols) (now doubts) × (length (now «record») ≡ size square (now plan)) × Coefficients (modulus (now plan)) (degree (now plan)) message ⌝ }
-    ensures { λ r. ⌜ r ≡ readingOf square (now (plan .entry)) (now (symbols .entry)) (now (doubts .entry)) (tab (length (now («record» .entry))) (at message)) ⌝ }
-{
-    write_message(record, message);
-    measure_mark(plan, record, symbols, doubts)
-}
-
-// The same in the first k bytes of some room.
-fn guessed(
-    plan: &[u8],
-    symbols: &[u8],
-    doubts: &[u8],
-    message: [u16; 136],
-    k: usize,
-    room: &mut [u8],
-) -> Reading
-    requires { ⌜ Sound (now plan) × Photograph square (now plan) (now symbols) (now doubts) × (k ≡ size square (now plan)) × Coefficients (modulus (now plan)) (degree (now plan)) message × (length (now room) ≡ 136) ⌝ }
-    ensures { λ r. ⌜ r ≡ readingOf square (now (plan .entry)) (now (symbols .entry)) (now (doubts .entry)) (tab k (at message)) ⌝ }
-{
-    measured(plan, symbols, doubts, message, &mut room[0..k])
-}
-
-// The mark, by the degree steps.
-fn read_by_degrees(
-    plan: &[u8],
-    symbols: &[u8],
-    doubts: &[u8],
-    record: &mut [u8],
-    left: &mut [[u16; 16]; 16],
-    inverses: &[u16; 251],
-) -> Reading
-    requires { ⌜ Taken square (now plan) (now symbols) (now doubts) (now «record») × SymbolRows (side (now plan)) (now symbols) (now left) × Inverses (modulus (now plan)) (now inverses) ⌝ }
+// The mark, by the decoder.
+fn decoded(plan: &[u8], symbols: &[u8], doubts: &[u8], record: &mut [u8]) -> Reading
+    requires { ⌜ Taken square (now plan) (now symbols) (now doubts) (now «record») ⌝ }
     ensures { λ r. ⌜ Reads square (now (plan .entry)) (now (symbols .entry)) (now (doubts .entry)) (now («record» .entry)) r (now («record» .exit)) ⌝ }
 {
     let p = plan[2] as u16;
@@ -137,6 +91,8 @@ fn read_by_degrees(
     let x = plan::points(plan);
     let u = load::doubt_rows(doubts, n);
     let m = reciprocal(p);
+    let table = inverses(p, m);
+    let mut left = load::residue_rows(symbols, n);
     let g = Grid {
         p,
         m,
@@ -147,13 +103,13 @@ fn read_by_degrees(
         d,
         full: FULL,
     };
-    let a = decode(g, inverses, left, &u);
+    let a = decode(g, &table, &mut left, &u);
     if !a.found {
         return summary::refused(10);
     }
     let message = a.message;
     write_message(record, message);
-    let changed = changed_cells(symbols, n, left);
+    let changed = changed_cells(symbols, n, &left);
     let radius = summary::radius(FULL, n, n, d);
     summary::reading(radius, a.cost, changed)
 }
@@ -163,22 +119,10 @@ pub fn read_mark(plan: &[u8], symbols: &[u8], doubts: &[u8], record: &mut [u8]) 
     requires { ⌜ Taken square (now plan) (now symbols) (now doubts) (now «record») ⌝ }
     ensures { λ r. ⌜ Reads square (now (plan .entry)) (now (symbols .entry)) (now (doubts .entry)) (now («record» .entry)) r (now («record» .exit)) ⌝ }
 {
-    let p = plan[2] as u16;
     let n = plan[3] as usize;
     let d = plan[4] as usize;
-    let radius = summary::radius(FULL, n, n, d);
-    if total(doubts) >= radius {
+    if total(doubts) >= summary::radius(FULL, n, n, d) {
         return summary::refused(10);
     }
-    let m = reciprocal(p);
-    let table = inverses(p, m);
-    let mut left = load::residue_rows(symbols, n);
-    let message = guess::message(left, plan::points(plan), d, p, m, &table);
-    let mut room = [0u8; 136];
-    let first = guessed(plan, symbols, doubts, message, record.len(), &mut room);
-    if first.cost < radius {
-        write_message(record, message);
-        return first;
-    }
-    read_by_degrees(plan, symbols, doubts, record, &mut left, &table)
+    decoded(plan, symbols, doubts, record)
 }

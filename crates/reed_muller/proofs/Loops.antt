@@ -45,6 +45,7 @@ module _ {n a : ℕ} {f : ℕ → ℕ} {old : List ℕ} where
     ];
     kept = λ m k. let h : m ≢ a + j = omega arith in rw (getD-set-other l (a + j) m v 0 h) (p .kept m k);
   }
+
 -- a row with one place set
 pub set-row : {p : ℕ} {l : List ℕ} (i v : ℕ) → i < 16 → v < p → Row p l → Row p (set l i v)
 set-row {p} {l} i v b s R = record {

@@ -38,11 +38,13 @@ loop-less c = search needs
 loop-again : tie.Need-loop-again Inv-loop μ-loop
 loop-again c =
     let l = c .before .before .loop in
-    let start = c .before .before .before in
-    (omega arith, record {
-      rows = upto-put _ (omega (arith, start .pre .3)) (column-row (l .t) (start .pre .0) (start .pre .1) (c .place-of-each .ensures)) (l .inv .1 .rows);
-      kept = λ j k. getD-set-other (l .columns) (l .t) j (c .place-of-each .result) [] (omega arith) ∙ l .inv .1 .kept j k;
-    })
+    let start = c .before .before .before in (
+      omega arith,
+      record {
+        rows = upto-put _ (omega (arith, start .pre .3)) (column-row (l .t) (start .pre .0) (start .pre .1) (c .place-of-each .ensures)) (l .inv .1 .rows);
+        kept = λ j k. getD-set-other (l .columns) (l .t) j (c .place-of-each .result) [] (omega arith) ∙ l .inv .1 .kept j k;
+      },
+    )
 
 returns : tie.Need-returns Inv-loop μ-loop
 returns c = c .before .loop .inv .1

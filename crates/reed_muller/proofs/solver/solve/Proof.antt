@@ -46,7 +46,7 @@ solve-by-degrees-requires c κs =
     let ys = c .before .before .before .before .before .before .before .before .powers2 .ensures in
     let tried = c .before .before .before .before .if1 in
     let all =
-        ⊎-elim {C = tried .left ≡ start .args .left .now} (λ w. w .8 ∙ w .5 .ensures .over (omega (arith, w .7 .left, w .6 .ensures))) (λ w. w .1) (tried .came) in
+    ⊎-elim {C = tried .left ≡ start .args .left .now} (λ w. w .8 ∙ w .5 .ensures .over (omega (arith, w .7 .left, w .6 .ensures))) (λ w. w .1) (tried .came) in
     (f, rw all (start .pre .1), start .pre .2, c .before .before .before .before .before .from-cells .ensures, start .pre .4, xs .0, xs .1, ys .0, ys .1)
 
 returns-2 : tie.Need-returns-2
@@ -54,7 +54,7 @@ returns-2 c =
     let start = c .before .before .before .before .before .before .before .before .before .before .before .before .before in
     let tried = c .before .before .before .before .before .if1 in
     let all =
-        ⊎-elim {C = tried .left ≡ start .args .left .now} (λ w. w .8 ∙ w .5 .ensures .over (omega (arith, w .7 .left, w .6 .ensures))) (λ w. w .1) (tried .came) in
+    ⊎-elim {C = tried .left ≡ start .args .left .now} (λ w. w .8 ∙ w .5 .ensures .over (omega (arith, w .7 .left, w .6 .ensures))) (λ w. w .1) (tried .came) in
     rw all at (c .solve-by-degrees .ensures)
 
 pub solve-spec : {M : Type 1} → statement M
