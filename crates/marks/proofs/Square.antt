@@ -2,7 +2,7 @@
 use mathlib.Core.Path.{_≡_, refl, sym, ap, ap₂, _∙_}
 use mathlib.Core.Logic.{_⊎_, inl, inr}
 use mathlib.Core.Bool.{Bool, true, false, cond}
-use mathlib.Core.List.{List}
+use mathlib.Core.List.{List, []}
 use Prim.Native.Nat.{ℕ, _+_, _*_, _-_, _≤_, _<_}
 use native.Mathlib.Omega.{arith}
 use native.Mathlib.Decide.{ℕ-discrete, decLt}
@@ -14,6 +14,7 @@ use Rattle.bounded.specs.Bounded.{at}
 use Rattle.bounded.proofs.Sum.{sum-eq, sum-more}
 use Rattle.bounded.proofs.Tab.{tab-eq, tab-is}
 use Rattle.field.specs.Congruence.{Cong}
+use Rattle.field.specs.Loop.{Upto, Passed}
 use Rattle.field.specs.Row.{row}
 use Rattle.field.proofs.Congruence.{same, below-eq, cancel, _⨾_}
 use Rattle.field.proofs.Row.{row-at, beyond}
@@ -23,8 +24,8 @@ use Rattle.reed_muller.specs.Loops.{cells}
 use Rattle.marks.specs.Loading.{residue, squareCell}
 use Rattle.marks.specs.Changed.{flag, changedCells}
 
-pub product-small : {n r : ℕ} → n ≤ 16 → r < 16 → r * n ≤ 240
-product-small {n} {r} h l = omega (arith, mul-le-mul-right n l)
+pub product-small : {n r : ℕ} → n ≤ 16 → r < n → r * n ≤ 240
+product-small {n} {r} h l = let k : r < 16 = omega arith in omega (arith, mul-le-mul-right n k)
 
 pub cell-at : (n : ℕ) (s : List ℕ) (r c : ℕ) → c < n → squareCell n s r c ≡ at s (r * n + c)
 cell-at n s r c l = rw (lt-ltb c n l)
@@ -43,9 +44,29 @@ no-line n r s h e = tab-is 16 (squareCell n s r) (replicate 16 0) (length-replic
   | no m ↦ rw (le-ltb c n (omega arith))
 ])
 
+-- rows that are set one by one, the others being zeros
+pub passed-zeros : {T : ℕ → List ℕ → Type 0} → Passed 16 [] (λ r l. l ≡ replicate 16 0) T (replicate 16 (replicate 16 0)) 0
+passed-zeros = record {
+  size = refl;
+  done = λ j l. absurd (omega arith);
+  todo = λ j _ l. getD-replicate {A = List ℕ} 16 j (replicate 16 0) [] l;
+}
+
+pub passed-rest : {T : ℕ → List ℕ → Type 0} {m : List (List ℕ)} {n : ℕ} → Passed 16 [] (λ r l. l ≡ replicate 16 0) T m n →
+    ((r : ℕ) → n ≤ r → T r (replicate 16 0)) → Upto 16 [] T m 16
+passed-rest {T} {n} P zeros = record {
+  size = P .size;
+  done = λ j l. elim (decLt j n) [ yes k ↦ P .done j k | no k ↦ let h : n ≤ j = omega arith in rw (P .todo j h l) (zeros j h) ];
+}
+
 -- the number at a place of a row that is named
 row-is : (f : ℕ → ℕ) {l : List ℕ} → l ≡ row f → (j : ℕ) → j < 16 → at l j ≡ f j
 row-is f e j k = rw e (row-at f j k)
+
+pub no-residues : (n r : ℕ) (s : List ℕ) → n ≤ r → length s ≡ n * n → replicate 16 0 ≡ row (λ c. residue (squareCell n s r c))
+no-residues n r s h e = tab-is 16 (λ c. residue (squareCell n s r c)) (replicate 16 0) (length-replicate {A = ℕ} 16 0) λ c l.
+    let zero = getD-replicate {A = ℕ} 16 c 0 0 l in
+    zero ∙ ap residue (sym zero ∙ row-is (squareCell n s r) (no-line n r s h e) c l)
 
 -- the residues of a row
 pub residues-line : (f : ℕ → ℕ) {seen next : List ℕ} → seen ≡ row f → next ≡ row (λ j. residue (at seen j)) → next ≡ row (λ c. residue (f c))

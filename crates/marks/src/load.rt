@@ -1,4 +1,4 @@
-// Lent bytes of a photograph as rows of sixteen, 0 beyond their end.
+// Lent bytes of a photograph as rows of sixteen; what is beyond their end is 0.
 use definitions::UNREAD;
 use records::load;
 ghost use mathlib.Core.Path.{_≡_};
@@ -31,28 +31,22 @@ pub fn residues(symbols: [u16; 16]) -> [u16; 16]
     out
 }
 
-// Row r of the symbols of a square of n columns; 0 beyond it.
+// Row r of the symbols of a square of n columns.
 pub fn line(bytes: &[u8], n: usize, r: usize) -> [u16; 16]
-    requires { ⌜ (n ≤ 16) × (r < 16) × (length (now bytes) ≡ n * n) ⌝ }
+    requires { ⌜ (n ≤ 16) × (r < n) × (length (now bytes) ≡ n * n) ⌝ }
     ensures { λ l. ⌜ l ≡ rowOf (squareCell n (now (bytes .entry)) r) ⌝ }
 {
-    if r < n {
-        let at = r * n;
-        return load::row(&bytes[at..at + n]);
-    }
-    [0; 16]
+    let at = r * n;
+    load::row(&bytes[at..at + n])
 }
 
 // Row r of the doubts.
 fn doubt_line(bytes: &[u8], n: usize, r: usize) -> [u32; 16]
-    requires { ⌜ (n ≤ 16) × (r < 16) × (length (now bytes) ≡ n * n) ⌝ }
+    requires { ⌜ (n ≤ 16) × (r < n) × (length (now bytes) ≡ n * n) ⌝ }
     ensures { λ l. ⌜ l ≡ rowOf (squareCell n (now (bytes .entry)) r) ⌝ }
 {
-    if r < n {
-        let at = r * n;
-        return load::doubts(&bytes[at..at + n]);
-    }
-    [0; 16]
+    let at = r * n;
+    load::doubts(&bytes[at..at + n])
 }
 
 // The symbols of a square as residues.
@@ -62,7 +56,7 @@ pub fn residue_rows(symbols: &[u8], n: usize) -> [[u16; 16]; 16]
 {
     let mut rows = [[0u16; 16]; 16];
     let mut r = 0;
-    while r < 16 {
+    while r < n {
         let seen = line(symbols, n, r);
         let next = residues(seen);
         rows[r] = next;
@@ -78,7 +72,7 @@ pub fn doubt_rows(doubts: &[u8], n: usize) -> [[u32; 16]; 16]
 {
     let mut rows = [[0u32; 16]; 16];
     let mut r = 0;
-    while r < 16 {
+    while r < n {
         let next = doubt_line(doubts, n, r);
         rows[r] = next;
         r += 1;

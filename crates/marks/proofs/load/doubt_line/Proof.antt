@@ -1,16 +1,16 @@
--- `marks::load::doubt_line` meets its contract: a row has its own part of the bytes, and below the square there is nothing. Assumes nothing.
+-- `marks::load::doubt_line` meets its contract: a row has its own part of the bytes. Assumes nothing.
 use native.Mathlib.Omega.{arith}
 use Rattle.records.proofs.Square.{row-in}
-use Rattle.marks.proofs.Square.{product-small, part-line, no-line}
+use Rattle.marks.proofs.Square.{product-small, part-line}
 use borrow.Author.Needs.{needs}
 use Rattle.marks.proofs.load.doubt_line.Statement.{statement}
 use Rattle.marks.proofs.load.doubt_line.Tie as tie
 
 mul-at : tie.Need-mul-at
-mul-at c = let b = c .before .before .pre in omega (arith, product-small (b .0) (b .1))
+mul-at c = let b = c .before .pre in omega (arith, product-small (b .0) (b .1))
 
 add-doubts : tie.Need-add-doubts
-add-doubts c = let b = c .before .before .pre in omega (arith, product-small (b .0) (b .1))
+add-doubts c = let b = c .before .pre in omega (arith, b .0, product-small (b .0) (b .1))
 
 sub-doubts : tie.Need-sub-doubts
 sub-doubts c = search needs
@@ -19,20 +19,24 @@ part-doubts-start : tie.Need-part-doubts-start
 part-doubts-start c = search needs
 
 part-doubts-end : tie.Need-part-doubts-end
-part-doubts-end c = omega (arith, c .before .before .pre .2, row-in _ _ (c .if1 .taken))
+part-doubts-end c = let b = c .before .pre in omega (arith, b .2, row-in _ _ (b .1))
 
 doubts-requires : tie.Need-doubts-requires
 doubts-requires c κs = search needs
 
 returns : tie.Need-returns
 returns c =
-    let b = c .before .before .before .before in
-    part-line (b .args .n) (b .args .r) (b .args .bytes .now) (c .doubts .ensures) (omega (arith, b .pre .2, row-in (b .args .r) (b .args .n) (c .before .before .if1 .taken)))
-
-returns-2 : tie.Need-returns-2
-returns-2 c = let b = c .before .before in no-line (b .args .n) (b .args .r) (b .args .bytes .now) (c .if1 .left) (b .pre .2)
+    let b = c .before .before .before in
+    part-line (b .args .n) (b .args .r) (b .args .bytes .now) (c .doubts .ensures) (omega (arith, b .pre .2, row-in (b .args .r) (b .args .n) (b .pre .1)))
 
 pub doubt-line-spec : {M : Type 1} → statement M
 doubt-line-spec =
     tie.close
-    (tie.spec mul-at add-doubts sub-doubts part-doubts-start part-doubts-end doubts-requires returns returns-2)
+    (tie.spec
+    mul-at
+    add-doubts
+    sub-doubts
+    part-doubts-start
+    part-doubts-end
+    doubts-requires
+    returns)

@@ -1,24 +1,27 @@
 -- `marks::load::doubt_rows` meets its contract: the rows before r are set. Assumes nothing.
-use mathlib.Core.Path.{_≡_, refl}
+use mathlib.Core.Path.{_≡_}
 use mathlib.Core.List.{[]}
 use Prim.Native.Nat.{_-_, _≤_}
 use native.Mathlib.Omega.{arith}
-use Rattle.field.specs.Loop.{Upto}
+use lib.ListN.{replicate}
+use Rattle.field.specs.Loop.{Passed}
 use Rattle.field.specs.Row.{row}
-use Rattle.field.proofs.Loop.{upto-start, upto-step, upto-less}
+use Rattle.field.proofs.Loop.{passed-step}
 use Rattle.marks.specs.Loading.{squareCell}
+use Rattle.marks.proofs.Square.{passed-zeros, passed-rest, no-line}
 use borrow.Author.Needs.{needs}
 use Rattle.marks.proofs.load.doubt_rows.Statement.{statement}
 use Rattle.marks.proofs.load.doubt_rows.Tie as tie
 
 abbrev Inv-loop : tie.InvT-loop
-Inv-loop doubts n rows₀ r₀ rows r = (r ≤ 16) × Upto 16 [] (λ r l. l ≡ row λ c. squareCell n doubts r c) rows r
+Inv-loop doubts n rows₀ r₀ rows r =
+    (r ≤ n) × Passed 16 [] (λ r l. l ≡ replicate 16 0) (λ r l. l ≡ row (squareCell n doubts r)) rows r
 
 abbrev μ-loop : tie.MeasureT-loop
-μ-loop doubts n rows₀ r₀ rows r = 16 - r
+μ-loop doubts n rows₀ r₀ rows r = n - r
 
 loop-holds : tie.Need-loop-holds Inv-loop μ-loop
-loop-holds c = (omega arith, upto-start refl)
+loop-holds c = (omega arith, passed-zeros)
 
 doubt-line-requires : tie.Need-doubt-line-requires Inv-loop μ-loop
 doubt-line-requires c κs = search needs
@@ -36,10 +39,13 @@ loop-less : tie.Need-loop-less Inv-loop μ-loop
 loop-less c = search needs
 
 loop-again : tie.Need-loop-again Inv-loop μ-loop
-loop-again c = (omega arith, upto-step _ (omega arith) (c .doubt-line .ensures) (c .before .before .loop .inv .1))
+loop-again c = (omega arith, passed-step _ (omega (arith, c .before .before .before .before .pre .0)) (c .doubt-line .ensures) (c .before .before .loop .inv .1))
 
 returns : tie.Need-returns Inv-loop μ-loop
-returns c = upto-less (omega arith) (c .before .loop .inv .1)
+returns c =
+    let start = c .before .before .before in
+    let e : c .before .loop .r ≡ start .args .n = omega arith in
+    passed-rest (rw e at (c .before .loop .inv .1)) λ r l. no-line (start .args .n) r (start .args .doubts .now) l (start .pre .1)
 
 pub doubt-rows-spec : {M : Type 1} → statement M
 doubt-rows-spec =
