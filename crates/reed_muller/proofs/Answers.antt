@@ -23,9 +23,6 @@ use Rattle.reed_muller.proofs.Line.{line-answered, line-unanswered}
 pub row-zeros : {p : ℕ} → 0 < p → Row p (replicate 16 0)
 row-zeros z = row-of z refl λ j k. rw (getD-replicate {A = ℕ} 16 j 0 0 k) z
 
-pub rows-zeros : {p : ℕ} → 0 < p → Rows p (replicate 16 (replicate 16 0))
-rows-zeros z = record { size = refl; done = λ r k. rw (getD-replicate {A = List ℕ} 16 r (replicate 16 0) [] k) (row-zeros z) }
-
 -- a place of each of some rows
 pub column-row : {p : ℕ} {m : List (List ℕ)} {l : List ℕ} (t : ℕ) → 0 < p → Rows p m → l ≡ row (λ r. cells m r t) → Row p l
 column-row {m} t z R e = rw e (row-of z (length-tab 16 _) λ r k. rw (row-at (λ r. cells m r t) r k) (R .done r k .small t))

@@ -1,6 +1,7 @@
 -- `reed_muller::decoder::decode` meets its contract: by the laws of its two outcomes. Assumes nothing.
 use native.Mathlib.Omega.{arith}
-use Rattle.reed_muller.proofs.Answers.{positive, rows-zeros}
+use Rattle.polynomial.proofs.Powers.{equal-rows}
+use Rattle.reed_muller.proofs.Answers.{positive}
 use Rattle.reed_muller.proofs.Outcome.{outcome-none, outcome-found}
 use borrow.Author.Needs.{needs}
 use Rattle.reed_muller.proofs.decoder.decode.Statement.{statement}
@@ -9,7 +10,7 @@ use Rattle.reed_muller.proofs.decoder.decode.Tie as tie
 solve-requires : tie.Need-solve-requires
 solve-requires c κs =
     let start = c .before .before in
-    (start .pre .0, start .pre .1, start .pre .2, rows-zeros (positive (start .pre .0)), start .pre .3)
+    (start .pre .0, start .pre .1, start .pre .2, equal-rows 0 (positive (start .pre .0)), start .pre .3)
 
 radius-requires : tie.Need-radius-requires
 radius-requires c κs = search needs

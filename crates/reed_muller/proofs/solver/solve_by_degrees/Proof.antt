@@ -5,9 +5,10 @@ use native.Mathlib.Omega.{arith}
 use native.Mathlib.Numerals.{add-one}
 use lib.ListN.{getD-replicate}
 use borrow.Author.Tests.{not-true, not-false}
+use Rattle.polynomial.proofs.Powers.{equal-rows}
 use Rattle.reed_muller.specs.Answers.{unknown}
 use Rattle.reed_muller.specs.Steps.{limit, Solving}
-use Rattle.reed_muller.proofs.Answers.{positive, rows-zeros}
+use Rattle.reed_muller.proofs.Answers.{positive}
 use Rattle.reed_muller.proofs.Drawn.{solving-drawn, solving-redrawn, drawn-solved}
 use Rattle.reed_muller.proofs.Steps.{solving-start, solving-none, solving-next, solving-done}
 use borrow.Author.Needs.{needs}
@@ -35,7 +36,7 @@ loop-holds c =
       c .before .radius .ensures,
       omega arith,
       rw (add-one (start .args .g .d))
-          (solving-start f (start .pre .1) (start .pre .3) (rows-zeros (positive f)) refl (λ r l. getD-replicate 16 r unknown 0 l)),
+          (solving-start f (start .pre .1) (start .pre .3) (equal-rows 0 (positive f)) refl (λ r l. getD-replicate 16 r unknown 0 l)),
     )
 
 sub-t : tie.Need-sub-t Inv-loop μ-loop
