@@ -26,10 +26,10 @@ ghost use Rattle.reed_solomon.specs.Decoded.{Received, StripDecoded, Non
 
 // Of an answer that there is none, all else is 0.
 pub struct Decoded {
-    pub found: bool,
     pub message: [u16; 16],
     pub values: [u16; 16],
     pub cost: u32,
+    pub found: bool,
 }
 
 // No polynomial.
@@ -214,9 +214,9 @@ pub fn decode(
         let level = next / 16;
         while next / 16 == level {
             let r = (next % 16) as usize;
-            let now = interpolation::enter(t, x, r, k, p, m, inverses);
-            t = now;
-            keys[r] = order::TAKEN;
+            interpolation::enter(&mut t, x, r, k, p, m, inverses);
+            let others = order::without(keys, next);
+            keys = others;
             next = order::least(keys);
             if hopeful(t, n, k, full, u) {
                 let tried = attempt(t, all, p, m, inverses, x, n, k, full, s, u);

@@ -29,78 +29,46 @@ pub fn ratio(a: u16, b: u16, p: u16, m: u16, inverses: &[u16; 251]) -> u16
 // pair is multiplied by the differences of all points to the cell's own; else the other is freed of its value there by a multiple
 // of it, and it is multiplied itself.
 pub fn enter(
-    t: Pairs,
+    t: &mut Pairs,
     x: [u16; 16],
     r: usize,
     k: usize,
     p: u16,
     m: u16,
     inverses: &[u16; 251],
-) -> Pairs
-    requires { ⌜ Reciprocal p m × Inverses p (now inverses) × Shaped p t × Row p x × (r < 16) × (k ≤ 16) × (t .a + t .b ≤ 16) ⌝ }
-    ensures { λ t′. ⌜ Enters p k x r t t′ ⌝ }
+)
+    requires { ⌜ Reciprocal p m × Inverses p (now inverses) × Shaped p (now t) × Row p x × (r < 16) × (k ≤ 16) × ((now t) .a + (now t) .b ≤ 16) ⌝ }
+    ensures { λ _. ⌜ Enters p k x r (now (t .entry)) (now (t .exit)) ⌝ }
 {
-    let d1 = t.d1;
-    let e1 = t.e1;
-    let d2 = t.d2;
-    let e2 = t.e2;
-    let mut entered = t.entered;
-    entered[r] = 1;
+    t.entered[r] = 1;
     let w = rows::shift(x, p - x[r], p);
+    let v1 = t.d1[r];
+    let v2 = t.d2[r];
     if t.a <= t.b + k {
-        if d1[r] == 0 {
-            let grown_d = rows::multiply(d2, w, p, m);
-            let grown_e = rows::multiply(e2, w, p, m);
-            return Pairs {
-                d1,
-                e1,
-                d2: grown_d,
-                e2: grown_e,
-                a: t.a,
-                b: t.b + 1,
-                entered,
-            };
+        if v1 == 0 {
+            let grown_d = rows::multiply(t.d2, w, p, m);
+            let grown_e = rows::multiply(t.e2, w, p, m);
+            t.d2 = grown_d;
+            t.e2 = grown_e;
+            t.b += 1;
+            return;
         }
-        let c = ratio(d2[r], d1[r], p, m, inverses);
-        let freed_d = rows::add_multiple(d2, c, d1, p, m);
-        let freed_e = rows::add_multiple(e2, c, e1, p, m);
-        let grown_d = rows::multiply(d1, w, p, m);
-        let grown_e = rows::multiply(e1, w, p, m);
-        return Pairs {
-            d1: grown_d,
-            e1: grown_e,
-            d2: freed_d,
-            e2: freed_e,
-            a: t.a + 1,
-            b: t.b,
-            entered,
-        };
+        let c = ratio(v2, v1, p, m, inverses);
+        rows::advance(&mut t.d2, c, &mut t.d1, w, p, m);
+        rows::advance(&mut t.e2, c, &mut t.e1, w, p, m);
+        t.a += 1;
+        return;
     }
-    if d2[r] == 0 {
-        let grown_d = rows::multiply(d1, w, p, m);
-        let grown_e = rows::multiply(e1, w, p, m);
-        return Pairs {
-            d1: grown_d,
-            e1: grown_e,
-            d2,
-            e2,
-            a: t.a + 1,
-            b: t.b,
-            entered,
-        };
+    if v2 == 0 {
+        let grown_d = rows::multiply(t.d1, w, p, m);
+        let grown_e = rows::multiply(t.e1, w, p, m);
+        t.d1 = grown_d;
+        t.e1 = grown_e;
+        t.a += 1;
+        return;
     }
-    let c = ratio(d1[r], d2[r], p, m, inverses);
-    let freed_d = rows::add_multiple(d1, c, d2, p, m);
-    let freed_e = rows::add_multiple(e1, c, e2, p, m);
-    let grown_d = rows::multiply(d2, w, p, m);
-    let grown_e = rows::multiply(e2, w, p, m);
-    Pairs {
-        d1: freed_d,
-        e1: freed_e,
-        d2: grown_d,
-        e2: grown_e,
-        a: t.a,
-        b: t.b + 1,
-        entered,
-    }
+    let c = ratio(v1, v2, p, m, inverses);
+    rows::advance(&mut t.d1, c, &mut t.d2, w, p, m);
+    rows::advance(&mut t.e1, c, &mut t.e2, w, p, m);
+    t.b += 1;
 }

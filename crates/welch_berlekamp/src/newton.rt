@@ -43,18 +43,17 @@ pub fn through(
     let mut rest = rows::scale(p - 1, y, p, m);
     let mut i = 0;
     while i <= k {
-        let r = (order::least(left) % 16) as usize;
+        let key = order::least(left);
+        let r = (key % 16) as usize;
         let z = x[r];
         let c = ratio(rest[r], product[r], p, m, inverses);
-        let next = rows::add_multiple(rest, c, product, p, m);
         let w = rows::shift(x, p - z, p);
-        let grown = rows::multiply(product, w, p, m);
-        rest = next;
-        product = grown;
+        rows::advance(&mut rest, c, &mut product, w, p, m);
         slopes[i] = c;
         nodes[i] = z;
         entered[r] = 1;
-        left[r] = order::TAKEN;
+        let others = order::without(left, key);
+        left = others;
         i += 1;
     }
     Newton {
@@ -86,20 +85,8 @@ pub fn pairs_of(f: Newton, k: usize) -> Pairs
     }
 }
 
-// a times X, plus c, by coefficients; the last of a is lost.
-fn raise(a: [u16; 16], c: u16) -> [u16; 16]
-    ensures { λ r. ⌜ r ≡ row (raised c (at a)) ⌝ }
-{
-    let mut out = [c; 16];
-    let mut i = 0;
-    while i < 15 {
-        out[i + 1] = a[i];
-        i += 1;
-    }
-    out
-}
-
-// The coefficients, by Horner's rule: the last slope times X less the last node, plus the slope before, and so on.
+// The coefficients, by Horner's rule: the last slope times X less the last node, plus the slope before, and so on. The powers move up in
+// place, a number at a time: a row that is shifted would have to be stored before it can be loaded.
 pub fn coefficients(slopes: [u16; 16], nodes: [u16; 16], k: usize, p: u16, m: u16) -> [u16; 16]
     requires { ⌜ Reciprocal p m × Row p slopes × Row p nodes × (k < 16) ⌝ }
     ensures { λ a. ⌜ Coefficients p k slopes nodes a ⌝ }
@@ -108,8 +95,13 @@ pub fn coefficients(slopes: [u16; 16], nodes: [u16; 16], k: usize, p: u16, m: u1
     let mut i = k + 1;
     while i > 0 {
         i -= 1;
-        let next = rows::add_multiple(raise(a, slopes[i]), p - nodes[i], a, p, m);
-        a = next;
+        a[i] = slopes[i];
+        let c = p - nodes[i];
+        let mut j = i;
+        while j < k {
+            a[j] = rows::reduce(a[j] + c * a[j + 1], p, m);
+            j += 1;
+        }
     }
     a
 }
