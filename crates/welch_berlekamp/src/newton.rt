@@ -1,15 +1,12 @@
 // The polynomial through k + 1 cells, by Newton's form: a sum of multiples, the slopes, of the products of X - z over the points z of
 // the cells taken before, the nodes. It is kept by its values less the symbols: where these are 0 the symbol is right.
-use crate::interpolation::Pairs;
 use crate::interpolation::ratio;
 use crate::order;
 use field::rows;
-ghost use mathlib.Core.Path.{_≡_};
-ghost use Prim.Native.Nat.{ℕ, suc, _+_, _<_};
-ghost use Rattle.bounded.specs.Bounded.{at};
+ghost use Prim.Native.Nat.{ℕ, suc, _<_};
 ghost use Rattle.field.specs.Prime.{Inverses};
-ghost use Rattle.field.specs.Row.{row, Row, Reciprocal};
-ghost use Rattle.welch_berlekamp.specs.Newton.{raised, pairsOf, Enough, Cells, Fits, Coefficients};
+ghost use Rattle.field.specs.Row.{Row, Reciprocal};
+ghost use Rattle.welch_berlekamp.specs.Newton.{Enough, Cells, Fits, Coefficients};
 
 // The rest is the polynomial less the symbols, the product that of X - z over all cells taken; `entered` is 1 at these, else 0, and
 // the keys are those of the other cells.
@@ -63,25 +60,6 @@ pub fn through(
         nodes,
         entered,
         keys: left,
-    }
-}
-
-// The pairs of the interpolation after the k + 1 cells: E1 is 0 and E2 is 1.
-pub fn pairs_of(f: Newton, k: usize) -> Pairs
-    requires { ⌜ k < 16 ⌝ }
-    ensures { λ t. ⌜ t ≡ pairsOf (k + 1) f ⌝ }
-{
-    let d1 = f.product;
-    let d2 = f.rest;
-    let entered = f.entered;
-    Pairs {
-        d1,
-        e1: [0u16; 16],
-        d2,
-        e2: [1u16; 16],
-        a: k + 1,
-        b: 0,
-        entered,
     }
 }
 
