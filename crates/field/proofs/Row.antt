@@ -9,7 +9,7 @@ use lib.ListN.{length}
 use Rattle.bounded.specs.Bounded.{at}
 use Rattle.bounded.proofs.Tab.{length-tab, tab-at, tab-is}
 use Rattle.field.specs.Congruence.{Cong, Agree}
-use Rattle.field.specs.Loop.{Upto}
+use Rattle.field.specs.Loop.{Upto, Passed}
 use Rattle.field.specs.Row.{row, Row}
 use Rattle.field.proofs.Congruence.{same, mod-cong, _⨾_}
 
@@ -48,3 +48,6 @@ module _ {p : ℕ} {l : List ℕ} (f : ℕ → ℕ) (z : 0 < p) (e : l ≡ row �
 -- the row that a loop has set
 pub upto-row : {f : ℕ → ℕ} {l : List ℕ} → Upto 16 0 (λ j v. v ≡ f j) l 16 → l ≡ row f
 upto-row {f} {l} h = tab-is 16 f l (h .size) (h .done)
+
+pub passed-row : {U : ℕ → ℕ → Type 0} {f : ℕ → ℕ} {l : List ℕ} → Passed 16 0 U (λ j v. v ≡ f j) l 16 → l ≡ row f
+passed-row {f} {l} h = tab-is 16 f l (h .size) (h .done)

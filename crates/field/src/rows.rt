@@ -57,6 +57,20 @@ pub fn multiply(a: [u16; 16], b: [u16; 16], p: u16, m: u16) -> [u16; 16]
     out
 }
 
+// The step of an interpolation by values: a + c b in the place of a, and b w in that of b.
+pub fn advance(a: &mut [u16; 16], c: u16, b: &mut [u16; 16], w: [u16; 16], p: u16, m: u16)
+    requires { ⌜ Reciprocal p m × Row p (now a) × Row p (now b) × Row p w × (c ≤ p) ⌝ }
+    ensures { λ _. ⌜ (now (a .exit) ≡ row (λ j. (at (now (a .entry)) j + c * at (now (b .entry)) j) % p)) × (now (b .exit) ≡ row (λ j. at (now (b .entry)) j * at w j % p)) ⌝ }
+{
+    let mut j = 0;
+    while j < 16 {
+        let v = b[j];
+        a[j] = reduce(a[j] + c * v, p, m);
+        b[j] = reduce(v * w[j], p, m);
+        j += 1;
+    }
+}
+
 // c a.
 pub fn scale(c: u16, a: [u16; 16], p: u16, m: u16) -> [u16; 16]
     requires { ⌜ Reciprocal p m × Row p a × (c ≤ p) ⌝ }
@@ -72,7 +86,7 @@ pub fn scale(c: u16, a: [u16; 16], p: u16, m: u16) -> [u16; 16]
 }
 
 // t modulo p, for t below 2 p.
-fn less(t: u16, p: u16) -> u16
+pub fn less(t: u16, p: u16) -> u16
     requires { ⌜ t < p + p ⌝ }
     ensures { λ r. ⌜ (r ≡ t % p) × (r < p) ⌝ }
 {

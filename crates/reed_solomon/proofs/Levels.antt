@@ -11,7 +11,6 @@ use native.Mathlib.Nat.{mul-one, mod-lt}
 use native.Mathlib.Numerals.{add-one}
 use lib.Dec.{eqb, leb}
 use borrow.Author.Tests.{leb-true, leb-false}
-use lib.ListN.{set}
 use lib.Seq.{getD-set-same, getD-set-other}
 use Rattle.bounded.specs.Bounded.{at, sum}
 use Rattle.bounded.proofs.Sum.{sum-eq, sum-le, sum-add, sum-const}
@@ -23,11 +22,10 @@ use Rattle.distance.proofs.Level.{some-cell}
 use Rattle.distance.proofs.Unique.{near-one}
 use Rattle.definitions.specs.Cost.{cost}
 use Rattle.polynomial.specs.Eval.{values}
-use Rattle.welch_berlekamp.specs.declared.interpolation.Pairs.{Pairs}
 use Rattle.welch_berlekamp.specs.declared.newton.Newton.{Newton}
 use Rattle.reed_solomon.specs.declared.decoder.Decoded.{Decoded}
 use Rattle.welch_berlekamp.specs.Order.{taken, key, Placed, Least, Entering}
-use Rattle.welch_berlekamp.specs.Pairs.{Holds, Enters}
+use Rattle.welch_berlekamp.specs.Pairs.{Pairs, Holds, Enters}
 use Rattle.reed_solomon.specs.Near.{missed, Near, Refuted, Passed}
 use Rattle.welch_berlekamp.specs.Newton.{pairsOf, Fits}
 use Rattle.reed_solomon.specs.Decoded.{Received, StripDecoded, None, Found, Tried, hit, miss}
@@ -150,11 +148,11 @@ module _ {p m n k F : ℕ} {x s : List ℕ} (u : List ℕ) (R : Received p m x n
         going-holds = E .holds n s (R .4) (going-cell .0) (going-cell .1) (G .holds)
 
         -- it enters, and the trial after its entry failed
-        pub going-enter : {c′ : ℕ} → Least 16 (set r (c % 16) taken) c′ → Refuted (p - 1) F n k (at x) (at s) (at u) (at (t′ .entered)) →
-            Going p F n k x s u l (set r (c % 16) taken) c′ t′
-        going-enter L now = record {
+        pub going-enter : {r′ : List ℕ} {c′ : ℕ} → r′ ≡ row (λ j. cond (eqb (at r j) c) taken (at r j)) → Least 16 r′ c′ →
+            Refuted (p - 1) F n k (at x) (at s) (at u) (at (t′ .entered)) → Going p F n k x s u l r′ c′ t′
+        going-enter d L now = record {
           holds = going-holds;
-          entering = rw (E .marks) (entering-next (G .entering) placed (G .next) (G .holds .shaped .size) small);
+          entering = rw (E .marks) (entering-next (G .entering) placed (G .next) d (G .holds .shaped .size) small);
           next = L;
           now = now;
         }
@@ -215,9 +213,9 @@ module _ {p m n k F : ℕ} {x s : List ℕ} (u : List ℕ) (R : Received p m x n
             bit false = omega arith
 
   -- the state after the first k + 1 cells
-  pub going-first : {f : Newton} {c : ℕ} {t : Pairs} → Fits p n k x s l (suc k) f → t ≡ pairsOf (k + 1) f → Least 16 (f .keys) c → Refuted (p - 1) F n k (at x) (at s) (at u) (at (f .entered)) →
-      Going p F n k x s u l (f .keys) c t
-  going-first G e L D = rw (e, add-one k) (record { holds = G .holds; entering = G .entering; next = L; now = D })
+  pub going-first : {f : Newton} {c : ℕ} → Fits p n k x s l (suc k) f → Least 16 (f .keys) c → Refuted (p - 1) F n k (at x) (at s) (at u) (at (f .entered)) →
+      Going p F n k x s u l (f .keys) c (pairsOf (k + 1) f)
+  going-first G L D = rw (add-one k) (record { holds = G .holds; entering = G .entering; next = L; now = D })
 
 module _ {p m n k F : ℕ} {x s : List ℕ} (u : List ℕ) (R : Received p m x n k F s u) {r : Decoded} where
   none-of : None r → ((h : ℕ → ℕ) → F * (n - k) ≤ cost F n (at s) (at u) (values (p - 1) (suc k) h (at x))) → StripDecoded p F n k x s u (r .found) (r .message) (r .values) (r .cost)

@@ -24,13 +24,12 @@ use Rattle.polynomial.specs.Lead.{Lead}
 use Rattle.polynomial.proofs.Eval.{eval-lead}
 use Rattle.polynomial.proofs.Lead.{lead-eq}
 use Rattle.reed_solomon.specs.declared.decoder.Decoded.{Decoded}
-use Rattle.welch_berlekamp.specs.declared.interpolation.Pairs.{Pairs}
 use Rattle.welch_berlekamp.specs.declared.newton.Newton.{Newton}
 use Rattle.welch_berlekamp.specs.Order.{taken, key}
-use Rattle.welch_berlekamp.specs.Pairs.{Holds}
+use Rattle.welch_berlekamp.specs.Pairs.{Pairs, pairs, Holds}
 use Rattle.reed_solomon.specs.Near.{missed, Near, usable, suspect, Refuted}
 use Rattle.welch_berlekamp.specs.Newton.{Enough, Fits, Coefficients}
-use Rattle.reed_solomon.specs.Decoded.{Received, Found, Tried, hit, miss, Hoped}
+use Rattle.reed_solomon.specs.Decoded.{Received, Found, Tried, hit, miss, Hoped, Candidate}
 use Rattle.welch_berlekamp.proofs.Cursor.{zeros-at, key-in, key-out, keys-placed, marked-placed}
 use Rattle.welch_berlekamp.proofs.State.{ones-at}
 use Rattle.reed_solomon.proofs.Near.{first-over, usable-all, usable-right, suspect-right, eqb-same}
@@ -57,6 +56,9 @@ module _ (w e : ℕ → ℕ) {v : List ℕ} (i : v ≡ row (usable w e)) where
 -- no more cells have entered than there are
 pub holds-few : {p n k : ℕ} {x s : List ℕ} {t : Pairs} → Holds p n k x s t → t .a + t .b ≤ n
 holds-few {n} H = omega (arith, H .state .count, sum-const n 1, sum-le n λ j _. H .state .bit j)
+
+pub candidate : {p n k : ℕ} {x s d1 e1 d2 e w : List ℕ} {a b : ℕ} → Holds p n k x s (pairs d1 e1 d2 e a b w) → Hoped k (pairs d1 e1 d2 e a b w) → Candidate p n k x s e w
+candidate {d1 = d1} {e1 = e1} {d2 = d2} {a = a} {b = b} H h = record { d1 = d1; e1 = e1; d2 = d2; a = a; b = b; holds = H; hoped = h }
 
 -- what a row of values costs
 pub cost-values : {p m n k : ℕ} {x s : List ℕ} (F : ℕ) (u w : List ℕ) {v : List ℕ} → Received p m x n k F s u → v ≡ row (λ j. eval (suc k) (at w) (at x j) % p) →
@@ -121,12 +123,6 @@ module _ {p m n k F : ℕ} {x s : List ℕ} (u : List ℕ) {t : Pairs} (R : Rece
     free-at j = elim (decLt j 16) [
       | yes l ↦ ap (λ l. at l j) e ∙ row-at free j l
       | no l ↦ beyond v j (omega (arith, ap length e, length-tab 16 free)) ∙ sym (usable-none (eqb (at (t .e2) j) 0) (H .beyond j (omega (arith, R .4))))
-    ]
-
-    free-inside : (j : ℕ) → at v j ≢ 0 → j < n
-    free-inside j d = elim (decLt j n) [
-      | yes b ↦ b
-      | no b ↦ absurd (d (free-at j ∙ usable-none (eqb (at (t .e2) j) 0) (H .beyond j (omega arith))))
     ]
 
     -- l are the keys of the usable cells

@@ -9,6 +9,7 @@
 --   Found p F n k x s u r      the answer r was measured, and costs under the radius F (n - k)
 --   Tried p F n k x s u w r    a trial at the cells that w marks: what it found was measured, or no near polynomial is under the radius
 --   Hoped k t                  the pairs t may have a candidate: a is over b + k, and there are a usable cells
+--   Candidate p n k x s e w    some pairs that hold, with E2 = e and the marks w, may have a candidate
 --   Hope F n k u t r           r says whether they may: if so they are hoped, if not no near polynomial is under the radius
 --   Measured p m F n k s u f r the answer r is the trial of the polynomial f, which goes through k + 1 cells at some points x
 --
@@ -27,8 +28,7 @@ use Rattle.distance.specs.Doubts.{Doubts}
 use Rattle.reed_solomon.specs.declared.decoder.Decoded.{Decoded}
 use Rattle.welch_berlekamp.specs.declared.newton.Newton.{Newton}
 use Rattle.reed_solomon.specs.Strip.{Strip}
-use Rattle.welch_berlekamp.specs.declared.interpolation.Pairs.{Pairs}
-use Rattle.welch_berlekamp.specs.Pairs.{Holds}
+use Rattle.welch_berlekamp.specs.Pairs.{Pairs, pairs, Holds}
 use Rattle.welch_berlekamp.specs.Newton.{Fits}
 use Rattle.reed_solomon.specs.Near.{usable, Refuted}
 
@@ -67,6 +67,15 @@ pub record Measured (p m F n k : ℕ) (s u : List ℕ) (f : Newton) (r : Decoded
 pub record Hoped (k : ℕ) (t : Pairs) : Type 0 where
   pub high : t .b + k < t .a
   pub count : sum 16 (usable (at (t .entered)) (at (t .e2))) ≡ t .a
+
+pub record Candidate (p n k : ℕ) (x s e w : List ℕ) : Type 0 where
+  pub d1 : List ℕ
+  pub e1 : List ℕ
+  pub d2 : List ℕ
+  pub a : ℕ
+  pub b : ℕ
+  pub holds : Holds p n k x s (pairs d1 e1 d2 e a b w)
+  pub hoped : Hoped k (pairs d1 e1 d2 e a b w)
 
 pub record Hope (F n k : ℕ) (u : List ℕ) (t : Pairs) (r : Bool) : Type 0 where
   pub yes : r ≡ true → Hoped k t

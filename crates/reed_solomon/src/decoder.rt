@@ -6,12 +6,12 @@ use distance::summary;
 use distance::word;
 use field::rows;
 use welch_berlekamp::interpolation;
-use welch_berlekamp::interpolation::Pairs;
 use welch_berlekamp::newton;
 use welch_berlekamp::newton::Newton;
 use welch_berlekamp::order;
 ghost use mathlib.Core.Path.{_≡_};
 ghost use mathlib.Core.Bool.{cond};
+ghost use mathlib.Core.List.{List};
 ghost use Prim.Native.Nat.{ℕ, _<_, _≤_};
 ghost use lib.Dec.{eqb};
 ghost use Rattle.bounded.specs.Bounded.{at, sum};
@@ -20,16 +20,16 @@ ghost use Rattle.field.specs.Row.{row, Row, Reciprocal};
 ghost use Rattle.distance.specs.Doubts.{Doubts};
 ghost use Rattle.welch_berlekamp.specs.Newton.{Whole};
 ghost use Rattle.welch_berlekamp.specs.Order.{key};
-ghost use Rattle.welch_berlekamp.specs.Pairs.{Holds};
+ghost use Rattle.welch_berlekamp.specs.Pairs.{pairs};
 ghost use Rattle.reed_solomon.specs.Near.{usable, suspect};
-ghost use Rattle.reed_solomon.specs.Decoded.{Received, StripDecoded, None, Tried, Measured, Hoped, Hope};
+ghost use Rattle.reed_solomon.specs.Decoded.{Received, StripDecoded, None, Tried, Measured, Hope, Candidate};
 
 // Of an answer that there is none, all else is 0.
 pub struct Decoded {
-    pub found: bool,
     pub message: [u16; 16],
     pub values: [u16; 16],
     pub cost: u32,
+    pub found: bool,
 }
 
 // No polynomial.
@@ -142,17 +142,24 @@ fn measured(
 
 // Whether the pairs may have a candidate. A near polynomial makes E2 zero at just the entered cells where it is missed, b in number,
 // and at no other point: so it is missed where E2 is 0 or D2 is not, which tells its cost.
-fn hopeful(t: Pairs, n: usize, k: usize, full: u32, u: [u32; 16]) -> bool
-    requires { ⌜ (n ≤ 16) × (k < n) × (full < 65536) × Doubts full n (at u) × (t .b ≤ 16) × ((j : ℕ) → at (t .entered) j ≤ 1) ⌝ }
-    ensures { λ r. ⌜ Hope full n k u t r ⌝ }
+fn hopeful(
+    d: [u16; 16],
+    e: [u16; 16],
+    a: usize,
+    b: usize,
+    entered: [u16; 16],
+    n: usize,
+    k: usize,
+    full: u32,
+    u: [u32; 16],
+) -> bool
+    requires { ⌜ (n ≤ 16) × (k < n) × (full < 65536) × Doubts full n (at u) × (b ≤ 16) × ((j : ℕ) → at entered j ≤ 1) ⌝ }
+    ensures { λ r. ⌜ ((d1 e1 : List ℕ) → Hope full n k u (pairs d1 e1 d e a b entered) r) ⌝ }
 {
-    if t.a <= t.b + k {
+    if a <= b + k {
         return false;
     }
-    let entered = t.entered;
-    let d = t.d2;
-    let e = t.e2;
-    if count(usable_cells(entered, e)) != t.a {
+    if count(usable_cells(entered, e)) != a {
         return false;
     }
     let cost = word::word_cost(n, suspect_cells(d, e), u, [0; 16], full);
@@ -161,7 +168,8 @@ fn hopeful(t: Pairs, n: usize, k: usize, full: u32, u: [u32; 16]) -> bool
 
 // The candidate, measured: a near polynomial goes through all usable cells.
 fn attempt(
-    t: Pairs,
+    e: [u16; 16],
+    entered: [u16; 16],
     keys: [u32; 16],
     p: u16,
     m: u16,
@@ -173,11 +181,9 @@ fn attempt(
     s: [u16; 16],
     u: [u32; 16],
 ) -> Decoded
-    requires { ⌜ Received p m x n k full s u × Inverses p (now inverses) × (keys ≡ row (λ j. key n (at u j) j)) × Holds p n k x s t × Hoped k t ⌝ }
-    ensures { λ r. ⌜ Tried p full n k x s u (t .entered) r ⌝ }
+    requires { ⌜ Received p m x n k full s u × Inverses p (now inverses) × (keys ≡ row (λ j. key n (at u j) j)) × Candidate p n k x s e entered ⌝ }
+    ensures { λ r. ⌜ Tried p full n k x s u entered r ⌝ }
 {
-    let entered = t.entered;
-    let e = t.e2;
     let v = usable_cells(entered, e);
     let f = newton::through(order::marked(v, keys), x, s, k, p, m, inverses);
     measured(f, p, m, n, k, full, s, u)
@@ -207,19 +213,39 @@ pub fn decode(
     if answer.found {
         return answer;
     }
-    let mut t = newton::pairs_of(f, k);
+    let mut d1 = f.product;
+    let mut e1 = [0u16; 16];
+    let mut d2 = f.rest;
+    let mut e2 = [1u16; 16];
+    let mut a = k + 1;
+    let mut b = 0;
+    let mut entered = f.entered;
     let mut keys = f.keys;
     let mut next = order::least(keys);
     'levels: while next < full * 16 {
         let level = next / 16;
         while next / 16 == level {
             let r = (next % 16) as usize;
-            let now = interpolation::enter(t, x, r, k, p, m, inverses);
-            t = now;
-            keys[r] = order::TAKEN;
+            interpolation::enter(
+                &mut d1,
+                &mut e1,
+                &mut d2,
+                &mut e2,
+                &mut a,
+                &mut b,
+                &mut entered,
+                x,
+                r,
+                k,
+                p,
+                m,
+                inverses,
+            );
+            let others = order::without(keys, next);
+            keys = others;
             next = order::least(keys);
-            if hopeful(t, n, k, full, u) {
-                let tried = attempt(t, all, p, m, inverses, x, n, k, full, s, u);
+            if hopeful(d2, e2, a, b, entered, n, k, full, u) {
+                let tried = attempt(e2, entered, all, p, m, inverses, x, n, k, full, s, u);
                 if tried.found {
                     answer = tried;
                     break 'levels;

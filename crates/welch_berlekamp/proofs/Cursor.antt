@@ -121,13 +121,36 @@ module _ {l w r : List ℕ} (E : Entering l w r) (P : Placed l) where
     pub left-above : (j : ℕ) → j < 16 → at w j ≡ 0 → c ≤ at l j
     left-above j m z = omega (arith, L .low j m, other-in j m z)
 
+    -- the keys without the least one: no other is the same
+    module _ {r′ : List ℕ} (d : r′ ≡ row (λ j. cond (eqb (at r j) c) taken (at r j))) (h : c < taken) where
+      abbrev place : ℕ
+      place = c % 16
+
+      below : place < 16
+      below = mod-lt c (omega arith)
+
+      without-at : (j : ℕ) → j < 16 → at r′ j ≡ cond (eqb (at r j) c) taken (at r j)
+      without-at j m = ap (λ t. at t j) d ∙ row-at (λ j. cond (eqb (at r j) c) taken (at r j)) j m
+
+      least-at : at r place ≡ c
+      least-at = other-in place below (next-cell h .0) ∙ next-cell h .1
+
+      without-least : at r′ place ≡ taken
+      without-least = without-at place below ∙ ap (λ b. cond b taken (at r place)) (eq-eqb (at r place) c least-at)
+
+      without-other : (j : ℕ) → j < 16 → j ≢ place → at r′ j ≡ at r j
+      without-other j m n = without-at j m ∙ ap (λ b. cond b taken (at r j)) (ne-eqb (at r j) c λ e. n (tells e))
+        where
+          tells : at r j ≡ c → j ≡ place
+          tells e = let o = left-cell j m (omega (arith, e)) .1 in sym (P .place j m (omega (arith, o))) ∙ ap (λ t. t % 16) (o ∙ e)
+
     -- the cell of the least key enters
-    pub entering-next : length w ≡ 16 → c < taken → Entering l (set w (c % 16) 1) (set r (c % 16) taken)
-    entering-next s h = record {
-      size = length-set r (c % 16) taken ∙ E .size;
+    pub entering-next : {r′ : List ℕ} → r′ ≡ row (λ j. cond (eqb (at r j) c) taken (at r j)) → length w ≡ 16 → c < taken → Entering l (set w (c % 16) 1) r′
+    entering-next {r′} d s h = record {
+      size = ap length d ∙ length-tab 16 (λ j. cond (eqb (at r j) c) taken (at r j));
       others = λ j m. elim (ℕ-discrete j (c % 16)) [
-        | yes e ↦ rw (e, getD-set-same r (c % 16) taken 0 (omega (arith, E .size, below)), getD-set-same w (c % 16) 1 0 (omega (arith, below))) refl
-        | no e ↦ rw (getD-set-other r (c % 16) j taken 0 e, getD-set-other w (c % 16) j 1 0 e) (E .others j m)
+        | yes e ↦ rw (e, without-least d h, getD-set-same w (c % 16) 1 0 (omega (arith, below d h))) refl
+        | no e ↦ rw (without-other d h j m e, getD-set-other w (c % 16) j 1 0 e) (E .others j m)
       ];
       some = λ j m z. elim (ℕ-discrete j (c % 16)) [
         | yes e ↦ rw e (omega (arith, next-cell h .1))
@@ -139,14 +162,11 @@ module _ {l w r : List ℕ} (E : Entering l w r) (P : Placed l) where
       ];
     }
       where
-        below : c % 16 < 16
-        below = mod-lt c (omega arith)
-
         -- the keys only grow
-        grows : (j : ℕ) → j < 16 → at r j ≤ at (set r (c % 16) taken) j
+        grows : (j : ℕ) → j < 16 → at r j ≤ at r′ j
         grows j m = elim (ℕ-discrete j (c % 16)) [
-          | yes e ↦ rw (e, getD-set-same r (c % 16) taken 0 (omega (arith, E .size, below))) (omega (arith, next-cell h .1, other-in (c % 16) below (next-cell h .0)))
-          | no e ↦ rw (getD-set-other r (c % 16) j taken 0 e) (omega arith)
+          | yes e ↦ rw (e, without-least d h) (omega (arith, least-at d h))
+          | no e ↦ rw (without-other d h j m e) (omega arith)
         ]
 
 -- no cell has entered

@@ -4,29 +4,28 @@ use mathlib.Core.Logic.{_≢_}
 use mathlib.Core.Path.{_≡_, refl, sym, ap, ap₂, _∙_}
 use mathlib.Core.List.{List}
 use mathlib.Core.Bool.{Bool, true, false, cond}
-use Prim.Native.Nat.{ℕ, zero, suc, _+_, _*_, _-_, _%_, _≤_, _<_}
+use Prim.Native.Nat.{ℕ, zero, suc, _+_, _*_, _-_, _%_, _^_, _≤_, _<_}
 use native.Mathlib.Omega.{arith}
 use native.Mathlib.Decide.{ℕ-discrete, decLt}
-use native.Mathlib.Nat.{zero-mod, mod-lt, mul-zero}
+use native.Mathlib.Nat.{mod-lt, mul-zero}
 use native.Mathlib.Numerals.{add-one}
-use lib.Dec.{ltb}
+use lib.Dec.{eqb, ltb}
 use borrow.Author.Tests.{ltb-true}
-use lib.ListN.{length, set, length-set, replicate}
+use lib.ListN.{set, length-set, replicate}
 use lib.Seq.{getD-set-same, getD-set-other}
 use Rattle.bounded.specs.Bounded.{at}
 use Rattle.bounded.proofs.Sum.{sum-eq, sum-le, sum-const}
-use Rattle.bounded.proofs.Tab.{length-tab}
 use Rattle.field.specs.Congruence.{Cong, Agree}
 use Rattle.field.specs.Row.{row, Row}
-use Rattle.field.proofs.Congruence.{same, ~sym, _⨾_, ~add, ~mul, less, nonzero}
-use Rattle.field.proofs.Row.{row-of, row-at, beyond, result-row, result-cong}
+use Rattle.field.proofs.Congruence.{same, ~sym, _⨾_, ~add, ~mul, less, nonzero, mod-cong}
+use Rattle.field.proofs.Row.{result-row, result-cong}
 use Rattle.polynomial.specs.Eval.{eval, Apart}
 use Rattle.polynomial.proofs.Eval.{eval-front, eval-minus, eval-short, eval-cong}
 use Rattle.welch_berlekamp.specs.declared.newton.Newton.{Newton}
 use Rattle.welch_berlekamp.specs.Order.{taken, Least}
 use Rattle.welch_berlekamp.specs.Interpolation.{Entered}
 use Rattle.welch_berlekamp.specs.Pairs.{Ratio}
-use Rattle.welch_berlekamp.specs.Newton.{base, form, raised, Enough, Fits, Coefficients}
+use Rattle.welch_berlekamp.specs.Newton.{base, form, Enough, Fits, Coefficients}
 use Rattle.welch_berlekamp.proofs.Cursor.{zeros-at, next-cell, left-above, entering-start, entering-next}
 use Rattle.welch_berlekamp.proofs.Degrees.{shifted, mixed, degrees-start}
 use Rattle.welch_berlekamp.proofs.Entry.{freed1}
@@ -58,7 +57,7 @@ form-same q (suc i) X g h = ap₂ _+_
     (ap₂ _*_ (g i (omega arith)) (base-same q i X λ l m. h l (omega arith)))
 
 -- a row with one place set
-set-row : {p : ℕ} {l : List ℕ} (i v : ℕ) → i < 16 → v < p → Row p l → Row p (set l i v)
+pub set-row : {p : ℕ} {l : List ℕ} (i v : ℕ) → i < 16 → v < p → Row p l → Row p (set l i v)
 set-row {p} {l} i v b s R = record {
   size = length-set l i v ∙ R .size;
   small = λ j. elim (ℕ-discrete j i) [
@@ -138,7 +137,8 @@ module _ {p n k : ℕ} {x y l : List ℕ} (E : Enough p n k x l) {i : ℕ} {f : 
 
   -- the cell of the least key is taken
   module _ (pos : 1 < p) (small : (j : ℕ) → at x j < p) {v : ℕ} {d w g : List ℕ} (R : Ratio p (at (f .rest) (c % 16)) (at (f .product) (c % 16)) v)
-      (rest : Plus p v (f .rest) (f .product) d) (differences : w ≡ row (λ j. (at x j + (p - at x (c % 16))) % p)) (product : Times p w (f .product) g) where
+      (rest : Plus p v (f .rest) (f .product) d) (differences : w ≡ row (λ j. (at x j + (p - at x (c % 16))) % p)) (product : Times p w (f .product) g)
+      {u : List ℕ} (others : u ≡ row (λ j. cond (eqb (at (f .keys) j) c) taken (at (f .keys) j))) where
     abbrev r : ℕ
     r = c % 16
 
@@ -170,7 +170,7 @@ module _ {p n k : ℕ} {x y l : List ℕ} (E : Enough p n k x l) {i : ℕ} {f : 
     nodes-before o m = getD-set-other (f .nodes) i o (at x r) 0 (omega arith)
 
     pub fits-take : Fits p n k x y l (i + 1)
-        (record { rest = d; product = g; slopes = set (f .slopes) i v; nodes = set (f .nodes) i (at x r); entered = set (f .entered) r 1; keys = set (f .keys) r taken })
+        (record { rest = d; product = g; slopes = set (f .slopes) i v; nodes = set (f .nodes) i (at x r); entered = set (f .entered) r 1; keys = u })
     fits-take = rw (add-one i) (record {
       holds = record {
         shaped = record {
@@ -184,7 +184,7 @@ module _ {p n k : ℕ} {x y l : List ℕ} (E : Enough p n k x l) {i : ℕ} {f : 
         state = freed1 (F .holds .state) entered (fits-cell .0) v (omega arith) (R .zero) (multiplied n (E .most)) zeros-shifted
             (plus z (E .most) v (f .rest) (f .product) rest) ones-mixed;
       };
-      entering = entering-next (F .entering) (E .placed) L (F .holds .shaped .size) fits-more;
+      entering = entering-next (F .entering) (E .placed) L others (F .holds .shaped .size) fits-more;
       left = λ j m e h. elim (ℕ-discrete j r) [
         | yes o ↦ absurd (taken-now (ap (at (set (f .entered) r 1)) (sym o) ∙ e))
         | no o ↦ F .left j m (sym (entered .others j o) ∙ e)
@@ -209,67 +209,96 @@ module _ {p n k : ℕ} {x y l : List ℕ} (E : Enough p n k x l) {i : ℕ} {f : 
         taken-now : at (set (f .entered) r 1) r ≡ 0 → ⊥
         taken-now e = omega (arith, entered .after)
 
--- a times X, plus c
-raised-at : (c : ℕ) (a : ℕ → ℕ) {l : List ℕ} → l ≡ row (raised c a) → (j : ℕ) → j < 16 → at l j ≡ raised c a j
-raised-at c a e j m = ap (λ t. at t j) e ∙ row-at (raised c a) j m
-
-pub raised-row : {p c : ℕ} {a l : List ℕ} → c < p → Row p a → l ≡ row (raised c (at a)) → Row p l
-raised-row {p} {c} {a} s R e = row-of (omega arith) (ap length e ∙ length-tab 16 (raised c (at a))) λ j k. rw (raised-at c (at a) e j k) (small j)
-  where
-    small : (j : ℕ) → raised c (at a) j < p
-    small zero = s
-    small (suc j) = R .small j
-
--- Horner's rule after the terms from i on
+-- Horner's rule after the terms from i on: a i, a (i + 1), .. are the coefficients
 pub record Horner (p k : ℕ) (c z : List ℕ) (i : ℕ) (a : List ℕ) : Type 0 where
   pub row : Row p a
-  pub above : (j : ℕ) → suc k - i ≤ j → at a j ≡ 0
-  pub rest : (X : ℕ) → Cong (p - 1) (form (p - 1) (at c) (at z) i X + base (p - 1) (at z) i X * eval (suc k) (at a) X) (form (p - 1) (at c) (at z) (suc k) X)
+  pub above : (j : ℕ) → k < j → at a j ≡ 0
+  pub rest : (X : ℕ) →
+      Cong (p - 1) (form (p - 1) (at c) (at z) i X + base (p - 1) (at z) i X * eval (suc k - i) (λ o. at a (o + i)) X) (form (p - 1) (at c) (at z) (suc k) X)
 
 pub horner-start : {p k : ℕ} {c z : List ℕ} → 0 < p → Horner p k c z (k + 1) (replicate 16 0)
 horner-start {p} {k} {c} {z} pos = rw (add-one k) (record {
   row = zeros-row pos;
   above = λ j _. zeros-at 16 j;
-  rest = λ X. same (ap (λ t. form (p - 1) (at c) (at z) (suc k) X + base (p - 1) (at z) (suc k) X * t) (none X) ∙ omega arith);
+  rest = λ X. let e : suc k - suc k ≡ 0 = omega arith in rw e (same (omega arith));
 })
-  where
-    none : (X : ℕ) → eval (suc k) (at (replicate 16 0)) X ≡ 0
-    none X = eval-short 0 (suc k) (at (replicate 16 0)) X (omega arith) λ j _. zeros-at 16 j
 
-module _ {p k : ℕ} {c z : List ℕ} {i : ℕ} {a up b : List ℕ} (pos : 0 < p) (low : k < 16) (here : suc i ≤ suc k) (small : at z i ≤ p)
-    (H : Horner p k c z (suc i) a) (raise : up ≡ row (raised (at c i) (at a))) (e : b ≡ row (λ j. (at up j + (p - at z i) * at a j) % p)) where
+-- of the places from i on those before j were given m times the next one, all from what they were in b
+pub record Moved (p i m : ℕ) (b : List ℕ) (j : ℕ) (a : List ℕ) : Type 0 where
+  pub row : Row p a
+  pub done : (l : ℕ) → i ≤ l → l < j → at a l ≡ (at b l + m * at b (suc l)) % p
+  pub todo : (l : ℕ) → j ≤ l → at a l ≡ at b l
+
+pub moved-start : {p i m : ℕ} {b : List ℕ} → Row p b → Moved p i m b i b
+moved-start R = record { row = R; done = λ l h o. absurd (omega arith); todo = λ l o. refl }
+
+pub moved-step : {p i m j v : ℕ} {b a : List ℕ} → j < 16 → v ≡ (at a j + m * at a (j + 1)) % p → v < p → Moved p i m b j a → Moved p i m b (j + 1) (set a j v)
+moved-step {p} {m = m} {j = j} {v = v} {b = b} {a = a} h e s M = record {
+  row = set-row j v h s (M .row);
+  done = λ l o n. elim (ℕ-discrete l j) [
+    | yes q ↦ rw (q, getD-set-same a j v 0 (omega (arith, M .row .size))) (e ∙ ap₂ (λ s t. (s + m * t) % p) (M .todo j (omega arith)) (M .todo (j + 1) (omega arith) ∙ ap (at b) (add-one j)))
+    | no q ↦ rw (getD-set-other a j l v 0 q) (M .done l o (omega arith))
+  ];
+  todo = λ l o. let q : l ≢ j = omega arith in rw (getD-set-other a j l v 0 q) (M .todo l (omega arith));
+}
+
+module _ {p k : ℕ} {c z : List ℕ} {i : ℕ} {a b : List ℕ} (pos : 0 < p) (low : k < 16) (here : i ≤ k) (small : at z i ≤ p)
+    (H : Horner p k c z (suc i) a) (M : Moved p i (p - at z i) (set a i (at c i)) k b) where
+  abbrev put : ℕ → ℕ
+  put = at (set a i (at c i))
+
+  put-here : put i ≡ at c i
+  put-here = getD-set-same a i (at c i) 0 (omega (arith, H .row .size))
+
+  put-after : (l : ℕ) → i < l → put l ≡ at a l
+  put-after l o = getD-set-other a i l (at c i) 0 (omega arith)
+
+  moved-all : (l : ℕ) → i ≤ l → l ≤ k → Cong (p - 1) (at b l) (put l + (p - at z i) * put (suc l))
+  moved-all l o n = elim (ℕ-discrete l k) [
+    | yes e ↦ same (M .todo l (omega arith) ∙ omega (arith, ap (λ t. (p - at z i) * t) (put-after (suc l) (omega arith) ∙ H .above (suc l) (omega arith))))
+    | no e ↦ same (M .done l o (omega arith)) ⨾ mod-cong pos (put l + (p - at z i) * put (suc l))
+  ]
+
+  -- the places after i hold a
+  put-tail : (g : ℕ → ℕ) → ((o : ℕ) → g o ≡ o + suc i) → (X : ℕ) → eval (k - i) (λ o. put (g o)) X ≡ eval (k - i) (λ o. at a (o + suc i)) X
+  put-tail g e X = sum-eq (k - i) λ o _. ap (λ t. t * X ^ o) (ap put (e o) ∙ put-after (o + suc i) (omega arith))
+
+  -- X a + c
+  raised : (X : ℕ) → eval (suc (k - i)) (λ o. put (o + i)) X ≡ at c i + X * eval (k - i) (λ o. at a (o + suc i)) X
+  raised X = eval-front (k - i) (λ o. put (o + i)) X ∙ ap₂ (λ s t. s + X * t) (ap put (omega arith) ∙ put-here) (put-tail (λ o. suc o + i) (λ o. omega arith) X)
+
+  put-next : (X : ℕ) → eval (suc (k - i)) (λ o. put (suc (o + i))) X ≡ eval (k - i) (λ o. at a (o + suc i)) X
+  put-next X = eval-short (k - i) (suc (k - i)) (λ o. put (suc (o + i))) X (omega arith) ended ∙ put-tail (λ o. suc (o + i)) (λ o. omega arith) X
+    where
+      ended : (l : ℕ) → k - i ≤ l → put (suc (l + i)) ≡ 0
+      ended l o = put-after (suc (l + i)) (omega arith) ∙ H .above (suc (l + i)) (omega arith)
+
   -- (X - z) a + c, as X a + c less z a
-  product : (m X : ℕ) → eval (suc k) (λ o. raised (at c i) (at a) o + m * at a o) X ≡ at c i + eval (suc k) (at a) X * (X + m)
-  product m X = omega (
-    arith,
-    eval-minus m (suc k) (raised (at c i) (at a)) (at a) X,
-    eval-front k (raised (at c i) (at a)) X,
-    ap (λ t. X * t) (eval-short k (suc k) (at a) X (omega arith) λ j o. H .above j (omega arith)),
-  )
+  product : (m X : ℕ) → eval (suc (k - i)) (λ o. put (o + i) + m * put (suc (o + i))) X ≡ at c i + eval (k - i) (λ o. at a (o + suc i)) X * (X + m)
+  product m X = eval-minus m (suc (k - i)) (λ o. put (o + i)) (λ o. put (suc (o + i))) X ∙ ap₂ (λ s t. s + m * t) (raised X) (put-next X) ∙ omega arith
 
-  horner-eval : (X : ℕ) → Cong (p - 1) (eval (suc k) (at b) X) (at c i + eval (suc k) (at a) X * (X + (p - 1) * at z i))
+  horner-eval : (X : ℕ) → Cong (p - 1) (eval (suc (k - i)) (λ o. at b (o + i)) X) (at c i + eval (k - i) (λ o. at a (o + suc i)) X * (X + (p - 1) * at z i))
   horner-eval X =
-      eval-cong (suc k) X (λ o n. result-cong (λ o. at up o + (p - at z i) * at a o) pos e o (omega arith) ⨾ ~add (same (raised-at (at c i) (at a) raise o (omega arith))) (same refl))
+      eval-cong (suc (k - i)) X (λ o n. moved-all (o + i) (omega arith) (omega arith))
       ⨾ same (product (p - at z i) X)
-      ⨾ ~add {a = at c i} (same refl) (~mul (eval (suc k) (at a) X) (minus (p - at z i) (at z i) X (omega arith)))
-
-  none : (j : ℕ) → suc k - i ≤ j → j < 16 → (at up j + (p - at z i) * at a j) % p ≡ 0
-  none zero o l = absurd (omega arith)
-  none (suc j) o l = ap (λ t. t % p) (ap₂ (λ s t. s + (p - at z i) * t) (raised-at (at c i) (at a) raise (suc j) l ∙ H .above j (omega arith)) (H .above (suc j) (omega arith)) ∙ omega arith) ∙ zero-mod p
+      ⨾ ~add {a = at c i} (same refl) (~mul (eval (k - i) (λ o. at a (o + suc i)) X) (minus (p - at z i) (at z i) X (omega arith)))
 
   pub horner-step : Horner p k c z i b
   horner-step = record {
-    row = result-row _ pos e;
-    above = λ j o. elim (decLt j 16) [
-      | yes l ↦ ap (λ t. at t j) e ∙ row-at (λ j. (at up j + (p - at z i) * at a j) % p) j l ∙ none j o l
-      | no l ↦ beyond b j (omega (arith, ap length e, length-tab 16 (λ j. (at up j + (p - at z i) * at a j) % p)))
-    ];
-    rest = λ X. ~add {a = form (p - 1) (at c) (at z) i X} (same refl) (~mul (base (p - 1) (at z) i X) (horner-eval X)) ⨾ same (omega arith) ⨾ H .rest X;
+    row = M .row;
+    above = λ j o. M .todo j (omega arith) ∙ put-after j (omega arith) ∙ H .above j o;
+    rest = λ X.
+        let e : suc k - i ≡ suc (k - i) = omega arith in
+        let d : suc k - suc i ≡ k - i = omega arith in
+        rw e (~add {a = form (p - 1) (at c) (at z) i X} (same refl) (~mul (base (p - 1) (at z) i X) (horner-eval X)) ⨾ same (omega arith) ⨾ (rw d at (H .rest X)));
   }
 
 pub horner-end : {p k : ℕ} {c z a : List ℕ} → Horner p k c z 0 a → Coefficients p k c z a
 horner-end {p} {k} {c} {z} {a} H = record {
   row = H .row;
-  above = λ j l. H .above j (omega arith);
-  evaluates = λ X. same (omega arith) ⨾ H .rest X;
+  above = H .above;
+  evaluates = λ X. let e : suc k - 0 ≡ suc k = omega arith in same (omega (arith, whole X)) ⨾ (rw e at (H .rest X));
 }
+  where
+    whole : (X : ℕ) → eval (suc k) (at a) X ≡ eval (suc k) (λ o. at a (o + 0)) X
+    whole X = sum-eq (suc k) λ o _. ap (λ t. at a t * X ^ o) (omega arith)

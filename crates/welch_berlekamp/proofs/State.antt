@@ -1,6 +1,6 @@
 -- The decoder's state by rows of remainders: a quotient frees a value, the differences to a point multiply, and each of the four steps
 -- of the interpolation lets a cell enter. Assumes nothing.
-use mathlib.Core.Path.{_≡_, refl, sym, ap, _∙_}
+use mathlib.Core.Path.{_≡_, refl, ap, _∙_}
 use mathlib.Core.List.{List}
 use Prim.Native.Nat.{ℕ, suc, _+_, _*_, _-_, _%_, _≤_, _<_}
 use native.Mathlib.Omega.{arith}
@@ -13,9 +13,8 @@ use Rattle.field.specs.Prime.{Inverse}
 use Rattle.field.specs.Row.{row, Row}
 use Rattle.field.proofs.Congruence.{same, ~sym, _⨾_, ~add, ~mul, ~mul-right, less, mod-cong}
 use Rattle.field.proofs.Row.{row-of, result-row, result-cong}
-use Rattle.welch_berlekamp.specs.declared.interpolation.Pairs.{Pairs}
 use Rattle.welch_berlekamp.specs.Interpolation.{Entered}
-use Rattle.welch_berlekamp.specs.Pairs.{Ratio, Shaped, State, Enters}
+use Rattle.welch_berlekamp.specs.Pairs.{Pairs, pairs, Ratio, Shaped, State, Enters}
 use Rattle.welch_berlekamp.proofs.Cursor.{zeros-at}
 use Rattle.welch_berlekamp.proofs.Degrees.{shifted, mixed}
 use Rattle.welch_berlekamp.proofs.Entry.{kept1, kept2, freed1, freed2}
@@ -88,26 +87,26 @@ enters-of {r} {t} h e d1 e1 d2 e2 v = record {
 module _ {p k r : ℕ} {x w : List ℕ} {t : Pairs} (z : 0 < p) (i : at x r ≤ p) (d : w ≡ row (λ j. (at x j + (p - at x r)) % p)) (h : Shaped p t) {D E : List ℕ} where
   -- the first pair is used
   pub first-kept : at (t .d1) r ≡ 0 → Times p w (t .d2) D → Times p w (t .e2) E →
-      Enters p k x r t (record { d1 = t .d1; e1 = t .e1; d2 = D; e2 = E; a = t .a; b = t .b + 1; entered = set (t .entered) r 1 })
+      Enters p k x r t (pairs (t .d1) (t .e1) D E (t .a) (t .b + 1) (set (t .entered) r 1))
   first-kept o f g = enters-of (h .size) refl (h .d1) (h .e1) (result-row _ z f) (result-row _ z g) λ n y b l m v.
       rw (add-one (t .b)) (kept1 v m l (same o) (times z b r x i d (t .d2) f) (times z b r x i d (t .e2) g))
 
   pub first-grew : {F G : List ℕ} (c : ℕ) → t .a ≤ t .b + k → Ratio p (at (t .d2) r) (at (t .d1) r) c →
       Plus p c (t .d2) (t .d1) F → Plus p c (t .e2) (t .e1) G → Times p w (t .d1) D → Times p w (t .e1) E →
-      Enters p k x r t (record { d1 = D; e1 = E; d2 = F; e2 = G; a = t .a + 1; b = t .b; entered = set (t .entered) r 1 })
+      Enters p k x r t (pairs D E F G (t .a + 1) (t .b) (set (t .entered) r 1))
   first-grew c low R F G f g = enters-of (h .size) refl (result-row _ z f) (result-row _ z g) (result-row _ z F) (result-row _ z G) λ n y b l m v.
       rw (add-one (t .a)) (freed1 v m l c low (R .zero) (times z b r x i d (t .d1) f) (times z b r x i d (t .e1) g)
       (plus z b c (t .d2) (t .d1) F) (plus z b c (t .e2) (t .e1) G))
 
   -- the second pair is
   pub second-kept : at (t .d2) r ≡ 0 → Times p w (t .d1) D → Times p w (t .e1) E →
-      Enters p k x r t (record { d1 = D; e1 = E; d2 = t .d2; e2 = t .e2; a = t .a + 1; b = t .b; entered = set (t .entered) r 1 })
+      Enters p k x r t (pairs D E (t .d2) (t .e2) (t .a + 1) (t .b) (set (t .entered) r 1))
   second-kept o f g = enters-of (h .size) refl (result-row _ z f) (result-row _ z g) (h .d2) (h .e2) λ n y b l m v.
       rw (add-one (t .a)) (kept2 v m l (same o) (times z b r x i d (t .d1) f) (times z b r x i d (t .e1) g))
 
   pub second-grew : {F G : List ℕ} (c : ℕ) → t .b + k < t .a → Ratio p (at (t .d1) r) (at (t .d2) r) c →
       Plus p c (t .d1) (t .d2) F → Plus p c (t .e1) (t .e2) G → Times p w (t .d2) D → Times p w (t .e2) E →
-      Enters p k x r t (record { d1 = F; e1 = G; d2 = D; e2 = E; a = t .a; b = t .b + 1; entered = set (t .entered) r 1 })
+      Enters p k x r t (pairs F G D E (t .a) (t .b + 1) (set (t .entered) r 1))
   second-grew c high R F G f g = enters-of (h .size) refl (result-row _ z F) (result-row _ z G) (result-row _ z f) (result-row _ z g) λ n y b l m v.
       rw (add-one (t .b)) (freed2 v m l c high (R .zero) (times z b r x i d (t .d2) f) (times z b r x i d (t .e2) g)
       (plus z b c (t .d1) (t .d2) F) (plus z b c (t .e1) (t .e2) G))

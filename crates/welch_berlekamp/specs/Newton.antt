@@ -2,7 +2,6 @@
 --
 --   base q z i X           the product of X - z over the first i nodes z, at X
 --   form q c z i X         the sum of c l times the product of l nodes, for l below i, at X
---   raised c a             a times X, plus c, by coefficients
 --   Enough p n k x l       more than k of n cells have a key below `taken` in l, at points that are apart
 --   Cells p k x l          the same for some n
 --   Whole p f              the rows of f are rows modulo p
@@ -26,10 +25,9 @@ use Rattle.bounded.specs.Bounded.{at, sum}
 use Rattle.field.specs.Congruence.{Cong}
 use Rattle.field.specs.Row.{Row}
 use Rattle.polynomial.specs.Eval.{eval, Apart}
-use Rattle.welch_berlekamp.specs.declared.interpolation.Pairs.{Pairs}
 use Rattle.welch_berlekamp.specs.declared.newton.Newton.{Newton}
 use Rattle.welch_berlekamp.specs.Order.{taken, Placed, Entering}
-use Rattle.welch_berlekamp.specs.Pairs.{Holds}
+use Rattle.welch_berlekamp.specs.Pairs.{Pairs, pairs, Holds}
 
 abbrev pub base : (q : ℕ) (z : ℕ → ℕ) (i X : ℕ) → ℕ
 base q z zero X = 1
@@ -38,10 +36,6 @@ base q z (suc i) X = base q z i X * (X + q * z i)
 abbrev pub form : (q : ℕ) (c z : ℕ → ℕ) (i X : ℕ) → ℕ
 form q c z zero X = 0
 form q c z (suc i) X = form q c z i X + c i * base q z i X
-
-abbrev pub raised : (c : ℕ) (a : ℕ → ℕ) → ℕ → ℕ
-raised c a zero = c
-raised c a (suc i) = a i
 
 pub record Enough (p n k : ℕ) (x l : List ℕ) : Type 0 where
   pub most : n ≤ 16
@@ -55,7 +49,7 @@ pub record Cells (p k : ℕ) (x l : List ℕ) : Type 0 where
   pub enough : Enough p n k x l
 
 abbrev pub pairsOf : ℕ → Newton → Pairs
-pairsOf i f = record { d1 = f .product; e1 = replicate 16 0; d2 = f .rest; e2 = replicate 16 1; a = i; b = 0; entered = f .entered }
+pairsOf i f = pairs (f .product) (replicate 16 0) (f .rest) (replicate 16 1) i 0 (f .entered)
 
 pub record Whole (p : ℕ) (f : Newton) : Type 0 where
   pub rest : Row p (f .rest)

@@ -1,5 +1,8 @@
 -- The two pairs of rows that the decoder keeps, and what its functions do to them, modulo p.
 --
+--   Pairs               the first pair d1, e1 of degree a, the second d2, e2 of degree b; a + b cells have entered, and `entered` is 1
+--                       at these, else 0
+--   pairs d1 .. entered two pairs by their parts
 --   Ratio p a b r       r is - a / b: a + r b is 0
 --   Shaped p t          the rows and marks of the two pairs have their sizes and ranges
 --   State p n k x y t   the pairs interpolate the symbols y of the cells that have entered
@@ -14,8 +17,19 @@ use lib.ListN.{length, set}
 use Rattle.bounded.specs.Bounded.{at}
 use Rattle.field.specs.Congruence.{Cong}
 use Rattle.field.specs.Row.{Row}
-use Rattle.welch_berlekamp.specs.declared.interpolation.Pairs.{Pairs}
 use Rattle.welch_berlekamp.specs.Interpolation.{Interpolates}
+
+pub record Pairs : Type 0 where
+  pub d1 : List ℕ
+  pub e1 : List ℕ
+  pub d2 : List ℕ
+  pub e2 : List ℕ
+  pub a : ℕ
+  pub b : ℕ
+  pub entered : List ℕ
+
+abbrev pub pairs : (d1 e1 d2 e2 : List ℕ) (a b : ℕ) (entered : List ℕ) → Pairs
+pairs d1 e1 d2 e2 a b entered = record { d1 = d1; e1 = e1; d2 = d2; e2 = e2; a = a; b = b; entered = entered }
 
 pub record Ratio (p a b r : ℕ) : Type 0 where
   pub below : r < p

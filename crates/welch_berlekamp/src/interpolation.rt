@@ -1,21 +1,11 @@
 // Incremental rational interpolation by values (Welch and Berlekamp, in Koetter's form): cells enter one by one, and nothing is
-// computed again. A pair stands for two polynomials Q and E: e holds E at the points, d holds Q - y E, y being the symbols.
+// computed again. A pair stands for two polynomials Q and E: e holds E at the points, d holds Q - y E, y being the symbols. There are
+// two, the first of degree a, the second of degree b; a + b cells have entered, and `entered` is 1 at these, else 0.
 use field::rows;
 ghost use Prim.Native.Nat.{_+_, _<_, _≤_};
 ghost use Rattle.field.specs.Prime.{Inverses};
 ghost use Rattle.field.specs.Row.{Row, Reciprocal};
-ghost use Rattle.welch_berlekamp.specs.Pairs.{Ratio, Shaped, Enters};
-
-// The first pair of degree a, the second of degree b; a + b cells have entered, and `entered` is 1 at these, else 0.
-pub struct Pairs {
-    pub d1: [u16; 16],
-    pub e1: [u16; 16],
-    pub d2: [u16; 16],
-    pub e2: [u16; 16],
-    pub a: usize,
-    pub b: usize,
-    pub entered: [u16; 16],
-}
+ghost use Rattle.welch_berlekamp.specs.Pairs.{pairs, Ratio, Shaped, Enters};
 
 // - a / b.
 pub fn ratio(a: u16, b: u16, p: u16, m: u16, inverses: &[u16; 251]) -> u16
@@ -27,80 +17,56 @@ pub fn ratio(a: u16, b: u16, p: u16, m: u16, inverses: &[u16; 251]) -> u16
 
 // The cell r enters. The pair of the lower degree is used, the second pair's counting k more: where it is 0 at the cell the other
 // pair is multiplied by the differences of all points to the cell's own; else the other is freed of its value there by a multiple
-// of it, and it is multiplied itself.
+// of it, and it is multiplied itself. The rows are changed in place.
 pub fn enter(
-    t: Pairs,
+    d1: &mut [u16; 16],
+    e1: &mut [u16; 16],
+    d2: &mut [u16; 16],
+    e2: &mut [u16; 16],
+    a: &mut usize,
+    b: &mut usize,
+    entered: &mut [u16; 16],
     x: [u16; 16],
     r: usize,
     k: usize,
     p: u16,
     m: u16,
     inverses: &[u16; 251],
-) -> Pairs
-    requires { ⌜ Reciprocal p m × Inverses p (now inverses) × Shaped p t × Row p x × (r < 16) × (k ≤ 16) × (t .a + t .b ≤ 16) ⌝ }
-    ensures { λ t′. ⌜ Enters p k x r t t′ ⌝ }
+)
+    requires { ⌜ Reciprocal p m × Inverses p (now inverses) × Shaped p (pairs (now d1) (now e1) (now d2) (now e2) (now a) (now b) (now entered)) × Row p x × (r < 16) × (k ≤ 16) × (now a + now b ≤ 16) ⌝ }
+    ensures { λ _. ⌜ Enters p k x r (pairs (now (d1 .entry)) (now (e1 .entry)) (now (d2 .entry)) (now (e2 .entry)) (now (a .entry)) (now (b .entry)) (now (entered .entry))) (pairs (now (d1 .exit)) (now (e1 .exit)) (now (d2 .exit)) (now (e2 .exit)) (now (a .exit)) (now (b .exit)) (now (entered .exit))) ⌝ }
 {
-    let d1 = t.d1;
-    let e1 = t.e1;
-    let d2 = t.d2;
-    let e2 = t.e2;
-    let mut entered = t.entered;
     entered[r] = 1;
     let w = rows::shift(x, p - x[r], p);
-    if t.a <= t.b + k {
-        if d1[r] == 0 {
-            let grown_d = rows::multiply(d2, w, p, m);
-            let grown_e = rows::multiply(e2, w, p, m);
-            return Pairs {
-                d1,
-                e1,
-                d2: grown_d,
-                e2: grown_e,
-                a: t.a,
-                b: t.b + 1,
-                entered,
-            };
+    let v1 = d1[r];
+    let v2 = d2[r];
+    let first = *a;
+    let second = *b;
+    if first <= second + k {
+        if v1 == 0 {
+            let grown_d = rows::multiply(*d2, w, p, m);
+            let grown_e = rows::multiply(*e2, w, p, m);
+            *d2 = grown_d;
+            *e2 = grown_e;
+            *b = second + 1;
+            return;
         }
-        let c = ratio(d2[r], d1[r], p, m, inverses);
-        let freed_d = rows::add_multiple(d2, c, d1, p, m);
-        let freed_e = rows::add_multiple(e2, c, e1, p, m);
-        let grown_d = rows::multiply(d1, w, p, m);
-        let grown_e = rows::multiply(e1, w, p, m);
-        return Pairs {
-            d1: grown_d,
-            e1: grown_e,
-            d2: freed_d,
-            e2: freed_e,
-            a: t.a + 1,
-            b: t.b,
-            entered,
-        };
+        let c = ratio(v2, v1, p, m, inverses);
+        rows::advance(d2, c, d1, w, p, m);
+        rows::advance(e2, c, e1, w, p, m);
+        *a = first + 1;
+        return;
     }
-    if d2[r] == 0 {
-        let grown_d = rows::multiply(d1, w, p, m);
-        let grown_e = rows::multiply(e1, w, p, m);
-        return Pairs {
-            d1: grown_d,
-            e1: grown_e,
-            d2,
-            e2,
-            a: t.a + 1,
-            b: t.b,
-            entered,
-        };
+    if v2 == 0 {
+        let grown_d = rows::multiply(*d1, w, p, m);
+        let grown_e = rows::multiply(*e1, w, p, m);
+        *d1 = grown_d;
+        *e1 = grown_e;
+        *a = first + 1;
+        return;
     }
-    let c = ratio(d1[r], d2[r], p, m, inverses);
-    let freed_d = rows::add_multiple(d1, c, d2, p, m);
-    let freed_e = rows::add_multiple(e1, c, e2, p, m);
-    let grown_d = rows::multiply(d2, w, p, m);
-    let grown_e = rows::multiply(e2, w, p, m);
-    Pairs {
-        d1: freed_d,
-        e1: freed_e,
-        d2: grown_d,
-        e2: grown_e,
-        a: t.a,
-        b: t.b + 1,
-        entered,
-    }
+    let c = ratio(v1, v2, p, m, inverses);
+    rows::advance(d1, c, d2, w, p, m);
+    rows::advance(e1, c, e2, w, p, m);
+    *b = second + 1;
 }

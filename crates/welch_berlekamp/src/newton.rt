@@ -1,15 +1,12 @@
 // The polynomial through k + 1 cells, by Newton's form: a sum of multiples, the slopes, of the products of X - z over the points z of
 // the cells taken before, the nodes. It is kept by its values less the symbols: where these are 0 the symbol is right.
-use crate::interpolation::Pairs;
 use crate::interpolation::ratio;
 use crate::order;
 use field::rows;
-ghost use mathlib.Core.Path.{_≡_};
-ghost use Prim.Native.Nat.{ℕ, suc, _+_, _<_};
-ghost use Rattle.bounded.specs.Bounded.{at};
+ghost use Prim.Native.Nat.{ℕ, suc, _<_};
 ghost use Rattle.field.specs.Prime.{Inverses};
-ghost use Rattle.field.specs.Row.{row, Row, Reciprocal};
-ghost use Rattle.welch_berlekamp.specs.Newton.{raised, pairsOf, Enough, Cells, Fits, Coefficients};
+ghost use Rattle.field.specs.Row.{Row, Reciprocal};
+ghost use Rattle.welch_berlekamp.specs.Newton.{Enough, Cells, Fits, Coefficients};
 
 // The rest is the polynomial less the symbols, the product that of X - z over all cells taken; `entered` is 1 at these, else 0, and
 // the keys are those of the other cells.
@@ -43,18 +40,17 @@ pub fn through(
     let mut rest = rows::scale(p - 1, y, p, m);
     let mut i = 0;
     while i <= k {
-        let r = (order::least(left) % 16) as usize;
+        let key = order::least(left);
+        let r = (key % 16) as usize;
         let z = x[r];
         let c = ratio(rest[r], product[r], p, m, inverses);
-        let next = rows::add_multiple(rest, c, product, p, m);
         let w = rows::shift(x, p - z, p);
-        let grown = rows::multiply(product, w, p, m);
-        rest = next;
-        product = grown;
+        rows::advance(&mut rest, c, &mut product, w, p, m);
         slopes[i] = c;
         nodes[i] = z;
         entered[r] = 1;
-        left[r] = order::TAKEN;
+        let others = order::without(left, key);
+        left = others;
         i += 1;
     }
     Newton {
@@ -67,39 +63,8 @@ pub fn through(
     }
 }
 
-// The pairs of the interpolation after the k + 1 cells: E1 is 0 and E2 is 1.
-pub fn pairs_of(f: Newton, k: usize) -> Pairs
-    requires { ⌜ k < 16 ⌝ }
-    ensures { λ t. ⌜ t ≡ pairsOf (k + 1) f ⌝ }
-{
-    let d1 = f.product;
-    let d2 = f.rest;
-    let entered = f.entered;
-    Pairs {
-        d1,
-        e1: [0u16; 16],
-        d2,
-        e2: [1u16; 16],
-        a: k + 1,
-        b: 0,
-        entered,
-    }
-}
-
-// a times X, plus c, by coefficients; the last of a is lost.
-fn raise(a: [u16; 16], c: u16) -> [u16; 16]
-    ensures { λ r. ⌜ r ≡ row (raised c (at a)) ⌝ }
-{
-    let mut out = [c; 16];
-    let mut i = 0;
-    while i < 15 {
-        out[i + 1] = a[i];
-        i += 1;
-    }
-    out
-}
-
-// The coefficients, by Horner's rule: the last slope times X less the last node, plus the slope before, and so on.
+// The coefficients, by Horner's rule: the last slope times X less the last node, plus the slope before, and so on. The powers move up in
+// place, a number at a time: a row that is shifted would have to be stored before it can be loaded.
 pub fn coefficients(slopes: [u16; 16], nodes: [u16; 16], k: usize, p: u16, m: u16) -> [u16; 16]
     requires { ⌜ Reciprocal p m × Row p slopes × Row p nodes × (k < 16) ⌝ }
     ensures { λ a. ⌜ Coefficients p k slopes nodes a ⌝ }
@@ -108,8 +73,13 @@ pub fn coefficients(slopes: [u16; 16], nodes: [u16; 16], k: usize, p: u16, m: u1
     let mut i = k + 1;
     while i > 0 {
         i -= 1;
-        let next = rows::add_multiple(raise(a, slopes[i]), p - nodes[i], a, p, m);
-        a = next;
+        a[i] = slopes[i];
+        let c = p - nodes[i];
+        let mut j = i;
+        while j < k {
+            a[j] = rows::reduce(a[j] + c * a[j + 1], p, m);
+            j += 1;
+        }
     }
     a
 }

@@ -70,3 +70,27 @@ pub fn marked(w: [u16; 16], keys: [u32; 16]) -> [u32; 16]
     }
     out
 }
+
+// The key v, if it is not the one taken.
+fn other(v: u32, key: u32) -> u32
+    ensures { λ r. ⌜ r ≡ cond (eqb v key) taken v ⌝ }
+{
+    if v == key {
+        return TAKEN;
+    }
+    v
+}
+
+// The keys without the one of a cell that enters. By comparing: a number put in its place would have to be stored before the row can be
+// loaded for the next least key.
+pub fn without(keys: [u32; 16], key: u32) -> [u32; 16]
+    ensures { λ r. ⌜ r ≡ row (λ j. cond (eqb (at keys j) key) taken (at keys j)) ⌝ }
+{
+    let mut out = [TAKEN; 16];
+    let mut j = 0;
+    while j < 16 {
+        out[j] = other(keys[j], key);
+        j += 1;
+    }
+    out
+}

@@ -10,42 +10,46 @@ use Rattle.reed_solomon.proofs.decoder.hopeful.Statement.{statement}
 use Rattle.reed_solomon.proofs.decoder.hopeful.Tie as tie
 
 add-if1 : tie.Need-add-if1
-add-if1 c = let b = c .before .pre in omega (arith, b .0, b .1, b .4)
+add-if1 c = let b = c .pre in omega (arith, b .0, b .1, b .4)
 
 returns : tie.Need-returns
-returns c = record { yes = λ e. absurd (false≢true e); no = λ _ p m x s R H. refuted-low (c .before .before .before .args .u) R H (c .if1 .taken) }
+returns c = λ d1 e1. record { yes = λ e. absurd (false≢true e); no = λ _ p m x s R H. refuted-low (c .before .args .u) R H (c .if1 .taken) }
 
 usable-cells-requires : tie.Need-usable-cells-requires
 usable-cells-requires c κs = search needs
 
 count-requires : tie.Need-count-requires
 count-requires c κs =
-    let start = c .before .before .before .before .before .before .before in
-    usable-bits (at (start .args .t .entered)) (at (start .args .t .e2)) (c .usable-cells .ensures) (start .pre .5)
+    let start = c .before .before in
+    usable-bits (at (start .args .entered)) (at (start .args .e)) (c .usable-cells .ensures) (start .pre .5)
 
 returns-2 : tie.Need-returns-2
 returns-2 c =
-    let start = c .before .before .before .before .before .before .before .before .before .before in
-    record {
+    let start = c .before .before .before .before in
+    λ d1 e1. record {
       yes = λ e. absurd (false≢true e);
-      no = λ _ p m x s R H. refuted-count (start .args .u) R H λ e. c .if2 .taken (c .before .before .count .ensures ∙ usable-sum (at (start .args .t .entered)) (at (start .args .t .e2)) (c .before .before .before .usable-cells .ensures) ∙ e);
+      no = λ _ p m x s R H. refuted-count (start .args .u) R H λ e. c .if2 .taken (c .before .count .ensures ∙ usable-sum (at (start .args .entered)) (at (start .args .e)) (c .before .before .usable-cells .ensures) ∙ e);
     }
 
 suspect-cells-requires : tie.Need-suspect-cells-requires
 suspect-cells-requires c κs = search needs
 
 word-cost-requires : tie.Need-word-cost-requires
-word-cost-requires c κs = let b = c .before .before .before .before .before .before .before .before .before .before .before .pre in (b .0, b .3, b .2)
+word-cost-requires c κs = let b = c .before .before .before .before .before .pre in (b .0, b .3, b .2)
 
 radius-requires : tie.Need-radius-requires
-radius-requires c κs = let b = c .before .before .before .before .before .before .before .before .before .before .before .before .pre in (b .2, omega arith, b .0, omega (arith, b .1))
+radius-requires c κs = let b = c .before .before .before .before .before .before .pre in (b .2, omega arith, b .0, omega (arith, b .1))
 
 returns-3 : tie.Need-returns-3
 returns-3 c =
     let after-word-cost = c .before in
-    let start = after-word-cost .before .before .before .before .before .before .before .before .before .before .before .before in
-    record {
-      yes = λ e. record { high = after-word-cost .before .before .before .before .before .before .before .before .before .if1 .left; count = sym (usable-sum (at (start .args .t .entered)) (at (start .args .t .e2)) (after-word-cost .before .before .before .before .before .usable-cells .ensures)) ∙ sym (after-word-cost .before .before .before .before .count .ensures) ∙ after-word-cost .before .before .if2 .left };
+    let after-count = after-word-cost .before .before .before in
+    let start = after-count .before .before .before in
+    λ d1 e1. record {
+      yes = λ e. record {
+        high = after-count .before .before .if1 .left;
+        count = sym (usable-sum (at (start .args .entered)) (at (start .args .e)) (after-count .before .usable-cells .ensures)) ∙ sym (after-count .count .ensures) ∙ after-word-cost .before .before .if2 .left;
+      };
       no = λ e p m x s R H. refuted-suspect (start .args .u) R H (after-word-cost .before .suspect-cells .ensures)
           (omega (arith, after-word-cost .word-cost .ensures .0, c .radius .ensures .0, ltb-false (after-word-cost .word-cost .result) (c .radius .result) e));
     }

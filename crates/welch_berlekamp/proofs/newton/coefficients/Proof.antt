@@ -1,12 +1,19 @@
--- `welch_berlekamp::newton::coefficients` meets its contract: Horner's rule, from the last term. Assumes nothing.
+-- `welch_berlekamp::newton::coefficients` meets its contract: Horner's rule, from the last term, place by place. Assumes nothing.
 use mathlib.Core.Path.{_≡_}
-use Prim.Native.Nat.{suc, _-_, _≤_, _<_}
+use Prim.Native.Nat.{suc, _+_, _*_, _-_, _≤_, _<_}
 use native.Mathlib.Omega.{arith}
 use Rattle.bounded.specs.Bounded.{at}
-use Rattle.welch_berlekamp.proofs.Interpolant.{raised-row, Horner, horner-start, horner-step, horner-end}
+use Rattle.field.proofs.Reciprocal.{product-fits}
+use Rattle.welch_berlekamp.proofs.Interpolant.{set-row, Horner, horner-start, Moved, moved-start, moved-step, horner-step, horner-end}
 use borrow.Author.Needs.{needs}
 use Rattle.welch_berlekamp.proofs.newton.coefficients.Statement.{statement}
 use Rattle.welch_berlekamp.proofs.newton.coefficients.Tie as tie
+
+abbrev Inv-loop2 : tie.InvT-loop2
+Inv-loop2 k p m slopes nodes a₀ i c j₀ a j = (j ≤ k) × Moved p i c a₀ j a
+
+abbrev μ-loop2 : tie.MeasureT-loop2
+μ-loop2 k p m slopes nodes a₀ i c j₀ a j = k - j
 
 abbrev Inv-loop : tie.InvT-loop
 Inv-loop k p m slopes nodes a₀ i₀ a i = (i ≤ suc k) × Horner p k slopes nodes i a
@@ -14,56 +21,118 @@ Inv-loop k p m slopes nodes a₀ i₀ a i = (i ≤ suc k) × Horner p k slopes n
 abbrev μ-loop : tie.MeasureT-loop
 μ-loop k p m slopes nodes a₀ i₀ a i = i
 
-add-i : tie.Need-add-i Inv-loop μ-loop
+-- the multiple of the next place
+product-small : (c : tie.In-loop2 Inv-loop2 μ-loop2 Inv-loop μ-loop) →
+    let at-loop = c .before .before .before in
+    let a = at-loop .before .args in
+    (a .p - at (a .t2) (at-loop .loop .i - 1)) * at (c .before .loop2 .a) (c .before .loop2 .j + 1) ≤ 62750
+product-small c =
+    let at-loop = c .before .before .before in
+    let a = at-loop .before .args in
+    let low : a .p - at (a .t2) (at-loop .loop .i - 1) ≤ a .p = omega arith in
+    product-fits (at-loop .before .pre .0 .most) low (c .before .loop2 .inv .1 .row .small (c .before .loop2 .j + 1))
+
+add-i : tie.Need-add-i Inv-loop2 μ-loop2 Inv-loop μ-loop
 add-i c = search needs
 
-loop-holds : tie.Need-loop-holds Inv-loop μ-loop
+loop-holds : tie.Need-loop-holds Inv-loop2 μ-loop2 Inv-loop μ-loop
 loop-holds c = (omega arith, horner-start (omega (arith, c .pre .0 .least)))
 
-sub-i : tie.Need-sub-i Inv-loop μ-loop
+sub-i : tie.Need-sub-i Inv-loop2 μ-loop2 Inv-loop μ-loop
 sub-i c = search needs
 
-mul-raise : tie.Need-mul-raise Inv-loop μ-loop
-mul-raise c = omega (arith, c .before .loop .inv .0, c .before .before .pre .3)
+mul-a : tie.Need-mul-a Inv-loop2 μ-loop2 Inv-loop μ-loop
+mul-a c = omega (arith, c .before .loop .inv .0, c .before .before .pre .3)
 
-array-read-raise : tie.Need-array-read-raise Inv-loop μ-loop
-array-read-raise c = omega (arith, c .before .loop .inv .0, c .before .before .pre .3)
+array-read-a : tie.Need-array-read-a Inv-loop2 μ-loop2 Inv-loop μ-loop
+array-read-a c = omega (arith, c .before .loop .inv .0, c .before .before .pre .3)
 
-raise-requires : tie.Need-raise-requires Inv-loop μ-loop
-raise-requires c κs = search needs
+mul-a-2 : tie.Need-mul-a-2 Inv-loop2 μ-loop2 Inv-loop μ-loop
+mul-a-2 c = omega (arith, c .before .loop .inv .0, c .before .before .pre .3)
 
-mul-add-multiple : tie.Need-mul-add-multiple Inv-loop μ-loop
-mul-add-multiple c = omega (arith, c .before .before .loop .inv .0, c .before .before .before .pre .3)
+array-write-a : tie.Need-array-write-a Inv-loop2 μ-loop2 Inv-loop μ-loop
+array-write-a c = omega (arith, c .before .loop .inv .0, c .before .before .pre .3)
 
-array-read-add-multiple : tie.Need-array-read-add-multiple Inv-loop μ-loop
-array-read-add-multiple c = omega (arith, c .before .before .loop .inv .0, c .before .before .before .pre .3)
+mul-c : tie.Need-mul-c Inv-loop2 μ-loop2 Inv-loop μ-loop
+mul-c c = omega (arith, c .before .loop .inv .0, c .before .before .pre .3)
 
-sub-add-multiple : tie.Need-sub-add-multiple Inv-loop μ-loop
-sub-add-multiple c = omega (arith, c .before .before .before .pre .2 .small (c .before .before .loop .i - 1))
+array-read-c : tie.Need-array-read-c Inv-loop2 μ-loop2 Inv-loop μ-loop
+array-read-c c = omega (arith, c .before .loop .inv .0, c .before .before .pre .3)
 
-add-multiple-requires : tie.Need-add-multiple-requires Inv-loop μ-loop
-add-multiple-requires c κs =
-    let b = c .before .before .before .pre in
-    let H = c .before .before .loop .inv .1 in
-    (b .0, raised-row (b .1 .small _) (H .row) (c .raise .ensures), H .row, omega arith)
+sub-c : tie.Need-sub-c Inv-loop2 μ-loop2 Inv-loop μ-loop
+sub-c c = omega (arith, c .before .before .pre .2 .small (c .before .loop .i - 1))
 
-loop-less : tie.Need-loop-less Inv-loop μ-loop
+loop2-holds : tie.Need-loop2-holds Inv-loop2 μ-loop2 Inv-loop μ-loop
+loop2-holds c =
+    let l = c .before .loop in
+    let b = c .before .before .pre in
+    let i : l .i - 1 < 16 = omega (arith, l .inv .0, b .3) in
+    (omega (arith, l .inv .0), moved-start (set-row (l .i - 1) _ i (b .1 .small (l .i - 1)) (l .inv .1 .row)))
+
+loop-less : tie.Need-loop-less Inv-loop2 μ-loop2 Inv-loop μ-loop
 loop-less c = omega (arith, c .before .before .loop-test .taken)
 
-loop-again : tie.Need-loop-again Inv-loop μ-loop
+loop-again : tie.Need-loop-again Inv-loop2 μ-loop2 Inv-loop μ-loop
 loop-again c =
-    let start = c .before .before .before .before in
+    let at-loop2 = c .before in
+    let at-loop = at-loop2 .before .before in
+    let l = at-loop .loop in
+    let start = at-loop .before in
     let b = start .pre in
     let a = start .args in
-    let l = c .before .before .before .loop in
-    let e : suc (l .i - 1) ≡ l .i = omega (arith, c .before .before .loop-test .taken) in
+    let e : suc (l .i - 1) ≡ l .i = omega (arith, at-loop2 .before .loop-test .taken) in
+    let d : at-loop2 .loop2 .j ≡ a .k = omega (arith, at-loop2 .loop2 .inv .0, c .loop2-test .left) in
     let H : Horner (a .p) (a .k) (a .t1) (a .t2) (suc (l .i - 1)) (l .a) = rw e (l .inv .1) in
     let pos : 0 < a .p = omega (arith, b .0 .least) in
-    let here : suc (l .i - 1) ≤ suc (a .k) = omega (arith, l .inv .0) in
+    let here : l .i - 1 ≤ a .k = omega (arith, l .inv .0) in
     let small : at (a .t2) (l .i - 1) ≤ a .p = omega (arith, b .2 .small (l .i - 1)) in
-    (omega (arith, l .inv .0), horner-step pos (b .3) here small H (c .before .raise .ensures) (c .add-multiple .ensures))
+    (omega (arith, l .inv .0), horner-step pos (b .3) here small H (rw d at (at-loop2 .loop2 .inv .1)))
 
-returns : tie.Need-returns Inv-loop μ-loop
+mul-reduce : tie.Need-mul-reduce Inv-loop2 μ-loop2 Inv-loop μ-loop
+mul-reduce c = omega (arith, c .loop2-test .taken, c .before .before .before .before .pre .3)
+
+array-read-reduce : tie.Need-array-read-reduce Inv-loop2 μ-loop2 Inv-loop μ-loop
+array-read-reduce c = omega (arith, c .loop2-test .taken, c .before .before .before .before .pre .3)
+
+add-reduce : tie.Need-add-reduce Inv-loop2 μ-loop2 Inv-loop μ-loop
+add-reduce c = omega (arith, c .loop2-test .taken, c .before .before .before .before .pre .3)
+
+mul-reduce-2 : tie.Need-mul-reduce-2 Inv-loop2 μ-loop2 Inv-loop μ-loop
+mul-reduce-2 c = omega (arith, c .loop2-test .taken, c .before .before .before .before .pre .3)
+
+array-read-reduce-2 : tie.Need-array-read-reduce-2 Inv-loop2 μ-loop2 Inv-loop μ-loop
+array-read-reduce-2 c = omega (arith, c .loop2-test .taken, c .before .before .before .before .pre .3)
+
+mul-reduce-3 : tie.Need-mul-reduce-3 Inv-loop2 μ-loop2 Inv-loop μ-loop
+mul-reduce-3 c = omega (arith, product-small c)
+
+add-reduce-2 : tie.Need-add-reduce-2 Inv-loop2 μ-loop2 Inv-loop μ-loop
+add-reduce-2 c =
+    let l = c .before .loop2 in
+    omega (arith, product-small c, l .inv .1 .row .small (l .j), c .before .before .before .before .pre .0 .most)
+
+reduce-requires : tie.Need-reduce-requires Inv-loop2 μ-loop2 Inv-loop μ-loop
+reduce-requires c κs = c .before .before .before .before .pre .0
+
+mul-a-3 : tie.Need-mul-a-3 Inv-loop2 μ-loop2 Inv-loop μ-loop
+mul-a-3 c = omega (arith, c .before .loop2-test .taken, c .before .before .before .before .before .pre .3)
+
+array-write-a-2 : tie.Need-array-write-a-2 Inv-loop2 μ-loop2 Inv-loop μ-loop
+array-write-a-2 c = omega (arith, c .before .loop2-test .taken, c .before .before .before .before .before .pre .3)
+
+add-j : tie.Need-add-j Inv-loop2 μ-loop2 Inv-loop μ-loop
+add-j c = omega (arith, c .before .loop2-test .taken, c .before .before .before .before .before .pre .3)
+
+loop2-less : tie.Need-loop2-less Inv-loop2 μ-loop2 Inv-loop μ-loop
+loop2-less c = omega (arith, c .before .loop2-test .taken)
+
+loop2-again : tie.Need-loop2-again Inv-loop2 μ-loop2 Inv-loop μ-loop
+loop2-again c =
+    let l = c .before .before .loop2 in
+    let h : l .j < 16 = omega (arith, c .before .loop2-test .taken, c .before .before .before .before .before .pre .3) in
+    (omega (arith, c .before .loop2-test .taken), moved-step h (c .reduce .ensures .0) (c .reduce .ensures .1) (l .inv .1))
+
+returns : tie.Need-returns Inv-loop2 μ-loop2 Inv-loop μ-loop
 returns c =
     let l = c .before .loop in
     let e : l .i ≡ 0 = omega (arith, c .loop-test .left) in
@@ -73,18 +142,34 @@ pub coefficients-spec : {M : Type 1} → statement M
 coefficients-spec =
     tie.close
     (tie.spec
+    Inv-loop2
+    μ-loop2
     Inv-loop
     μ-loop
     add-i
     loop-holds
     sub-i
-    mul-raise
-    array-read-raise
-    raise-requires
-    mul-add-multiple
-    array-read-add-multiple
-    sub-add-multiple
-    add-multiple-requires
+    mul-a
+    array-read-a
+    mul-a-2
+    array-write-a
+    mul-c
+    array-read-c
+    sub-c
+    loop2-holds
     loop-less
     loop-again
+    mul-reduce
+    array-read-reduce
+    add-reduce
+    mul-reduce-2
+    array-read-reduce-2
+    mul-reduce-3
+    add-reduce-2
+    reduce-requires
+    mul-a-3
+    array-write-a-2
+    add-j
+    loop2-less
+    loop2-again
     returns)

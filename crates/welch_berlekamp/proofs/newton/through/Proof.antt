@@ -73,36 +73,32 @@ ratio-requires c κs =
     let F = fits (c .before .before) in
     (b .0, b .1, F .whole .rest .small _, fits-positive (b .4 .enough) F (c .before .loop-test .taken) (c .least .ensures), F .holds .shaped .d1 .small _)
 
-add-multiple-requires : tie.Need-add-multiple-requires Inv-loop μ-loop
-add-multiple-requires c κs =
-    let b = c .before .before .before .before .before .pre in
-    let F = fits (c .before .before .before) in
-    (b .0, F .whole .rest, F .holds .shaped .d1, omega (arith, c .ratio .ensures .below))
-
 sub-shift : tie.Need-sub-shift Inv-loop μ-loop
-sub-shift c = omega (arith, c .before .before .before .before .before .before .pre .2 .small (c .before .before .least .result % 16))
+sub-shift c = omega (arith, c .before .before .before .before .before .pre .2 .small (c .before .least .result % 16))
 
 shift-requires : tie.Need-shift-requires Inv-loop μ-loop
-shift-requires c κs = let b = c .before .before .before .before .before .before .pre in (b .2, omega arith, b .0 .most)
+shift-requires c κs = let b = c .before .before .before .before .before .pre in (b .2, omega arith, b .0 .most)
 
-multiply-requires : tie.Need-multiply-requires Inv-loop μ-loop
-multiply-requires c κs =
-    let start = c .before .before .before .before .before .before .before in
+advance-requires : tie.Need-advance-requires Inv-loop μ-loop
+advance-requires c κs =
+    let after-shift = c .before .before in
+    let start = after-shift .before .before .before .before .before .before in
     let b = start .pre in
+    let F = fits (after-shift .before .before .before .before) in
     let z : 0 < start .args .p = omega (arith, b .0 .least) in
-    (b .0, fits (c .before .before .before .before .before) .holds .shaped .d1, result-row _ z (c .shift .ensures))
+    (b .0, F .whole .rest, F .holds .shaped .d1, result-row _ z (after-shift .shift .ensures), omega (arith, after-shift .before .ratio .ensures .below))
 
 mul-slopes : tie.Need-mul-slopes Inv-loop μ-loop
-mul-slopes c = omega (arith, room (c .before .before .before .before .before))
+mul-slopes c = omega (arith, room (c .before .before .before .before .before .before))
 
 array-write-slopes : tie.Need-array-write-slopes Inv-loop μ-loop
-array-write-slopes c = omega (arith, room (c .before .before .before .before .before))
+array-write-slopes c = omega (arith, room (c .before .before .before .before .before .before))
 
 mul-nodes : tie.Need-mul-nodes Inv-loop μ-loop
-mul-nodes c = omega (arith, room (c .before .before .before .before .before))
+mul-nodes c = omega (arith, room (c .before .before .before .before .before .before))
 
 array-write-nodes : tie.Need-array-write-nodes Inv-loop μ-loop
-array-write-nodes c = omega (arith, room (c .before .before .before .before .before))
+array-write-nodes c = omega (arith, room (c .before .before .before .before .before .before))
 
 mul-entered : tie.Need-mul-entered Inv-loop μ-loop
 mul-entered c = search needs
@@ -110,25 +106,27 @@ mul-entered c = search needs
 array-write-entered : tie.Need-array-write-entered Inv-loop μ-loop
 array-write-entered c = search needs
 
-mul-left : tie.Need-mul-left Inv-loop μ-loop
-mul-left c = search needs
-
-array-write-left : tie.Need-array-write-left Inv-loop μ-loop
-array-write-left c = search needs
+without-requires : tie.Need-without-requires Inv-loop μ-loop
+without-requires c κs = search needs
 
 add-i : tie.Need-add-i Inv-loop μ-loop
-add-i c = omega (arith, room (c .before .before .before .before .before))
+add-i c = omega (arith, room (c .before .before .before .before .before .before .before))
 
 loop-less : tie.Need-loop-less Inv-loop μ-loop
-loop-less c = omega (arith, c .before .before .before .before .before .loop-test .taken)
+loop-less c = omega (arith, c .before .before .before .before .before .before .before .loop-test .taken)
 
 loop-again : tie.Need-loop-again Inv-loop μ-loop
 loop-again c =
-    let start = c .before .before .before .before .before .before .before .before in
+    let after-advance = c .before in
+    let after-shift = after-advance .before .before .before in
+    let after-ratio = after-shift .before in
+    let in-loop = after-ratio .before .before in
+    let start = in-loop .before .before .before in
     let b = start .pre in
-    let l = c .before .before .before .before .before .loop-test .taken in
     let pos : 1 < start .args .p = omega (arith, b .0 .least) in
-    (omega arith, λ n y E e. fits-take E (c .before .before .before .before .before .before .loop .inv .1 n y E e) l (c .before .before .before .before .least .ensures) pos (b .2 .small) (c .before .before .before .ratio .ensures) (c .before .before .add-multiple .ensures) (c .before .shift .ensures) (c .multiply .ensures))
+    let F = in-loop .before .loop .inv .1 in
+    let advanced = after-advance .advance .ensures in
+    (omega arith, λ n y E e. fits-take E (F n y E e) (in-loop .loop-test .taken) (after-ratio .before .least .ensures) pos (b .2 .small) (after-ratio .ratio .ensures) (advanced .0) (after-shift .shift .ensures) (advanced .1) (c .without .ensures))
 
 returns : tie.Need-returns Inv-loop μ-loop
 returns c =
@@ -156,18 +154,16 @@ through-spec =
     mul-ratio-2
     array-read-ratio-2
     ratio-requires
-    add-multiple-requires
     sub-shift
     shift-requires
-    multiply-requires
+    advance-requires
     mul-slopes
     array-write-slopes
     mul-nodes
     array-write-nodes
     mul-entered
     array-write-entered
-    mul-left
-    array-write-left
+    without-requires
     add-i
     loop-less
     loop-again
