@@ -1,11 +1,12 @@
 -- The laws of rows: the number at a place, rows of remainders and what they stand for, and the row that a loop has set. Assumes nothing.
-use mathlib.Core.Path.{_≡_, refl}
+use mathlib.Core.Path.{_≡_, refl, _∙_}
 use mathlib.Core.List.{List, [], _∷_}
 use Prim.Native.Nat.{ℕ, zero, suc, _-_, _%_, _≤_, _<_}
 use native.Mathlib.Omega.{arith}
 use native.Mathlib.Nat.{mod-lt}
-use native.Mathlib.Decide.{decLt}
-use lib.ListN.{length}
+use native.Mathlib.Decide.{ℕ-discrete, decLt}
+use lib.ListN.{length, set, length-set}
+use lib.Seq.{getD-set-same, getD-set-other}
 use Rattle.bounded.specs.Bounded.{at}
 use Rattle.bounded.proofs.Tab.{length-tab, tab-at, tab-is}
 use Rattle.field.specs.Congruence.{Cong, Agree}
@@ -27,6 +28,16 @@ pub row-of : {p : ℕ} {l : List ℕ} → 0 < p → length l ≡ 16 → ((j : �
 row-of {p} {l} z e h = record {
   size = e;
   small = λ j. elim (decLt j 16) [ yes k ↦ h j k | no k ↦ rw (beyond l j (omega arith)) z ];
+}
+
+-- a row with one place set
+pub set-row : {p : ℕ} {l : List ℕ} (i v : ℕ) → i < 16 → v < p → Row p l → Row p (set l i v)
+set-row {p} {l} i v b s R = record {
+  size = length-set l i v ∙ R .size;
+  small = λ j. elim (ℕ-discrete j i) [
+    | yes e ↦ rw (e, getD-set-same l i v 0 (omega (arith, R .size))) s
+    | no e ↦ rw (getD-set-other l i j v 0 e) (R .small j)
+  ];
 }
 
 -- remainders are a row

@@ -86,7 +86,7 @@ pub fn scale(c: u16, a: [u16; 16], p: u16, m: u16) -> [u16; 16]
 }
 
 // t modulo p, for t below 2 p.
-pub fn less(t: u16, p: u16) -> u16
+fn less(t: u16, p: u16) -> u16
     requires { ⌜ t < p + p ⌝ }
     ensures { λ r. ⌜ (r ≡ t % p) × (r < p) ⌝ }
 {

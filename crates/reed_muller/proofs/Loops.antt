@@ -8,7 +8,6 @@ use native.Mathlib.Decide.{ℕ-discrete}
 use lib.ListN.{length, getD, set, length-set}
 use lib.Seq.{getD-set-same, getD-set-other}
 use Rattle.bounded.specs.Bounded.{at}
-use Rattle.field.specs.Row.{Row}
 use Rattle.reed_muller.specs.Loops.{Both, Stretch}
 
 module _ {A : Type 0} {n : ℕ} {z : A} {U T : ℕ → A → ℕ → Type 0} where
@@ -45,13 +44,3 @@ module _ {n a : ℕ} {f : ℕ → ℕ} {old : List ℕ} where
     ];
     kept = λ m k. let h : m ≢ a + j = omega arith in rw (getD-set-other l (a + j) m v 0 h) (p .kept m k);
   }
-
--- a row with one place set
-pub set-row : {p : ℕ} {l : List ℕ} (i v : ℕ) → i < 16 → v < p → Row p l → Row p (set l i v)
-set-row {p} {l} i v b s R = record {
-  size = length-set l i v ∙ R .size;
-  small = λ j. elim (ℕ-discrete j i) [
-    | yes e ↦ rw (e, getD-set-same l i v 0 (omega (arith, R .size))) s
-    | no e ↦ rw (getD-set-other l i j v 0 e) (R .small j)
-  ];
-}

@@ -18,7 +18,7 @@ use Rattle.bounded.proofs.Sum.{sum-eq, sum-le, sum-const}
 use Rattle.field.specs.Congruence.{Cong, Agree}
 use Rattle.field.specs.Row.{row, Row}
 use Rattle.field.proofs.Congruence.{same, ~sym, _⨾_, ~add, ~mul, less, nonzero, mod-cong}
-use Rattle.field.proofs.Row.{result-row, result-cong}
+use Rattle.field.proofs.Row.{set-row, result-row, result-cong}
 use Rattle.polynomial.specs.Eval.{eval, Apart}
 use Rattle.polynomial.proofs.Eval.{eval-front, eval-minus, eval-short, eval-cong}
 use Rattle.welch_berlekamp.specs.declared.newton.Newton.{Newton}
@@ -55,16 +55,6 @@ form-same q zero X g h = refl
 form-same q (suc i) X g h = ap₂ _+_
     (form-same q i X (λ l m. g l (omega arith)) λ l m. h l (omega arith))
     (ap₂ _*_ (g i (omega arith)) (base-same q i X λ l m. h l (omega arith)))
-
--- a row with one place set
-pub set-row : {p : ℕ} {l : List ℕ} (i v : ℕ) → i < 16 → v < p → Row p l → Row p (set l i v)
-set-row {p} {l} i v b s R = record {
-  size = length-set l i v ∙ R .size;
-  small = λ j. elim (ℕ-discrete j i) [
-    | yes e ↦ rw (e, getD-set-same l i v 0 (omega (arith, R .size))) s
-    | no e ↦ rw (getD-set-other l i j v 0 e) (R .small j)
-  ];
-}
 
 bit : (b : Bool) → cond b 1 0 ≤ 1
 bit true = omega arith

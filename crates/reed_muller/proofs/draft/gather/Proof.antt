@@ -4,8 +4,8 @@ use Prim.Native.Nat.{ℕ, _-_, _≤_, _<_}
 use native.Mathlib.Omega.{arith}
 use Rattle.field.specs.Row.{Row}
 use Rattle.field.proofs.Loop.{upto-put}
+use Rattle.field.proofs.Row.{set-row}
 use Rattle.polynomial.specs.Powers.{Rows}
-use Rattle.reed_muller.proofs.Loops.{set-row}
 use borrow.Author.Needs.{needs}
 use Rattle.reed_muller.proofs.draft.gather.Statement.{statement}
 use Rattle.reed_muller.proofs.draft.gather.Tie as tie
