@@ -1,6 +1,6 @@
 //! Numbers modulo a prime p of at most 251, and rows of sixteen of them.
 
-use std::array::from_fn;
+use std::sync::LazyLock;
 
 /// Sixteen numbers modulo p. Places that are not used hold any.
 pub type Row = [u16; 16];
@@ -14,6 +14,9 @@ pub trait Reduction: Copy {
 
     /// t modulo p.
     fn reduce(self, t: u16) -> u16;
+
+    /// The sum of multiples of rows, each a number and a row.
+    fn sum_of_multiples<'a>(self, multiples: impl Iterator<Item = (u16, &'a Row)>) -> Row;
 }
 
 /// By division.
@@ -29,6 +32,17 @@ impl Reduction for Plain {
 
     fn reduce(self, t: u16) -> u16 {
         t % self.p
+    }
+
+    /// Divided once, at the end.
+    fn sum_of_multiples<'a>(self, multiples: impl Iterator<Item = (u16, &'a Row)>) -> Row {
+        let mut sums = [0; 16];
+        for (c, row) in multiples {
+            for (sum, &number) in sums.iter_mut().zip(row) {
+                *sum += u32::from(c * number);
+            }
+        }
+        sums.map(|sum| (sum % u32::from(self.p)) as u16)
     }
 }
 
@@ -54,6 +68,11 @@ impl Reduction for Tuned {
             rest
         }
     }
+
+    /// Reduced at each step, so in sixteen bits: that is faster here than the library's longer sums.
+    fn sum_of_multiples<'a>(self, multiples: impl Iterator<Item = (u16, &'a Row)>) -> Row {
+        multiples.fold([0; 16], |sum, (c, row)| joined(&sum, row, |sum, number| self.reduce(sum + c * number)))
+    }
 }
 
 /// The field of p elements.
@@ -73,6 +92,16 @@ impl<R: Reduction> Field<R> {
         self.reduction.reduce(a * b)
     }
 
+    /// a - c b.
+    pub fn subtract_product(&self, a: u16, c: u16, b: u16) -> u16 {
+        self.reduction.reduce(a + (self.p - c) * b)
+    }
+
+    /// - a / b.
+    pub fn negative_quotient(&self, inverses: &Inverses, a: u16, b: u16) -> u16 {
+        self.product(self.p - a, inverses[usize::from(b)])
+    }
+
     /// a - b.
     pub fn difference(&self, a: u16, b: u16) -> u16 {
         if a >= b {
@@ -82,14 +111,30 @@ impl<R: Reduction> Field<R> {
         }
     }
 
-    /// a + c b. A c of p - v subtracts v b.
-    pub fn add_multiple(&self, a: &Row, c: u16, b: &Row) -> Row {
+    /// The inverses. That of p - a is p less that of a.
+    pub fn inverses(&self) -> Inverses {
+        let p = self.p;
+        let mut table = [0; 251];
+        table[1] = 1;
+        table[usize::from(p - 1)] = p - 1;
+        for a in (2..).take_while(|a| 2 * a < p) {
+            // a (p / a) + p % a = p, so the inverse of a is that of p % a times -(p / a)
+            let inverse = self.product(p - p / a, table[usize::from(p % a)]);
+            table[usize::from(a)] = inverse;
+            table[usize::from(p - a)] = p - inverse;
+        }
+        table
+    }
+
+    /// a - c b.
+    pub fn subtract_multiple(&self, a: &Row, c: u16, b: &Row) -> Row {
+        let c = self.p - c;
         joined(a, b, |a, b| self.reduction.reduce(a + c * b))
     }
 
     /// a b, place by place.
     pub fn multiply(&self, a: &Row, b: &Row) -> Row {
-        joined(a, b, |a, b| self.reduction.reduce(a * b))
+        joined(a, b, |a, b| self.product(a, b))
     }
 
     /// c (a - b).
@@ -101,26 +146,31 @@ impl<R: Reduction> Field<R> {
     pub fn subtract(&self, a: &Row, b: &Row) -> Row {
         joined(a, b, |a, b| self.difference(a, b))
     }
+
+    /// a + b.
+    pub fn add(&self, a: &Row, b: &Row) -> Row {
+        joined(a, b, |a, b| if a + b >= self.p { a + b - self.p } else { a + b })
+    }
+
+    /// The step of an interpolation by values: a + c b in the place of a, and b w in that of b.
+    pub fn advance(&self, a: &mut Row, c: u16, b: &mut Row, w: &Row) {
+        for ((a, b), &w) in a.iter_mut().zip(b).zip(w) {
+            *a = self.reduction.reduce(*a + c * *b);
+            *b = self.product(*b, w);
+        }
+    }
+
+    /// The sum of multiples of rows, each a number and a row.
+    pub fn sum_of_multiples<'a>(&self, multiples: impl Iterator<Item = (u16, &'a Row)>) -> Row {
+        self.reduction.sum_of_multiples(multiples)
+    }
 }
 
 /// The inverses modulo p by the number; 0 has none.
 pub type Inverses = [u16; 251];
 
 /// Those modulo 251, the usual prime.
-pub static INVERSES_251: Inverses = inverses(251);
-
-/// The inverses modulo p.
-pub const fn inverses(p: u16) -> Inverses {
-    let mut table = [0; 251];
-    table[1] = 1;
-    let mut a = 2;
-    while a < p {
-        // a (p / a) + p % a = p, so the inverse of a is that of p % a times -(p / a)
-        table[a as usize] = (p - p / a) * table[(p % a) as usize] % p;
-        a += 1;
-    }
-    table
-}
+pub static INVERSES_251: LazyLock<Inverses> = LazyLock::new(|| Field::<Plain>::new(251).inverses());
 
 /// A function of two rows, place by place. (`array::from_fn` would be shorter, but is not always vectorised.)
 #[inline]
@@ -130,9 +180,4 @@ pub fn joined(a: &Row, b: &Row, f: impl Fn(u16, u16) -> u16) -> Row {
         *a = f(*a, b);
     }
     row
-}
-
-/// Rows and columns exchanged.
-pub fn transposed(square: &Square) -> Square {
-    from_fn(|i| from_fn(|j| square[j][i]))
 }

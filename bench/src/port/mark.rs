@@ -1,48 +1,29 @@
-//! The mark decoder: a guess, which is right where the first cells are, and else the degree steps. Either is measured: at
-//! most one record is under the radius, so what is under it is the answer.
+//! The mark reader: the record under the radius, and what is counted of it.
 
 use super::checks::UNREAD;
-use super::field::{inverses, Reduction, Square, INVERSES_251};
-use super::guess::guess;
+use super::field::{Reduction, Square, INVERSES_251};
 use super::plan::Plan;
-use super::polynomial::Powers;
-use super::steps;
+use super::polynomial::{put_record, Powers};
+use super::steps::Steps;
 use super::tally::Tally;
 
-/// The record under the radius, by its columns.
-pub struct Found {
-    pub columns: Square,
-    pub tally: Tally,
-}
-
-/// The record under the radius. The buffers are a photograph of the plan.
-pub fn decode<R: Reduction>(plan: &Plan<R>, symbols: &[u8], doubts: &[u8]) -> Option<Found> {
-    let radius = plan.radius();
-    if doubts.iter().map(|&doubt| u32::from(doubt)).sum::<u32>() >= radius {
+/// Puts in the record under the radius, and returns its tally. The buffers are a photograph of the plan.
+pub fn decode<R: Reduction>(plan: &Plan<R>, symbols: &[u8], doubts: &[u8], record: &mut [u8]) -> Option<Tally> {
+    if doubts.iter().map(|&doubt| u32::from(doubt)).sum::<u32>() >= plan.radius() {
         return None;
     }
-    let mut left = load(symbols, plan.n, |symbol| if symbol == UNREAD { 0 } else { symbol });
-    let made;
     let inverses = match plan.field.p {
-        251 => &INVERSES_251,
-        p => {
-            made = inverses(p);
-            &made
-        }
+        251 => &*INVERSES_251,
+        _ => &plan.field.inverses(),
     };
     let powers = Powers::new(plan);
-    let photo = Photo { n: plan.n, radius, symbols, doubts };
-
-    let columns = guess(plan, inverses, &left);
-    let in_y = powers.put_in_x(&columns);
-    if let Some(tally) = photo.measure(|r, symbols, doubts| Tally::of_values(symbols, doubts, &powers.row(&in_y, r))) {
-        return Some(Found { columns, tally });
-    }
-
     let doubts = load(doubts, plan.n, |doubt| doubt);
-    let columns = steps::solve(plan, &powers, inverses, &mut left, &doubts)?;
-    let tally = photo.measure(|r, symbols, doubts| Tally::of_left(symbols, doubts, &left[r]))?;
-    Some(Found { columns, tally })
+    let mut left = load(symbols, plan.n, |symbol| if symbol == UNREAD { 0 } else { symbol });
+    let mut columns = [[0; 16]; 16];
+    let mut steps = Steps { plan, inverses, powers: &powers, doubts: &doubts, left: &mut left };
+    let cost = steps.solve(&mut columns)?;
+    put_record(&columns, plan.degree, record);
+    Some(Tally { cost, changed: changed(symbols, plan.n, &left) })
 }
 
 /// The bytes of a mark as rows, 0 beyond it.
@@ -56,24 +37,8 @@ fn load(bytes: &[u8], n: usize, number: impl Fn(u8) -> u8) -> Square {
     square
 }
 
-struct Photo<'a> {
-    n: usize,
-    radius: u32,
-    symbols: &'a [u8],
-    doubts: &'a [u8],
-}
-
-impl Photo<'_> {
-    /// The tally of all rows, or none once the cost has reached the radius.
-    fn measure(&self, row: impl Fn(usize, &[u8], &[u8]) -> Tally) -> Option<Tally> {
-        let rows = self.symbols.chunks_exact(self.n).zip(self.doubts.chunks_exact(self.n));
-        let mut tally = Tally::default();
-        for (r, (symbols, doubts)) in rows.enumerate() {
-            tally += row(r, symbols, doubts);
-            if tally.cost >= self.radius {
-                return None;
-            }
-        }
-        Some(tally)
-    }
+/// How many cells are unread, or have something left of their symbols.
+fn changed(symbols: &[u8], n: usize, left: &Square) -> u32 {
+    let cells = symbols.chunks_exact(n).zip(left).flat_map(|(symbols, left)| symbols.iter().zip(left));
+    cells.map(|(&symbol, &left)| u32::from((symbol == UNREAD) | (left != 0))).sum()
 }

@@ -1,8 +1,9 @@
 //! The library's method once more, in plain Rust and unproved: what its times are held against.
 //!
 //! The three calls take the same bytes as those of `traymark`, make the same checks and give the same answers. Below
-//! them the layers are those of the library: numbers modulo p (`field`), polynomials (`polynomial`, `newton`), the
-//! strip decoder (`interpolation`, `strip`), the mark decoder (`guess`, `steps`, `mark`). Nothing is allocated.
+//! them the layers are those of the library: numbers modulo p (`field`), polynomials (`polynomial`), the strip decoder
+//! (`order`, `newton`, `interpolation`, `strip`), the mark decoder (`guess`, `steps`), the mark reader (`mark`). Nothing
+//! is allocated.
 //!
 //! All is generic over how a number is taken modulo p: by division (`Plain`) or with a reciprocal (`Tuned`).
 
@@ -12,6 +13,7 @@ mod guess;
 mod interpolation;
 mod mark;
 mod newton;
+mod order;
 mod plan;
 mod polynomial;
 mod steps;
@@ -54,7 +56,7 @@ pub fn measure_mark<R: Reduction>(
     let in_y = powers.put_in_x(&polynomial::columns(record, plan.degree));
     let mut tally = Tally::default();
     for (r, (symbols, doubts)) in symbols.chunks_exact(plan.n).zip(doubts.chunks_exact(plan.n)).enumerate() {
-        tally += Tally::of_values(symbols, doubts, &powers.row(&in_y, r));
+        tally += Tally::new(symbols, doubts, &powers.row(&in_y, r));
     }
     Ok(tally.reading(plan.radius()))
 }
@@ -68,7 +70,6 @@ pub fn read_mark<R: Reduction>(
 ) -> Result<Reading, Refusal> {
     let plan: Plan<R> = Plan::parse(plan)?;
     checks::photograph(&plan, symbols, doubts, record.len())?;
-    let found = mark::decode(&plan, symbols, doubts).ok_or(Refusal::NoRecord)?;
-    polynomial::put_record(&found.columns, plan.degree, record);
-    Ok(found.tally.reading(plan.radius()))
+    let tally = mark::decode(&plan, symbols, doubts, record).ok_or(Refusal::NoRecord)?;
+    Ok(tally.reading(plan.radius()))
 }

@@ -1,53 +1,43 @@
 //! The polynomial through some cells of a strip, by Newton's form.
 
-use super::field::{Field, Inverses, Reduction, Row};
+use super::field::{Reduction, Row};
+use super::strip::Strip;
 
-/// A polynomial by its values at the points of a strip and by its coefficients.
-#[derive(Clone, Copy)]
-pub struct Polynomial {
-    pub values: Row,
-    pub coefficients: Row,
+/// A sum of multiples, the slopes, of the products of X - z over the nodes z before.
+pub struct Newton {
+    /// its values less the symbols
+    pub rest: Row,
+    /// the values of the product over all nodes
+    pub product: Row,
+    slopes: Row,
+    nodes: Row,
 }
 
-const ZERO: Polynomial = Polynomial { values: [0; 16], coefficients: [0; 16] };
-const ONE: Polynomial = Polynomial { values: [1; 16], coefficients: [1, 0, 0, 0, 0, 0, 0, 0, 0, 0, 0, 0, 0, 0, 0, 0] };
-
-impl Polynomial {
-    /// The polynomial through these cells with these symbols: a sum of multiples of the products of X - x over the cells
-    /// taken before.
-    pub fn through<R: Reduction>(
-        field: &Field<R>,
-        inverses: &Inverses,
-        points: &Row,
-        symbols: &Row,
-        cells: impl Iterator<Item = usize>,
-    ) -> Polynomial {
-        let mut sum = ZERO;
-        let mut product = ONE;
-        for cell in cells {
-            let missing = field.difference(symbols[cell], sum.values[cell]);
-            let factor = field.product(missing, inverses[usize::from(product.values[cell])]);
-            sum = sum.plus(field, factor, &product);
-            product = product.with_root(field, points, points[cell]);
+impl Newton {
+    /// The polynomial of the strip's degree through the first of these cells.
+    pub fn through<R: Reduction>(strip: &Strip<R>, symbols: &Row, cells: impl Iterator<Item = usize>) -> Newton {
+        let Strip { field, inverses, points, degree, .. } = *strip;
+        let mut rest = field.subtract(&[0; 16], symbols);
+        let mut product = [1; 16];
+        let mut slopes = [0; 16];
+        let mut nodes = [0; 16];
+        for ((slope, node), cell) in slopes.iter_mut().zip(&mut nodes).zip(cells.take(degree + 1)) {
+            *slope = field.negative_quotient(inverses, rest[cell], product[cell]);
+            *node = points[cell];
+            field.advance(&mut rest, *slope, &mut product, &field.subtract(points, &[*node; 16]));
         }
-        sum
+        Newton { rest, product, slopes, nodes }
     }
 
-    /// This and c times another.
-    fn plus<R: Reduction>(&self, field: &Field<R>, c: u16, other: &Polynomial) -> Polynomial {
-        Polynomial {
-            values: field.add_multiple(&self.values, c, &other.values),
-            coefficients: field.add_multiple(&self.coefficients, c, &other.coefficients),
+    /// Its coefficients, by Horner's rule: the last slope times X less the last node, plus the slope before, and so on.
+    pub fn coefficients<R: Reduction>(&self, strip: &Strip<R>) -> Row {
+        let mut coefficients = [0; 16];
+        for i in (0..=strip.degree).rev() {
+            coefficients[i] = self.slopes[i];
+            for j in i..strip.degree {
+                coefficients[j] = strip.field.subtract_product(coefficients[j], self.nodes[i], coefficients[j + 1]);
+            }
         }
-    }
-
-    /// This times X - x.
-    fn with_root<R: Reduction>(&self, field: &Field<R>, points: &Row, x: u16) -> Polynomial {
-        let mut raised = [0; 16];
-        raised[1..].copy_from_slice(&self.coefficients[..15]);
-        Polynomial {
-            values: field.multiply(&self.values, &field.subtract(points, &[x; 16])),
-            coefficients: field.add_multiple(&raised, field.p - x, &self.coefficients),
-        }
+        coefficients
     }
 }

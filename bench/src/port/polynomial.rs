@@ -2,7 +2,6 @@
 
 use super::field::{Field, Reduction, Row, Square};
 use super::plan::Plan;
-use std::array::from_fn;
 
 /// The columns of a record, which goes by total degree and then by rising power of Y.
 pub fn columns(record: &[u8], degree: usize) -> Square {
@@ -51,23 +50,26 @@ impl<R: Reduction> Powers<R> {
     }
 
     /// The values at the points of the polynomial in one variable with these coefficients.
-    fn values(&self, coefficients: &[u16]) -> Row {
-        let terms = coefficients.iter().zip(&self.powers);
-        terms.fold([0; 16], |sum, (&coefficient, power)| self.field.add_multiple(&sum, coefficient, power))
+    fn values(&self, coefficients: impl Iterator<Item = u16>) -> Row {
+        self.field.sum_of_multiples(coefficients.zip(&self.powers))
+    }
+
+    /// The values in the rows of the mark of the coefficient of Y^t, of which the powers of X up to d - t count.
+    pub fn column(&self, coefficients: &Row, t: usize) -> Row {
+        self.values(coefficients[..=self.degree - t].iter().copied())
     }
 
     /// X is put in, for all rows of the mark at once: row t has the coefficient of Y^t in each row of the mark.
     pub fn put_in_x(&self, columns: &Square) -> Square {
         let mut in_y = [[0; 16]; 16];
-        for t in 0..=self.degree {
-            in_y[t] = self.values(&columns[t][..=self.degree - t]);
+        for (t, column) in columns[..=self.degree].iter().enumerate() {
+            in_y[t] = self.column(column, t);
         }
         in_y
     }
 
     /// Then Y is put in, in row r of the mark: the row's values.
     pub fn row(&self, in_y: &Square, r: usize) -> Row {
-        let coefficients: Row = from_fn(|t| in_y[t][r]);
-        self.values(&coefficients[..=self.degree])
+        self.values(in_y[..=self.degree].iter().map(|coefficients| coefficients[r]))
     }
 }

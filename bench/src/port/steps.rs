@@ -1,51 +1,108 @@
-//! The degree steps: one coefficient of Y at a time, from Y^d down to Y^0, is read from the rows and subtracted.
+//! The degree steps: one coefficient of Y at a time, from Y^d down to Y^0, is read from the rows and subtracted. A likely
+//! draft of all columns, or of those that remain, is tried before: at most one record is under the radius, so what is
+//! under it is the answer.
 
 use super::field::{Inverses, Reduction, Row, Square};
+use super::guess;
 use super::plan::{Plan, FULL};
 use super::polynomial::Powers;
 use super::strip::{Answer, Strip};
+use super::tally::cost;
 use std::array::from_fn;
 
-/// The columns that the steps give, with what they leave of the symbols in `left`. Where a step has no answer no record
-/// is under the radius.
-pub fn solve<R: Reduction>(
-    plan: &Plan<R>,
-    powers: &Powers<R>,
-    inverses: &Inverses,
-    left: &mut Square,
-    doubts: &Square,
-) -> Option<Square> {
-    let mut columns = [[0; 16]; 16];
-    let mut answers: [Option<Answer>; 16] = [const { None }; 16];
-    for t in (0..=plan.degree).rev() {
-        let row = strip(plan, inverses, t, FULL);
-        for (r, answer) in answers.iter_mut().enumerate().take(plan.n) {
-            if answer.is_none() {
-                *answer = row.decode(&left[r], &doubts[r]);
+/// A mark that is read.
+pub struct Steps<'a, R> {
+    pub plan: &'a Plan<R>,
+    pub inverses: &'a Inverses,
+    pub powers: &'a Powers<R>,
+    pub doubts: &'a Square,
+    /// what is left of the symbols once columns are subtracted
+    pub left: &'a mut Square,
+}
+
+impl<R: Reduction> Steps<'_, R> {
+    /// Puts in the columns of the record under the radius, which are subtracted, and returns its cost.
+    pub fn solve(&mut self, columns: &mut Square) -> Option<u32> {
+        let columns = &mut columns[..=self.plan.degree];
+        if guess::from_cells(self.plan, self.inverses, self.left, columns) {
+            if let Some(cost) = self.try_draft(columns) {
+                return Some(cost);
+            }
+        }
+        self.solve_by_degrees(columns)
+    }
+
+    /// The same by the degree steps. Where one has no answer no record is under the radius.
+    fn solve_by_degrees(&mut self, columns: &mut [Row]) -> Option<u32> {
+        let mut lines = [const { None }; 16];
+        let mut is_drafted = false;
+        for t in (0..columns.len()).rev() {
+            columns[t] = self.step(t, &mut lines)?;
+            let columns = &mut columns[..t];
+            if t > 0 && !is_drafted && guess::from_lines(self.plan, self.inverses, &lines, columns) {
+                is_drafted = true;
+                if let Some(cost) = self.try_draft(columns) {
+                    return Some(cost);
+                }
+            }
+        }
+        self.measure()
+    }
+
+    /// Finds and subtracts the coefficient of Y^t: the rows' leading coefficients are a strip, whose doubts are the rows'
+    /// costs. The answers of the rows that it fits are kept.
+    fn step(&mut self, t: usize, lines: &mut [Option<Answer>; 16]) -> Option<Row> {
+        let row = self.strip(t, FULL);
+        for (r, line) in lines.iter_mut().enumerate().take(self.plan.n) {
+            if line.is_none() {
+                *line = row.decode(&self.left[r], &self.doubts[r]);
             }
         }
         let unread = row.radius() as u16;
-        let leading: Row = from_fn(|r| answers[r].as_ref().map_or(0, |answer| answer.polynomial.coefficients[t]));
-        let costs: Row = from_fn(|r| answers[r].as_ref().map_or(unread, |answer| answer.cost as u16));
-        let column = strip(plan, inverses, plan.degree - t, unread).decode(&leading, &costs)?.polynomial;
-        subtract(plan, left, &column.values, powers.power(t));
-        for (r, answer) in answers.iter_mut().enumerate() {
+        let leading: Row = from_fn(|r| lines[r].as_ref().map_or(0, |answer| answer.coefficients[t]));
+        let costs: Row = from_fn(|r| lines[r].as_ref().map_or(unread, |answer| answer.cost as u16));
+        let column = self.strip(self.plan.degree - t, unread).decode(&leading, &costs)?;
+        self.subtract(t, &column.values);
+        for (r, line) in lines.iter_mut().enumerate() {
             if leading[r] != column.values[r] {
-                *answer = None;
+                *line = None;
             }
         }
-        columns[t] = column.coefficients;
+        Some(column.coefficients)
     }
-    Some(columns)
-}
 
-fn strip<'a, R>(plan: &'a Plan<R>, inverses: &'a Inverses, degree: usize, full: u16) -> Strip<'a, R> {
-    Strip { field: &plan.field, inverses, points: &plan.points, n: plan.n, degree, full }
-}
+    fn strip(&self, degree: usize, full: u16) -> Strip<'_, R> {
+        let Plan { field, n, points, .. } = self.plan;
+        Strip { field, inverses: self.inverses, points, n: *n, degree, full }
+    }
 
-/// Subtracts the column with these values, times the power of Y.
-fn subtract<R: Reduction>(plan: &Plan<R>, left: &mut Square, values: &Row, power: &Row) {
-    for (row, value) in left.iter_mut().zip(values).take(plan.n) {
-        *row = plan.field.add_multiple(row, plan.field.p - value, power);
+    /// Subtracts a draft of the lowest columns, if what it leaves is under the radius, and returns the cost.
+    fn try_draft(&mut self, columns: &[Row]) -> Option<u32> {
+        let before = *self.left;
+        for (t, column) in columns.iter().enumerate() {
+            self.subtract(t, &self.powers.column(column, t));
+        }
+        let cost = self.measure();
+        if cost.is_none() {
+            *self.left = before;
+        }
+        cost
+    }
+
+    /// Subtracts the column with these values in the rows, times Y^t. The test keeps the compiler from working across rows.
+    fn subtract(&mut self, t: usize, values: &Row) {
+        for (row, &value) in self.left.iter_mut().zip(values).take(self.plan.n) {
+            if value != 0 {
+                *row = self.plan.field.subtract_multiple(row, value, self.powers.power(t));
+            }
+        }
+    }
+
+    /// The cost of what is left, if it is under the radius.
+    fn measure(&self) -> Option<u32> {
+        let n = self.plan.n;
+        let rows = self.doubts.iter().zip(self.left.iter()).take(n);
+        let cost = rows.map(|(doubts, left)| cost(FULL, &doubts[..n], left)).sum();
+        (cost < self.plan.radius()).then_some(cost)
     }
 }

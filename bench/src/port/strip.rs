@@ -2,8 +2,9 @@
 
 use super::field::{joined, Field, Inverses, Reduction, Row};
 use super::interpolation::Pairs;
-use super::newton::Polynomial;
-use std::array::from_fn;
+use super::newton::Newton;
+use super::order::Order;
+use super::tally::cost;
 
 /// A strip's code for any full doubt: polynomials up to a degree at the first n points.
 pub struct Strip<'a, R> {
@@ -15,25 +16,28 @@ pub struct Strip<'a, R> {
     pub full: u16,
 }
 
-/// The polynomial under the radius and its cost.
+/// The polynomial under the radius, by its coefficients and its values, and its cost.
 pub struct Answer {
-    pub polynomial: Polynomial,
+    pub coefficients: Row,
+    pub values: Row,
     pub cost: u32,
 }
 
 impl<R: Reduction> Strip<'_, R> {
-    /// The polynomial that costs under the radius.
+    /// The polynomial that costs under the radius. The first cells have one through them, which is measured first.
     pub fn decode(&self, symbols: &Row, doubts: &Row) -> Option<Answer> {
-        if total(&doubts[..self.n]) >= self.radius() {
+        if self.cost(doubts, &[0; 16]) >= self.radius() {
             return None;
         }
-        let mut cells: [usize; 16] = from_fn(|cell| cell);
-        cells[..self.n].sort_unstable_by_key(|&cell| doubts[cell]);
-        let read = cells[..self.n].iter().take_while(|&&cell| doubts[cell] < self.full).count();
-        let mut pairs = Pairs::new(self.field, symbols);
-        (0..read).find_map(|place| {
-            pairs.enter(self.field, self.inverses, self.points, self.degree, cells[place]);
-            self.attempt(&pairs, &cells[..=place], symbols, doubts)
+        let all = Order::new(&doubts[..self.n]);
+        let mut cells = all.clone();
+        let newton = Newton::through(self, symbols, &mut cells);
+        self.measured(&newton, symbols, doubts).or_else(|| {
+            let mut pairs = Pairs::new(newton, self.degree);
+            cells.take_while(|&cell| doubts[cell] < self.full).find_map(|cell| {
+                pairs.enter(self, cell);
+                self.attempt(&pairs, all.up_to(cell, &pairs.second.e), symbols, doubts)
+            })
         })
     }
 
@@ -42,32 +46,32 @@ impl<R: Reduction> Strip<'_, R> {
         u32::from(self.full) * (self.n - self.degree) as u32
     }
 
-    /// The candidate of the cells that have entered. A polynomial that is wrong at few of them makes E2 zero at just
-    /// these, b in number; then D2 tells where else it is wrong, so that it is made only if it is under the radius.
-    fn attempt(&self, pairs: &Pairs, entered: &[usize], symbols: &Row, doubts: &Row) -> Option<Answer> {
-        let second = &pairs.second;
-        let right = entered.iter().copied().filter(|&cell| second.e[cell] != 0);
-        if pairs.a <= pairs.b + self.degree || right.clone().count() != pairs.a {
+    /// The candidate of the cells that have entered, of which those are given where E2 is not 0. A polynomial that is
+    /// wrong at few of them makes E2 zero at just these, b in number; then D2 tells where else it is wrong, so that it is
+    /// made only if it is under the radius.
+    fn attempt(&self, pairs: &Pairs, right: Order, symbols: &Row, doubts: &Row) -> Option<Answer> {
+        if pairs.a <= pairs.b + self.degree || right.len() != pairs.a {
             return None;
         }
-        let wrong = joined(&second.d, &second.e, |d, e| u16::from((d != 0) | (e == 0)));
+        let wrong = joined(&pairs.second.d, &pairs.second.e, |d, e| if e == 0 { 1 } else { d });
         if self.cost(doubts, &wrong) >= self.radius() {
             return None;
         }
-        let cells = right.take(self.degree + 1);
-        let polynomial = Polynomial::through(self.field, self.inverses, self.points, symbols, cells);
-        let wrong = joined(symbols, &polynomial.values, |symbol, value| u16::from(symbol != value));
-        let cost = self.cost(doubts, &wrong);
-        (cost < self.radius()).then_some(Answer { polynomial, cost })
+        self.measured(&Newton::through(self, symbols, right), symbols, doubts)
     }
 
-    /// What a word costs that is wrong at these cells.
+    /// The polynomial, if it costs under the radius.
+    fn measured(&self, newton: &Newton, symbols: &Row, doubts: &Row) -> Option<Answer> {
+        let cost = self.cost(doubts, &newton.rest);
+        (cost < self.radius()).then(|| Answer {
+            coefficients: newton.coefficients(self),
+            values: self.field.add(&newton.rest, symbols),
+            cost,
+        })
+    }
+
+    /// What a word costs that is wrong where the row is not 0.
     fn cost(&self, doubts: &Row, wrong: &Row) -> u32 {
-        let costs = joined(doubts, wrong, |doubt, wrong| if wrong == 0 { doubt } else { 2 * self.full - doubt });
-        total(&costs[..self.n])
+        cost(self.full, &doubts[..self.n], wrong)
     }
-}
-
-fn total(numbers: &[u16]) -> u32 {
-    numbers.iter().map(|&number| u32::from(number)).sum()
 }

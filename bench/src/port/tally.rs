@@ -1,10 +1,23 @@
 //! What is counted of a record against a photograph.
 
-use super::checks::UNREAD;
 use super::field::Row;
 use super::plan::FULL;
 use std::ops::AddAssign;
 use traymark::Reading;
+
+/// What cells cost that are wrong where the row is not 0.
+pub fn cost(full: u16, doubts: &[u16], wrong: &Row) -> u32 {
+    doubts.iter().zip(wrong).map(|(&doubt, &wrong)| u32::from(cell_cost(full, doubt, wrong == 0))).sum()
+}
+
+/// What one cell costs.
+fn cell_cost(full: u16, doubt: u16, right: bool) -> u16 {
+    if right {
+        doubt
+    } else {
+        2 * full - doubt
+    }
+}
 
 /// The cost and the changed count of some cells.
 #[derive(Clone, Copy, Default)]
@@ -22,22 +35,11 @@ impl AddAssign for Tally {
 
 impl Tally {
     /// Of a row's cells against these values.
-    pub fn of_values(symbols: &[u8], doubts: &[u8], values: &Row) -> Tally {
-        let is_right = |(&symbol, &value): (&u8, &u16)| u16::from(symbol) == value;
-        Tally::of(symbols.iter().zip(values).map(is_right), doubts)
-    }
-
-    /// Of a row's cells from what is left of their residues once the record's values are subtracted.
-    pub fn of_left(symbols: &[u8], doubts: &[u8], left: &Row) -> Tally {
-        let is_right = |(&symbol, &left): (&u8, &u16)| symbol != UNREAD && left == 0;
-        Tally::of(symbols.iter().zip(left).map(is_right), doubts)
-    }
-
-    fn of(right: impl Iterator<Item = bool>, doubts: &[u8]) -> Tally {
-        let full = u32::from(FULL);
-        right.zip(doubts).fold(Tally::default(), |tally, (right, &doubt)| {
-            let doubt = u32::from(doubt);
-            let cost = if right { doubt } else { 2 * full - doubt };
+    pub fn new(symbols: &[u8], doubts: &[u8], values: &Row) -> Tally {
+        let cells = symbols.iter().zip(doubts).zip(values);
+        cells.fold(Tally::default(), |tally, ((&symbol, &doubt), &value)| {
+            let right = u16::from(symbol) == value;
+            let cost = u32::from(cell_cost(FULL, doubt.into(), right));
             Tally { cost: tally.cost + cost, changed: tally.changed + u32::from(!right) }
         })
     }
