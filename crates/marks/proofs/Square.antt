@@ -1,5 +1,5 @@
 -- Squares of loaded cells, row by row: their rows, from the bytes lent, and the cells that are changed. Assumes nothing.
-use mathlib.Core.Path.{_≡_, refl, sym, ap, ap₂, _∙_}
+use mathlib.Core.Path.{_≡_, refl, sym, ap, _∙_}
 use mathlib.Core.Logic.{_⊎_, inl, inr}
 use mathlib.Core.Bool.{Bool, true, false, cond}
 use mathlib.Core.List.{List, []}
@@ -30,11 +30,15 @@ product-small {n} {r} h l = let k : r < 16 = omega arith in omega (arith, mul-le
 pub cell-at : (n : ℕ) (s : List ℕ) (r c : ℕ) → c < n → squareCell n s r c ≡ at s (r * n + c)
 cell-at n s r c l = rw (lt-ltb c n l)
 
+-- the bytes of row r
+abbrev pub part : (n r : ℕ) → List ℕ → List ℕ
+part n r s = take (r * n + n - r * n) (drop (r * n) s)
+
 -- row r of the square s of n columns, from its own part of the bytes
-pub part-line : (n r : ℕ) (s : List ℕ) {l : List ℕ} → l ≡ row (at (take (r * n + n - r * n) (drop (r * n) s))) → r * n + n ≤ length s → l ≡ row (squareCell n s r)
+pub part-line : (n r : ℕ) (s : List ℕ) {l : List ℕ} → l ≡ row (at (part n r s)) → r * n + n ≤ length s → l ≡ row (squareCell n s r)
 part-line n r s e h = e ∙ tab-eq 16 λ c _. elim (decLt c n) [
   | yes m ↦ part-at (r * n) n s c m ∙ sym (cell-at n s r c m)
-  | no m ↦ beyond (take (r * n + n - r * n) (drop (r * n) s)) c (omega (arith, part-length (r * n) n s h)) ∙ sym (rw (le-ltb c n (omega arith)))
+  | no m ↦ beyond (part n r s) c (omega (arith, part-length (r * n) n s h)) ∙ sym (rw (le-ltb c n (omega arith)))
 ]
 
 -- below the square there is nothing
@@ -72,15 +76,12 @@ no-residues n r s h e = tab-is 16 (λ c. residue (squareCell n s r c)) (replicat
 pub residues-line : (f : ℕ → ℕ) {seen next : List ℕ} → seen ≡ row f → next ≡ row (λ j. residue (at seen j)) → next ≡ row (λ c. residue (f c))
 residues-line f e h = h ∙ tab-eq 16 λ i l. ap residue (row-is f e i l)
 
--- a row more of the changed cells, counted against a row of zeros
-pub changed-more : (n r : ℕ) (s : List ℕ) (left : List (List ℕ)) {seen flags : List ℕ} → n ≤ 16 → seen ≡ row (squareCell n s r) →
-    flags ≡ row (λ j. flag (at seen j) (cells left r j)) →
-    changedCells (r + 1) n s left ≡ changedCells r n s left + changed n (at flags) (at (replicate 16 0))
-changed-more n r s left {seen} {flags} h e f = sum-more r _ ∙ ap (λ k. changedCells r n s left + k)
-    (sum-eq n λ c l. sym (ap₂ (λ a b. cond (eqb a b) 0 1) (flag-at c (omega arith)) (getD-replicate {A = ℕ} 16 c 0 0 (omega arith))))
-  where
-    flag-at : (c : ℕ) → c < 16 → at flags c ≡ flag (squareCell n s r c) (cells left r c)
-    flag-at c l = row-is (λ j. flag (at seen j) (cells left r j)) f c l ∙ ap (λ v. flag v (cells left r c)) (row-is (squareCell n s r) e c l)
+-- a row more of the changed cells, from its own part of the bytes
+pub changed-more : (n r : ℕ) (s : List ℕ) (left : List (List ℕ)) {k : ℕ} → r * n + n ≤ length s →
+    k ≡ changed (length (part n r s)) (λ c. flag (at (part n r s) c) (cells left r c)) (λ _. 0) → changedCells (r + 1) n s left ≡ changedCells r n s left + k
+changed-more n r s left h e = sum-more r _ ∙ ap (λ k. changedCells r n s left + k)
+    (sum-eq n (λ c m. ap (λ v. cond (eqb (flag v (cells left r c)) 0) 0 1) (cell-at n s r c m ∙ sym (part-at (r * n) n s c m)))
+    ∙ sym (e ∙ ap (λ m. changed m (λ c. flag (at (part n r s) c) (cells left r c)) (λ _. 0)) (part-length (r * n) n s h)))
 
 -- a cell is changed where its flag is set: its value v and what is left of it make its residue
 pub flag-differ : {p s l v : ℕ} → p ≤ 251 → (s < p) ⊎ (s ≡ unread) → l < p → v < p → Cong (p - 1) (l + v) (residue s) →

@@ -32,7 +32,7 @@ pub fn residues(symbols: [u16; 16]) -> [u16; 16]
 }
 
 // Row r of the symbols of a square of n columns.
-pub fn line(bytes: &[u8], n: usize, r: usize) -> [u16; 16]
+fn line(bytes: &[u8], n: usize, r: usize) -> [u16; 16]
     requires { ⌜ (n ≤ 16) × (r < n) × (length (now bytes) ≡ n * n) ⌝ }
     ensures { λ l. ⌜ l ≡ rowOf (squareCell n (now (bytes .entry)) r) ⌝ }
 {

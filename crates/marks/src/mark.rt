@@ -13,8 +13,8 @@ ghost use mathlib.Core.Path.{_≡_};
 ghost use Prim.Native.Nat.{ℕ, _*_, _≤_, _<_};
 ghost use lib.ListN.{length};
 ghost use Rattle.bounded.specs.Bounded.{at, sum, tab};
-ghost use Rattle.field.specs.Row.{row as rowOf};
 ghost use Rattle.definitions.specs.Code.{square};
+ghost use Rattle.definitions.specs.Cost.{changed};
 ghost use Rattle.definitions.specs.Reads.{Reads};
 ghost use Rattle.marks.specs.Loading.{Taken};
 ghost use Rattle.marks.specs.Changed.{flag, changedCells};
@@ -29,20 +29,19 @@ fn cell_flag(symbol: u16, left: u16) -> u16
     left
 }
 
-// The same for the cells of a row.
-fn flags(symbols: [u16; 16], left: [u16; 16]) -> [u16; 16]
-    ensures { λ r. ⌜ r ≡ rowOf (λ j. flag (at symbols j) (at left j)) ⌝ }
+// How many cells of a row are changed, from its symbols and what the decoder left of them.
+fn changed_in_row(symbols: &[u8], left: [u16; 16]) -> u32
+    requires { ⌜ length (now symbols) ≤ 16 ⌝ }
+    ensures { λ r. ⌜ (r ≡ changed (length (now (symbols .entry))) (λ c. flag (at (now (symbols .entry)) c) (at left c)) (λ _. 0)) × (r ≤ 16) ⌝ }
 {
-    let mut out = [0u16; 16];
-    let mut i = 0;
-    while i < 16 {
-        out[i] = cell_flag(symbols[i], left[i]);
-        i += 1;
+    let mut sum = 0;
+    for i in 0..symbols.len() {
+        sum += word::cell_changed(cell_flag(symbols[i] as u16, left[i]), 0);
     }
-    out
+    sum
 }
 
-// How many cells of the mark are changed, from its symbols and what the decoder left of them.
+// The same of the mark.
 fn changed_cells(symbols: &[u8], n: usize, left: &[[u16; 16]; 16]) -> u32
     requires { ⌜ (n ≤ 16) × (length (now symbols) ≡ n * n) ⌝ }
     ensures { λ r. ⌜ r ≡ changedCells n n (now (symbols .entry)) (now (left .entry)) ⌝ }
@@ -50,9 +49,8 @@ fn changed_cells(symbols: &[u8], n: usize, left: &[[u16; 16]; 16]) -> u32
     let mut sum = 0;
     let mut r = 0;
     while r < n {
-        let seen = load::line(symbols, n, r);
-        let marks = flags(seen, left[r]);
-        sum += word::word_changed(n, marks, [0; 16]);
+        let at = r * n;
+        sum += changed_in_row(&symbols[at..at + n], left[r]);
         r += 1;
     }
     sum

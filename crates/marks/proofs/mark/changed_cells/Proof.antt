@@ -2,8 +2,9 @@
 use mathlib.Core.Path.{_≡_, refl}
 use Prim.Native.Nat.{_*_, _-_, _≤_}
 use native.Mathlib.Omega.{arith}
+use Rattle.records.proofs.Square.{row-in}
 use Rattle.marks.specs.Changed.{changedCells}
-use Rattle.marks.proofs.Square.{changed-more}
+use Rattle.marks.proofs.Square.{product-small, changed-more}
 use borrow.Author.Needs.{needs}
 use Rattle.marks.proofs.mark.changed_cells.Statement.{statement}
 use Rattle.marks.proofs.mark.changed_cells.Tie as tie
@@ -17,20 +18,29 @@ abbrev μ-loop : tie.MeasureT-loop
 loop-holds : tie.Need-loop-holds Inv-loop μ-loop
 loop-holds c = (omega arith, refl, omega arith)
 
-line-requires : tie.Need-line-requires Inv-loop μ-loop
-line-requires c κs = search needs
+mul-at : tie.Need-mul-at Inv-loop μ-loop
+mul-at c = let b = c .before .before .before .pre in omega (arith, product-small (b .0) (c .loop-test .taken))
 
-mul-flags : tie.Need-mul-flags Inv-loop μ-loop
-mul-flags c = search needs
+add-changed-in-row : tie.Need-add-changed-in-row Inv-loop μ-loop
+add-changed-in-row c = let b = c .before .before .before .pre in omega (arith, b .0, product-small (b .0) (c .loop-test .taken))
 
-element-copy-out-flags : tie.Need-element-copy-out-flags Inv-loop μ-loop
-element-copy-out-flags c = search needs
+sub-changed-in-row : tie.Need-sub-changed-in-row Inv-loop μ-loop
+sub-changed-in-row c = search needs
 
-flags-requires : tie.Need-flags-requires Inv-loop μ-loop
-flags-requires c κs = search needs
+part-changed-in-row-start : tie.Need-part-changed-in-row-start Inv-loop μ-loop
+part-changed-in-row-start c = search needs
 
-word-changed-requires : tie.Need-word-changed-requires Inv-loop μ-loop
-word-changed-requires c κs = search needs
+part-changed-in-row-end : tie.Need-part-changed-in-row-end Inv-loop μ-loop
+part-changed-in-row-end c = omega (arith, c .before .before .before .pre .1, row-in _ _ (c .loop-test .taken))
+
+mul-changed-in-row : tie.Need-mul-changed-in-row Inv-loop μ-loop
+mul-changed-in-row c = search needs
+
+element-copy-out-changed-in-row : tie.Need-element-copy-out-changed-in-row Inv-loop μ-loop
+element-copy-out-changed-in-row c = search needs
+
+changed-in-row-requires : tie.Need-changed-in-row-requires Inv-loop μ-loop
+changed-in-row-requires c κs = search needs
 
 add-sum : tie.Need-add-sum Inv-loop μ-loop
 add-sum c = search needs
@@ -43,14 +53,18 @@ loop-less c = search needs
 
 loop-again : tie.Need-loop-again Inv-loop μ-loop
 loop-again c =
-    let line = c .before .before .before in
-    let l = line .before .before .loop in
-    let start = line .before .before .before .before in
-    let more = changed-more (start .args .n) (l .r) (start .args .symbols .now) (start .args .left .now) (start .pre .0) (line .line .ensures) (c .before .flags .ensures) in
-    (omega arith, omega (arith, more, l .inv .1, c .word-changed .ensures .0), omega (arith, c .word-changed .ensures .1, start .pre .0))
+    let here = c .before .before .before in
+    let l = here .before .loop in
+    let start = here .before .before .before in
+    let inside = row-in (l .r) (start .args .n) (here .loop-test .taken) in
+    let more = changed-more (start .args .n) (l .r) (start .args .symbols .now) (start .args .left .now) (omega (arith, start .pre .1, inside)) (c .changed-in-row .ensures .0) in
+    (omega arith, omega (arith, more, l .inv .1), omega (arith, c .changed-in-row .ensures .1))
 
 returns : tie.Need-returns Inv-loop μ-loop
-returns c = let l = c .before .loop in let e : l .r ≡ c .before .before .before .args .n = omega arith in rw e at (l .inv .1)
+returns c =
+    let l = c .before .loop in
+    let e : l .r ≡ c .before .before .before .args .n = omega arith in
+    rw e at (l .inv .1)
 
 pub changed-cells-spec : {M : Type 1} → statement M
 changed-cells-spec =
@@ -59,11 +73,14 @@ changed-cells-spec =
     Inv-loop
     μ-loop
     loop-holds
-    line-requires
-    mul-flags
-    element-copy-out-flags
-    flags-requires
-    word-changed-requires
+    mul-at
+    add-changed-in-row
+    sub-changed-in-row
+    part-changed-in-row-start
+    part-changed-in-row-end
+    mul-changed-in-row
+    element-copy-out-changed-in-row
+    changed-in-row-requires
     add-sum
     add-r
     loop-less
