@@ -226,6 +226,9 @@ pub fn decode(
         let level = next / 16;
         while next / 16 == level {
             let r = (next % 16) as usize;
+            let others = order::without(keys, next);
+            keys = others;
+            next = order::least(keys);
             interpolation::enter(
                 &mut d1,
                 &mut e1,
@@ -241,9 +244,6 @@ pub fn decode(
                 m,
                 inverses,
             );
-            let others = order::without(keys, next);
-            keys = others;
-            next = order::least(keys);
             if hopeful(d2, e2, a, b, entered, n, k, full, u) {
                 let tried = attempt(e2, entered, all, p, m, inverses, x, n, k, full, s, u);
                 if tried.found {

@@ -19,7 +19,8 @@ pub struct Newton {
     pub keys: [u32; 16],
 }
 
-// The polynomial of degree at most k through the k + 1 cells of the least keys.
+// The polynomial of degree at most k through the k + 1 cells of the least keys. Which cell is next depends on no number of this one, and is
+// worked out first: so the processor does both at a time.
 pub fn through(
     keys: [u32; 16],
     x: [u16; 16],
@@ -41,6 +42,8 @@ pub fn through(
     let mut i = 0;
     while i <= k {
         let key = order::least(left);
+        let others = order::without(left, key);
+        left = others;
         let r = (key % 16) as usize;
         let z = x[r];
         let c = ratio(rest[r], product[r], p, m, inverses);
@@ -49,8 +52,6 @@ pub fn through(
         slopes[i] = c;
         nodes[i] = z;
         entered[r] = 1;
-        let others = order::without(left, key);
-        left = others;
         i += 1;
     }
     Newton {

@@ -111,36 +111,35 @@ levels-again c =
 cast-r : tie.Need-cast-r Inv-loop μ-loop Inv-levels μ-levels
 cast-r c = search needs
 
-enter-requires : tie.Need-enter-requires Inv-loop μ-loop Inv-levels μ-levels
-enter-requires c κs =
-    let at-loop = c .before .before .before .before .before .before .before .before in
-    let b = at-loop .before .before .before .before .before .before .before .before .before .before .before .before .before .before .before .pre in
-    let h = at-loop .loop .inv .1 .holds in
-    (b .0 .1, b .1, h .shaped, b .0 .2, mod-lt _ (omega arith), omega (arith, b .0 .4, b .0 .5), omega (arith, b .0 .4, holds-few h))
-
 without-requires : tie.Need-without-requires Inv-loop μ-loop Inv-levels μ-levels
 without-requires c κs = search needs
 
 least-requires-2 : tie.Need-least-requires-2 Inv-loop μ-loop Inv-levels μ-levels
 least-requires-2 c κs = search needs
 
+enter-requires : tie.Need-enter-requires Inv-loop μ-loop Inv-levels μ-levels
+enter-requires c κs =
+    let at-loop = c .before .before .before .before .before .before .before .before .before .before in
+    let b = at-loop .before .before .before .before .before .before .before .before .before .before .before .before .before .before .before .pre in
+    let h = at-loop .loop .inv .1 .holds in
+    (b .0 .1, b .1, h .shaped, b .0 .2, mod-lt _ (omega arith), omega (arith, b .0 .4, b .0 .5), omega (arith, b .0 .4, holds-few h))
+
 hopeful-requires : tie.Need-hopeful-requires Inv-loop μ-loop Inv-levels μ-levels
 hopeful-requires c κs =
-    let after-enter = c .before .before in
-    let in-loop = after-enter .before .before .before .before .before .before .before .before in
+    let in-loop = c .before .before .before .before .before .before .before .before .before .before in
     let at-loop = in-loop .before in
     let after-keys = at-loop .before .before .before .before .before .before .before .before .before .before .before in
     let start = after-keys .before .before .before .before in
     let b = start .pre in
     let K = after-keys .keys .ensures in
     let G = at-loop .loop .inv .1 in
-    let h = going-holds (start .args .u) (b .0) K G (below in-loop) (after-enter .enter .ensures) in
+    let h = going-holds (start .args .u) (b .0) K G (below in-loop) (c .enter .ensures) in
     (b .0 .4, b .0 .5, b .0 .6, b .0 .8, omega (arith, b .0 .4, holds-few h), h .state .bit)
 
 attempt-requires : tie.Need-attempt-requires Inv-loop μ-loop Inv-levels μ-levels
 attempt-requires c κs =
-    let after-enter = c .before .before .before .before in
-    let in-loop = after-enter .before .before .before .before .before .before .before .before in
+    let after-enter = c .before .before in
+    let in-loop = after-enter .before .before .before .before .before .before .before .before .before .before in
     let at-loop = in-loop .before in
     let after-keys = at-loop .before .before .before .before .before .before .before .before .before .before .before in
     let start = after-keys .before .before .before .before in
@@ -151,8 +150,8 @@ attempt-requires c κs =
 
 loop-less : tie.Need-loop-less Inv-loop μ-loop Inv-levels μ-levels
 loop-less c =
-    let after-enter = c .before .before .before .before .before .before in
-    let in-loop = after-enter .before .before .before .before .before .before .before .before in
+    let after-enter = c .before .before .before .before in
+    let in-loop = after-enter .before .before .before .before .before .before .before .before .before .before in
     let at-loop = in-loop .before in
     let after-keys = at-loop .before .before .before .before .before .before .before .before .before .before .before in
     let start = after-keys .before .before .before .before in
@@ -160,13 +159,13 @@ loop-less c =
     let K = after-keys .keys .ensures in
     let G = at-loop .loop .inv .1 in
     let refuted = tried-none (c .before .attempt .ensures) (c .if4 .left) .1 in
-    let g = going-enter (start .args .u) (b .0) K G (below in-loop) (after-enter .enter .ensures) (c .before .before .before .before .before .without .ensures) (c .before .before .before .before .least2 .ensures) refuted in
+    let g = going-enter (start .args .u) (b .0) K G (below in-loop) (after-enter .enter .ensures) (after-enter .before .before .before .before .before .before .before .before .before .without .ensures) (after-enter .before .before .before .before .before .before .before .before .least2 .ensures) refuted in
     omega (arith, below in-loop, b .0 .6, going-later (start .args .u) (b .0) K G (below in-loop) (after-enter .enter .ensures) g)
 
 loop-again : tie.Need-loop-again Inv-loop μ-loop Inv-levels μ-levels
 loop-again c =
-    let after-enter = c .before .before .before .before .before .before in
-    let in-loop = after-enter .before .before .before .before .before .before .before .before in
+    let after-enter = c .before .before .before .before in
+    let in-loop = after-enter .before .before .before .before .before .before .before .before .before .before in
     let at-loop = in-loop .before in
     let after-keys = at-loop .before .before .before .before .before .before .before .before .before .before .before in
     let start = after-keys .before .before .before .before in
@@ -174,15 +173,15 @@ loop-again c =
     let K = after-keys .keys .ensures in
     let G = at-loop .loop .inv .1 in
     let refuted = tried-none (c .before .attempt .ensures) (c .if4 .left) .1 in
-    let g = going-enter (start .args .u) (b .0) K G (below in-loop) (after-enter .enter .ensures) (c .before .before .before .before .before .without .ensures) (c .before .before .before .before .least2 .ensures) refuted in
+    let g = going-enter (start .args .u) (b .0) K G (below in-loop) (after-enter .enter .ensures) (after-enter .before .before .before .before .before .before .before .before .before .without .ensures) (after-enter .before .before .before .before .before .before .before .before .least2 .ensures) refuted in
     let later = going-later (start .args .u) (b .0) K G (below in-loop) (after-enter .enter .ensures) g in
     let l = at-loop .loop .inv in
     (l .0, g, within-enter (start .args .u) (b .0) K G (below in-loop) (after-enter .enter .ensures) (in-loop .loop-test .taken) (l .2), omega (arith, l .3, later))
 
 loop-less-2 : tie.Need-loop-less-2 Inv-loop μ-loop Inv-levels μ-levels
 loop-less-2 c =
-    let after-enter = c .before .before .before .before in
-    let in-loop = after-enter .before .before .before .before .before .before .before .before in
+    let after-enter = c .before .before in
+    let in-loop = after-enter .before .before .before .before .before .before .before .before .before .before in
     let at-loop = in-loop .before in
     let after-keys = at-loop .before .before .before .before .before .before .before .before .before .before .before in
     let start = after-keys .before .before .before .before in
@@ -190,13 +189,13 @@ loop-less-2 c =
     let K = after-keys .keys .ensures in
     let G = at-loop .loop .inv .1 in
     let refuted = c .before .hopeful .ensures _ _ .no (c .if3 .left) _ _ _ _ (b .0) (going-holds (start .args .u) (b .0) K G (below in-loop) (after-enter .enter .ensures)) in
-    let g = going-enter (start .args .u) (b .0) K G (below in-loop) (after-enter .enter .ensures) (c .before .before .before .without .ensures) (c .before .before .least2 .ensures) refuted in
+    let g = going-enter (start .args .u) (b .0) K G (below in-loop) (after-enter .enter .ensures) (after-enter .before .before .before .before .before .before .before .before .before .without .ensures) (after-enter .before .before .before .before .before .before .before .before .least2 .ensures) refuted in
     omega (arith, below in-loop, b .0 .6, going-later (start .args .u) (b .0) K G (below in-loop) (after-enter .enter .ensures) g)
 
 loop-again-2 : tie.Need-loop-again-2 Inv-loop μ-loop Inv-levels μ-levels
 loop-again-2 c =
-    let after-enter = c .before .before .before .before in
-    let in-loop = after-enter .before .before .before .before .before .before .before .before in
+    let after-enter = c .before .before in
+    let in-loop = after-enter .before .before .before .before .before .before .before .before .before .before in
     let at-loop = in-loop .before in
     let after-keys = at-loop .before .before .before .before .before .before .before .before .before .before .before in
     let start = after-keys .before .before .before .before in
@@ -204,7 +203,7 @@ loop-again-2 c =
     let K = after-keys .keys .ensures in
     let G = at-loop .loop .inv .1 in
     let refuted = c .before .hopeful .ensures _ _ .no (c .if3 .left) _ _ _ _ (b .0) (going-holds (start .args .u) (b .0) K G (below in-loop) (after-enter .enter .ensures)) in
-    let g = going-enter (start .args .u) (b .0) K G (below in-loop) (after-enter .enter .ensures) (c .before .before .before .without .ensures) (c .before .before .least2 .ensures) refuted in
+    let g = going-enter (start .args .u) (b .0) K G (below in-loop) (after-enter .enter .ensures) (after-enter .before .before .before .before .before .before .before .before .before .without .ensures) (after-enter .before .before .before .before .before .before .before .before .least2 .ensures) refuted in
     let later = going-later (start .args .u) (b .0) K G (below in-loop) (after-enter .enter .ensures) g in
     let l = at-loop .loop .inv in
     (l .0, g, within-enter (start .args .u) (b .0) K G (below in-loop) (after-enter .enter .ensures) (in-loop .loop-test .taken) (l .2), omega (arith, l .3, later))
@@ -246,9 +245,9 @@ decode-spec =
     levels-less
     levels-again
     cast-r
-    enter-requires
     without-requires
     least-requires-2
+    enter-requires
     hopeful-requires
     attempt-requires
     loop-less

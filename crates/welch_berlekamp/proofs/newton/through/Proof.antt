@@ -46,6 +46,9 @@ loop-holds c =
 least-requires : tie.Need-least-requires Inv-loop μ-loop
 least-requires c κs = search needs
 
+without-requires : tie.Need-without-requires Inv-loop μ-loop
+without-requires c κs = search needs
+
 cast-r : tie.Need-cast-r Inv-loop μ-loop
 cast-r c = search needs
 
@@ -69,45 +72,42 @@ array-read-ratio-2 c = search needs
 
 ratio-requires : tie.Need-ratio-requires Inv-loop μ-loop
 ratio-requires c κs =
-    let b = c .before .before .before .before .pre in
-    let F = fits (c .before .before) in
-    (b .0, b .1, F .whole .rest .small _, fits-positive (b .4 .enough) F (c .before .loop-test .taken) (c .least .ensures), F .holds .shaped .d1 .small _)
+    let b = c .before .before .before .before .before .pre in
+    let F = fits (c .before .before .before) in
+    (b .0, b .1, F .whole .rest .small _, fits-positive (b .4 .enough) F (c .before .before .loop-test .taken) (c .before .least .ensures), F .holds .shaped .d1 .small _)
 
 sub-shift : tie.Need-sub-shift Inv-loop μ-loop
-sub-shift c = omega (arith, c .before .before .before .before .before .pre .2 .small (c .before .least .result % 16))
+sub-shift c = omega (arith, c .before .before .before .before .before .before .pre .2 .small (c .before .before .least .result % 16))
 
 shift-requires : tie.Need-shift-requires Inv-loop μ-loop
-shift-requires c κs = let b = c .before .before .before .before .before .pre in (b .2, omega arith, b .0 .most)
+shift-requires c κs = let b = c .before .before .before .before .before .before .pre in (b .2, omega arith, b .0 .most)
 
 advance-requires : tie.Need-advance-requires Inv-loop μ-loop
 advance-requires c κs =
     let after-shift = c .before .before in
-    let start = after-shift .before .before .before .before .before .before in
+    let start = after-shift .before .before .before .before .before .before .before in
     let b = start .pre in
-    let F = fits (after-shift .before .before .before .before) in
+    let F = fits (after-shift .before .before .before .before .before) in
     let z : 0 < start .args .p = omega (arith, b .0 .least) in
     (b .0, F .whole .rest, F .holds .shaped .d1, result-row _ z (after-shift .shift .ensures), omega (arith, after-shift .before .ratio .ensures .below))
 
 mul-slopes : tie.Need-mul-slopes Inv-loop μ-loop
-mul-slopes c = omega (arith, room (c .before .before .before .before .before .before))
+mul-slopes c = omega (arith, room (c .before .before .before .before .before .before .before))
 
 array-write-slopes : tie.Need-array-write-slopes Inv-loop μ-loop
-array-write-slopes c = omega (arith, room (c .before .before .before .before .before .before))
+array-write-slopes c = omega (arith, room (c .before .before .before .before .before .before .before))
 
 mul-nodes : tie.Need-mul-nodes Inv-loop μ-loop
-mul-nodes c = omega (arith, room (c .before .before .before .before .before .before))
+mul-nodes c = omega (arith, room (c .before .before .before .before .before .before .before))
 
 array-write-nodes : tie.Need-array-write-nodes Inv-loop μ-loop
-array-write-nodes c = omega (arith, room (c .before .before .before .before .before .before))
+array-write-nodes c = omega (arith, room (c .before .before .before .before .before .before .before))
 
 mul-entered : tie.Need-mul-entered Inv-loop μ-loop
 mul-entered c = search needs
 
 array-write-entered : tie.Need-array-write-entered Inv-loop μ-loop
 array-write-entered c = search needs
-
-without-requires : tie.Need-without-requires Inv-loop μ-loop
-without-requires c κs = search needs
 
 add-i : tie.Need-add-i Inv-loop μ-loop
 add-i c = omega (arith, room (c .before .before .before .before .before .before .before))
@@ -117,16 +117,16 @@ loop-less c = omega (arith, c .before .before .before .before .before .before .b
 
 loop-again : tie.Need-loop-again Inv-loop μ-loop
 loop-again c =
-    let after-advance = c .before in
-    let after-shift = after-advance .before .before .before in
+    let after-shift = c .before .before .before in
     let after-ratio = after-shift .before in
-    let in-loop = after-ratio .before .before in
+    let after-without = after-ratio .before in
+    let in-loop = after-without .before .before in
     let start = in-loop .before .before .before in
     let b = start .pre in
     let pos : 1 < start .args .p = omega (arith, b .0 .least) in
     let F = in-loop .before .loop .inv .1 in
-    let advanced = after-advance .advance .ensures in
-    (omega arith, λ n y E e. fits-take E (F n y E e) (in-loop .loop-test .taken) (after-ratio .before .least .ensures) pos (b .2 .small) (after-ratio .ratio .ensures) (advanced .0) (after-shift .shift .ensures) (advanced .1) (c .without .ensures))
+    let advanced = c .advance .ensures in
+    (omega arith, λ n y E e. fits-take E (F n y E e) (in-loop .loop-test .taken) (after-without .before .least .ensures) pos (b .2 .small) (after-ratio .ratio .ensures) (advanced .0) (after-shift .shift .ensures) (advanced .1) (after-without .without .ensures))
 
 returns : tie.Need-returns Inv-loop μ-loop
 returns c =
@@ -146,6 +146,7 @@ through-spec =
     scale-requires
     loop-holds
     least-requires
+    without-requires
     cast-r
     mul-z
     array-read-z
@@ -163,7 +164,6 @@ through-spec =
     array-write-nodes
     mul-entered
     array-write-entered
-    without-requires
     add-i
     loop-less
     loop-again
