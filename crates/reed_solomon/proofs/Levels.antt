@@ -29,7 +29,7 @@ use Rattle.welch_berlekamp.specs.Pairs.{Pairs, Holds, Enters}
 use Rattle.reed_solomon.specs.Near.{missed, Near, Refuted, Passed}
 use Rattle.welch_berlekamp.specs.Newton.{pairsOf, Fits}
 use Rattle.reed_solomon.specs.Decoded.{Received, StripDecoded, None, Found, Tried, hit, miss}
-use Rattle.welch_berlekamp.proofs.Cursor.{zeros-at, key-in, key-out, keys-placed, next-cell, entered-below, left-above, entering-next}
+use Rattle.welch_berlekamp.proofs.Cursor.{zeros-at, key-in, key-out, keys-placed, without-most, left-most, next-cell, entered-below, left-above, entering-next}
 use Rattle.welch_berlekamp.proofs.State.{zeros-row}
 use Rattle.reed_solomon.proofs.Trial.{cost-values}
 
@@ -114,7 +114,7 @@ Within n u level t = (j : ℕ) → j < n → at (t .entered) j ≢ 0 → at u j 
 
 module _ {p m n k F : ℕ} {x s : List ℕ} (u : List ℕ) (R : Received p m x n k F s u) {l : List ℕ} (K : l ≡ row (λ j. key n (at u j) j)) where
   placed : Placed l
-  placed = keys-placed n (at u) K
+  placed = keys-placed n (at u) (λ j l. omega (arith, R .8 j l, R .6)) K
 
   key-at : (j : ℕ) → j < n → at l j ≡ at u j * 16 + j
   key-at j i = ap (λ t. at t j) K ∙ row-at (λ j. key n (at u j) j) j (omega (arith, R .4)) ∙ key-in n (at u j) j i
@@ -211,6 +211,14 @@ module _ {p m n k F : ℕ} {x s : List ℕ} (u : List ℕ) (R : Received p m x n
             bit : (b : Bool) → cond b 1 0 ≤ 1
             bit true = omega arith
             bit false = omega arith
+
+  -- the keys that are left, and those without the next one, are small
+  pub first-keys : {f : Newton} → Fits p n k x s l (suc k) f → (j : ℕ) → at (f .keys) j ≤ taken
+  first-keys G = left-most (G .entering) placed
+
+  pub going-keys : {r r′ : List ℕ} {c : ℕ} {t : Pairs} → Going p F n k x s u l r c t → r′ ≡ row (λ j. cond (eqb (at r j) c) taken (at r j)) →
+      (j : ℕ) → at r′ j ≤ taken
+  going-keys {r} {c} G e = without-most c r (left-most (G .entering) placed) e
 
   -- the state after the first k + 1 cells
   pub going-first : {f : Newton} {c : ℕ} → Fits p n k x s l (suc k) f → Least 16 (f .keys) c → Refuted (p - 1) F n k (at x) (at s) (at u) (at (f .entered)) →

@@ -136,7 +136,7 @@ module _ {p m n k F : ℕ} {x s : List ℕ} (u : List ℕ) {t : Pairs} (R : Rece
       enough-usable h = record {
         most = R .4;
         apart = R .3;
-        placed = marked-placed (at v) (keys-placed n (at u) K) M;
+        placed = marked-placed (at v) (keys-placed n (at u) (λ j l. omega (arith, R .8 j l, R .6)) K) M;
         beyond = λ j o i. omega (arith, marked-at j i ∙ ap (cond (eqb (at v j) 0) taken) (key-out n (at u j) j o) ∙ either (eqb (at v j) 0));
         enough = omega (arith, h .high, h .count, free-count, sum-eq n {f = at v} {g = free} (λ j _. free-at j), sum-le n {f = at v} {g = λ j. cond (ltb (at l j) taken) 1 0} keyed);
       }
@@ -180,7 +180,7 @@ pub enough-all : {p m n k F : ℕ} {x s l : List ℕ} (u : List ℕ) → Receive
 enough-all {n} {l} u R K = record {
   most = R .4;
   apart = R .3;
-  placed = keys-placed n (at u) K;
+  placed = keys-placed n (at u) (λ j l. omega (arith, R .8 j l, R .6)) K;
   beyond = λ j o i. omega (arith, here j i ∙ key-out n (at u j) j o);
   enough = omega (
     arith,

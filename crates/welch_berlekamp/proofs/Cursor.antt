@@ -17,7 +17,7 @@ use Rattle.bounded.proofs.Sum.{cell-column}
 use Rattle.bounded.proofs.Tab.{length-tab}
 use Rattle.field.specs.Loop.{Upto}
 use Rattle.field.specs.Row.{row}
-use Rattle.field.proofs.Row.{row-at}
+use Rattle.field.proofs.Row.{row-at, beyond}
 use Rattle.welch_berlekamp.specs.Order.{taken, key, Placed, Least, Entering}
 
 -- a row of zeros, and beyond it
@@ -49,25 +49,44 @@ keys-more u j {l} b U = record {
   ];
 }
 
-placed-of : (f : ℕ → ℕ) {l : List ℕ} → l ≡ row f → ((j : ℕ) → j < 16 → f j < taken → f j % 16 ≡ j) → Placed l
-placed-of f {l} e h = record {
+-- sixteen keys, none above `taken`, and beyond them 0
+pub keys-most : (f : ℕ → ℕ) {l : List ℕ} → l ≡ row f → ((j : ℕ) → j < 16 → f j ≤ taken) → (j : ℕ) → at l j ≤ taken
+keys-most f {l} e h j = elim (decLt j 16) [
+  | yes m ↦ omega (arith, ap (λ t. at t j) e ∙ row-at f j m, h j m)
+  | no m ↦ omega (arith, beyond l j (omega (arith, ap length e ∙ length-tab 16 f)))
+]
+
+placed-of : (f : ℕ → ℕ) {l : List ℕ} → l ≡ row f → ((j : ℕ) → j < 16 → f j < taken → f j % 16 ≡ j) → ((j : ℕ) → j < 16 → f j ≤ taken) → Placed l
+placed-of f {l} e h k = record {
   size = ap length e ∙ length-tab 16 f;
   place = λ j m o. let i = ap (λ t. at t j) e ∙ row-at f j m in rw i (h j m (rw i at o));
+  most = keys-most f e k;
 }
 
-pub keys-placed : (n : ℕ) (u : ℕ → ℕ) {l : List ℕ} → l ≡ row (λ j. key n (u j) j) → Placed l
-keys-placed n u e = placed-of _ e λ j l h. go j l (ltb j n) h
+pub keys-placed : (n : ℕ) (u : ℕ → ℕ) {l : List ℕ} → ((j : ℕ) → j < n → u j < 65536) → l ≡ row (λ j. key n (u j) j) → Placed l
+keys-placed n u small e = placed-of _ e (λ j l h. go j l (ltb j n) h) λ j l. elim (decLt j n) [
+  | yes m ↦ omega (arith, key-in n (u j) j m, small j m)
+  | no m ↦ omega (arith, key-out n (u j) j (omega arith))
+]
   where
     go : (j : ℕ) → j < 16 → (b : Bool) → cond b (u j * 16 + j) taken < taken → cond b (u j * 16 + j) taken % 16 ≡ j
     go j l true h = cell-column 16 (u j) j l
     go j l false h = absurd (omega arith)
 
+-- a key that is left out, or not
+cond-most : (b : Bool) (v : ℕ) → v ≤ taken → cond b taken v ≤ taken
+cond-most true v h = omega arith
+cond-most false v h = h
+
 pub marked-placed : (w : ℕ → ℕ) {l r : List ℕ} → Placed l → r ≡ row (λ j. cond (eqb (w j) 0) taken (at l j)) → Placed r
-marked-placed w {l} P e = placed-of _ e λ j m h. go j m (eqb (w j) 0) h
+marked-placed w {l} P e = placed-of _ e (λ j m h. go j m (eqb (w j) 0) h) λ j m. cond-most (eqb (w j) 0) (at l j) (P .most j)
   where
     go : (j : ℕ) → j < 16 → (b : Bool) → cond b taken (at l j) < taken → cond b taken (at l j) % 16 ≡ j
     go j m true h = absurd (omega arith)
     go j m false h = P .place j m h
+
+pub without-most : (c : ℕ) (r : List ℕ) {r′ : List ℕ} → ((j : ℕ) → at r j ≤ taken) → r′ ≡ row (λ j. cond (eqb (at r j) c) taken (at r j)) → (j : ℕ) → at r′ j ≤ taken
+without-most c r h e = keys-most _ e λ j m. cond-most (eqb (at r j) c) (at r j) (h j)
 
 -- the least of one key more
 pub least-start : {l : List ℕ} → Least 0 l taken
@@ -89,6 +108,13 @@ module _ {l w r : List ℕ} (E : Entering l w r) (P : Placed l) where
 
   other-out : (j : ℕ) → j < 16 → at w j ≢ 0 → at r j ≡ taken
   other-out j m z = E .others j m ∙ ap (λ b. cond b (at l j) taken) (ne-eqb (at w j) 0 z)
+
+  -- no key that is left is above `taken`
+  pub left-most : (j : ℕ) → at r j ≤ taken
+  left-most j = elim (decLt j 16) [
+    | yes m ↦ elim (ℕ-discrete (at w j) 0) [ yes z ↦ omega (arith, other-in j m z, P .most j) | no z ↦ omega (arith, other-out j m z) ]
+    | no m ↦ omega (arith, beyond r j (omega (arith, E .size)))
+  ]
 
   -- a key that is left is that of a cell that has not entered
   left-cell : (j : ℕ) → j < 16 → at r j < taken → (at w j ≡ 0) × (at l j ≡ at r j)

@@ -2,7 +2,7 @@
 --
 --   taken            the key of a cell that has entered, or is none
 --   key n u j        the key of the cell j of n with the doubt u: 16 u + j
---   Placed l         of the sixteen keys l each one below `taken` tells its place
+--   Placed l         of the sixteen keys l each one below `taken` tells its place, and none is above it
 --   Least n l r      r is the least of the first n keys of l, or `taken` where none is less
 --   Entering l w r   of the cells with the keys l those that w marks have entered: r are the keys of the others, and none of
 --                    these is below the key of one that has entered
@@ -26,6 +26,7 @@ key n u j = cond (ltb j n) (u * 16 + j) taken
 pub record Placed (l : List ℕ) : Type 0 where
   pub size : length l ≡ 16
   pub place : (j : ℕ) → j < 16 → at l j < taken → at l j % 16 ≡ j
+  pub most : (j : ℕ) → at l j ≤ taken
 
 pub record Least (n : ℕ) (l : List ℕ) (r : ℕ) : Type 0 where
   pub most : r ≤ taken

@@ -1,7 +1,7 @@
 // The order in which cells enter: by doubt, and by place among cells of one doubt. A cell's key is 16 times its doubt and its place.
 ghost use mathlib.Core.Path.{_≡_};
 ghost use mathlib.Core.Bool.{cond};
-ghost use Prim.Native.Nat.{_≤_, min};
+ghost use Prim.Native.Nat.{ℕ, _≤_, min};
 ghost use lib.Dec.{eqb};
 ghost use Rattle.bounded.specs.Bounded.{at};
 ghost use Rattle.field.specs.Row.{row};
@@ -25,11 +25,12 @@ pub fn keys(n: usize, u: [u32; 16]) -> [u32; 16]
     out
 }
 
-// The lower of two keys.
+// The lower of two keys, compared as signed numbers, which the processor does for many at a time.
 fn lower(a: u32, b: u32) -> u32
+    requires { ⌜ (a ≤ taken) × (b ≤ taken) ⌝ }
     ensures { λ r. ⌜ r ≡ min a b ⌝ }
 {
-    if a < b {
+    if (a as i32) < (b as i32) {
         return a;
     }
     b
@@ -37,6 +38,7 @@ fn lower(a: u32, b: u32) -> u32
 
 // The least key.
 pub fn least(keys: [u32; 16]) -> u32
+    requires { ⌜ ((j : ℕ) → at keys j ≤ taken) ⌝ }
     ensures { λ r. ⌜ Least 16 keys r ⌝ }
 {
     let mut best = TAKEN;

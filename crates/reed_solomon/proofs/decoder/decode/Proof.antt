@@ -7,7 +7,7 @@ use Rattle.welch_berlekamp.specs.Pairs.{pairs}
 use Rattle.reed_solomon.specs.Near.{Passed}
 use Rattle.reed_solomon.specs.Decoded.{None}
 use Rattle.reed_solomon.proofs.Trial.{holds-few, candidate, enough-all}
-use Rattle.reed_solomon.proofs.Levels.{Going, Within, going-first, going-within, going-holds, going-enter, going-later, going-passed, within-enter, first-passed, tried-found, tried-none, none-decoded, found-decoded, doubtful-decoded}
+use Rattle.reed_solomon.proofs.Levels.{Going, Within, first-keys, going-keys, going-first, going-within, going-holds, going-enter, going-later, going-passed, within-enter, first-passed, tried-found, tried-none, none-decoded, found-decoded, doubtful-decoded}
 use borrow.Author.Needs.{needs}
 use Rattle.reed_solomon.proofs.decoder.decode.Statement.{statement}
 use Rattle.reed_solomon.proofs.decoder.decode.Tie as tie
@@ -73,7 +73,13 @@ add-a : tie.Need-add-a Inv-loop μ-loop Inv-levels μ-levels
 add-a c = let b = c .before .before .before .before .before .before .before .before .before .pre .0 in omega (arith, b .4, b .5)
 
 least-requires : tie.Need-least-requires Inv-loop μ-loop Inv-levels μ-levels
-least-requires c κs = search needs
+least-requires c κs =
+    let after-through = c .before .before .before .before .before .before in
+    let after-keys = after-through .before in
+    let start = after-keys .before .before .before .before in
+    let b = start .pre in
+    let K = after-keys .keys .ensures in
+    first-keys (start .args .u) (b .0) K (after-through .through .ensures _ (enough-all (start .args .u) (b .0) K))
 
 levels-holds : tie.Need-levels-holds Inv-loop μ-loop Inv-levels μ-levels
 levels-holds c =
@@ -115,7 +121,11 @@ without-requires : tie.Need-without-requires Inv-loop μ-loop Inv-levels μ-leve
 without-requires c κs = search needs
 
 least-requires-2 : tie.Need-least-requires-2 Inv-loop μ-loop Inv-levels μ-levels
-least-requires-2 c κs = search needs
+least-requires-2 c κs =
+    let at-loop = c .before .before in
+    let after-keys = at-loop .before .before .before .before .before .before .before .before .before .before .before in
+    let start = after-keys .before .before .before .before in
+    going-keys (start .args .u) (start .pre .0) (after-keys .keys .ensures) (at-loop .loop .inv .1) (c .without .ensures)
 
 enter-requires : tie.Need-enter-requires Inv-loop μ-loop Inv-levels μ-levels
 enter-requires c κs =

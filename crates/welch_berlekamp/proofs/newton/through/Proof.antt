@@ -7,6 +7,7 @@ use Rattle.bounded.specs.Bounded.{at}
 use Rattle.field.specs.Row.{row}
 use Rattle.field.proofs.Row.{result-row}
 use Rattle.welch_berlekamp.specs.Newton.{Enough, Fits}
+use Rattle.welch_berlekamp.proofs.Cursor.{left-most}
 use Rattle.welch_berlekamp.proofs.Interpolant.{enough-few, fits-start, fits-positive, fits-take}
 use borrow.Author.Needs.{needs}
 use Rattle.welch_berlekamp.proofs.newton.through.Statement.{statement}
@@ -44,7 +45,7 @@ loop-holds c =
     (omega arith, λ n y E e. fits-start pos E e)
 
 least-requires : tie.Need-least-requires Inv-loop μ-loop
-least-requires c κs = search needs
+least-requires c κs = let start = c .before .before .before in left-most (fits (c .before) .entering) (start .pre .4 .enough .placed)
 
 without-requires : tie.Need-without-requires Inv-loop μ-loop
 without-requires c κs = search needs

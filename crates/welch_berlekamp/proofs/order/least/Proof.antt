@@ -24,7 +24,7 @@ array-read-lower : tie.Need-array-read-lower Inv-loop μ-loop
 array-read-lower c = search needs
 
 lower-requires : tie.Need-lower-requires Inv-loop μ-loop
-lower-requires c κs = search needs
+lower-requires c κs = (c .before .before .pre (c .before .loop .j), c .before .loop .inv .1 .most)
 
 add-j : tie.Need-add-j Inv-loop μ-loop
 add-j c = search needs
