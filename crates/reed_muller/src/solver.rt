@@ -6,12 +6,9 @@ use crate::remainder;
 use crate::trial;
 use polynomial::bivariate;
 use polynomial::evaluation;
-ghost use mathlib.Core.Path.{_≡_};
-ghost use Prim.Native.Nat.{_%_, _^_, _≤_};
-ghost use Rattle.bounded.specs.Bounded.{at};
+ghost use Prim.Native.Nat.{_≤_};
 ghost use Rattle.field.specs.Prime.{Inverses};
-ghost use Rattle.field.specs.Row.{row, Row};
-ghost use Rattle.polynomial.specs.Powers.{Rows, Powers};
+ghost use Rattle.polynomial.specs.Powers.{Rows};
 ghost use Rattle.reed_muller.specs.Fit.{Fit, DoubtRows};
 ghost use Rattle.reed_muller.specs.Answers.{KnownRows};
 ghost use Rattle.reed_muller.specs.Steps.{Stepped, Solved};
@@ -29,13 +26,12 @@ fn step(
     g: Grid,
     inverses: &[u16; 251],
     t: usize,
-    power: [u16; 16],
     known: [u32; 16],
     messages: &mut [[u16; 16]; 16],
     left: &mut [[u16; 16]; 16],
     doubts: &[[u32; 16]; 16],
 ) -> Column
-    requires { ⌜ Fit g × (t ≤ g .d) × Rows (g .p) (now left) × DoubtRows g (now doubts) × KnownRows g t (now left) (now doubts) (now messages) known × (power ≡ row (λ c. at (g .y) c ^ t % g .p)) × Inverses (g .p) (now inverses) ⌝ }
+    requires { ⌜ Fit g × (t ≤ g .d) × Rows (g .p) (now left) × DoubtRows g (now doubts) × KnownRows g t (now left) (now doubts) (now messages) known × Inverses (g .p) (now inverses) ⌝ }
     ensures { λ r. ⌜ Stepped g t (now (left .entry)) (now (doubts .entry)) (now (left .exit)) (now (messages .exit)) (r .found) (r .message) (r .known) ⌝ }
 {
     let costs = lines::answer(g, inverses, t, messages, known, left, doubts);
@@ -62,6 +58,8 @@ fn step(
         };
     }
     let v = strip.values;
+    let y = g.y;
+    let power = evaluation::power(y, t, g.p, g.m);
     remainder::subtract(g, left, v, power);
     Column {
         found: true,
@@ -76,13 +74,11 @@ fn step(
 fn solve_by_degrees(
     g: Grid,
     inverses: &[u16; 251],
-    xs: &[[u16; 16]; 16],
-    ys: &[[u16; 16]; 16],
     left: &mut [[u16; 16]; 16],
     doubts: &[[u32; 16]; 16],
     columns: &mut [[u16; 16]; 16],
 ) -> u32
-    requires { ⌜ Fit g × Rows (g .p) (now left) × DoubtRows g (now doubts) × Rows (g .p) (now columns) × Inverses (g .p) (now inverses) × Rows (g .p) (now xs) × Powers (g .p) (g .x) (g .d) (now xs) × Rows (g .p) (now ys) × Powers (g .p) (g .y) (g .d) (now ys) ⌝ }
+    requires { ⌜ Fit g × Rows (g .p) (now left) × DoubtRows g (now doubts) × Rows (g .p) (now columns) × Inverses (g .p) (now inverses) ⌝ }
     ensures { λ r. ⌜ Solved g (now (left .entry)) (now (doubts .entry)) (now (left .exit)) (now (columns .exit)) r ⌝ }
 {
     let radius = remainder::radius(g);
@@ -92,7 +88,7 @@ fn solve_by_degrees(
     let mut t = g.d + 1;
     while t > 0 {
         t -= 1;
-        let column = step(g, inverses, t, ys[t], known, &mut messages, left, doubts);
+        let column = step(g, inverses, t, known, &mut messages, left, doubts);
         if !column.found {
             return radius;
         }
@@ -102,7 +98,7 @@ fn solve_by_degrees(
         if untried {
             if draft::from_lines(g, inverses, t, &messages, known, columns) {
                 untried = false;
-                let cost = trial::complete(g, t, xs, ys, columns, left, doubts);
+                let cost = trial::complete(g, t, columns, left, doubts);
                 if cost < radius {
                     return cost;
                 }
@@ -124,16 +120,11 @@ pub fn solve(
     requires { ⌜ Fit g × Rows (g .p) (now left) × DoubtRows g (now doubts) × Rows (g .p) (now columns) × Inverses (g .p) (now inverses) ⌝ }
     ensures { λ r. ⌜ Solved g (now (left .entry)) (now (doubts .entry)) (now (left .exit)) (now (columns .exit)) r ⌝ }
 {
-    let d = g.d;
-    let x = g.x;
-    let y = g.y;
-    let xs = evaluation::powers(x, d, g.p, g.m);
-    let ys = evaluation::powers(y, d, g.p, g.m);
     if draft::from_cells(g, inverses, left, columns) {
-        let cost = trial::complete(g, d + 1, &xs, &ys, columns, left, doubts);
+        let cost = trial::complete(g, g.d + 1, columns, left, doubts);
         if cost < remainder::radius(g) {
             return cost;
         }
     }
-    solve_by_degrees(g, inverses, &xs, &ys, left, doubts, columns)
+    solve_by_degrees(g, inverses, left, doubts, columns)
 }

@@ -33,17 +33,19 @@ fn subtract_below(
 pub fn complete(
     g: Grid,
     t: usize,
-    xs: &[[u16; 16]; 16],
-    ys: &[[u16; 16]; 16],
     columns: &[[u16; 16]; 16],
     left: &mut [[u16; 16]; 16],
     doubts: &[[u32; 16]; 16],
 ) -> u32
-    requires { ⌜ Fit g × (t ≤ suc (g .d)) × Rows (g .p) (now columns) × Rows (g .p) (now left) × DoubtRows g (now doubts) × Rows (g .p) (now xs) × Powers (g .p) (g .x) (g .d) (now xs) × Rows (g .p) (now ys) × Powers (g .p) (g .y) (g .d) (now ys) ⌝ }
+    requires { ⌜ Fit g × (t ≤ suc (g .d)) × Rows (g .p) (now columns) × Rows (g .p) (now left) × DoubtRows g (now doubts) ⌝ }
     ensures { λ r. ⌜ Completed g t (now (doubts .entry)) (now (columns .entry)) (now (left .entry)) (now (left .exit)) r ⌝ }
 {
+    let x = g.x;
+    let y = g.y;
+    let xs = evaluation::powers(x, g.d, g.p, g.m);
+    let ys = evaluation::powers(y, g.d, g.p, g.m);
     let before = *left;
-    subtract_below(g, t, xs, ys, columns, left);
+    subtract_below(g, t, &xs, &ys, columns, left);
     let cost = remainder::measure(g, left, doubts);
     if cost >= remainder::radius(g) {
         *left = before;

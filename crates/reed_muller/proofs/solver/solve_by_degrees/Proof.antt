@@ -16,11 +16,11 @@ use Rattle.reed_muller.proofs.solver.solve_by_degrees.Statement.{statem
 use Rattle.reed_muller.proofs.solver.solve_by_degrees.Tie as tie
 
 abbrev Inv-loop : tie.InvT-loop
-Inv-loop g inverses xs ys left₀ doubts columns₀ radius messages₀ known₀ untried₀ t₀ left columns messages known untried t =
+Inv-loop g inverses left₀ doubts columns₀ radius messages₀ known₀ untried₀ t₀ left columns messages known untried t =
     (radius ≡ limit g) × (t ≤ g .d + 1) × Solving g t left₀ doubts left columns messages known
 
 abbrev μ-loop : tie.MeasureT-loop
-μ-loop g inverses xs ys left₀ doubts columns₀ radius messages₀ known₀ untried₀ t₀ left columns messages known untried t =
+μ-loop g inverses left₀ doubts columns₀ radius messages₀ known₀ untried₀ t₀ left columns messages known untried t =
     t
 
 radius-requires : tie.Need-radius-requires Inv-loop μ-loop
@@ -42,61 +42,53 @@ loop-holds c =
 sub-t : tie.Need-sub-t Inv-loop μ-loop
 sub-t c = search needs
 
-mul-step : tie.Need-mul-step Inv-loop μ-loop
-mul-step c = let f = c .before .before .before .before .pre .0 in omega (arith, f .low, f .rows)
-
-element-copy-out-step : tie.Need-element-copy-out-step Inv-loop μ-loop
-element-copy-out-step c = let f = c .before .before .before .before .pre .0 in omega (arith, f .low, f .rows)
-
 step-requires : tie.Need-step-requires Inv-loop μ-loop
 step-requires c κs =
-    let l = c .before .before .before .before .loop in
-    let start = c .before .before .before .before .before .before .before in
-    let f = start .pre .0 in
+    let l = c .before .before .before .loop in
+    let start = c .before .before .before .before .before .before in
     let e : l .t ≡ suc (l .t - 1) = omega arith in
-    let power = start .pre .8 .done (l .t - 1) (omega (arith, f .low, f .rows)) in
-    (f, omega arith, l .inv .2 .rows, start .pre .2, l .inv .2 .known (l .t - 1) e, power, start .pre .4)
+    (start .pre .0, omega arith, l .inv .2 .rows, start .pre .2, l .inv .2 .known (l .t - 1) e, start .pre .4)
 
 returns : tie.Need-returns Inv-loop μ-loop
 returns c =
-    let l = c .before .before .before .before .before .before .before .loop in
+    let l = c .before .before .before .before .before .before .loop in
     let e : l .t ≡ suc (l .t - 1) = omega arith in
-    rw (l .inv .0) (solving-none (c .before .before .before .before .before .before .before .before .before .before .pre .0) (omega arith) _ _ _ _ _ _ _ (rw e at (l .inv .2)) (c .before .before .step .ensures) (not-true _ (c .if1 .taken)) _)
+    rw (l .inv .0) (solving-none (c .before .before .before .before .before .before .before .before .before .pre .0) (omega arith) _ _ _ _ _ _ _ (rw e at (l .inv .2)) (c .before .before .step .ensures) (not-true _ (c .if1 .taken)) _)
 
 mul-w : tie.Need-mul-w Inv-loop μ-loop
-mul-w c = let f = c .before .before .before .before .before .before .before .before .before .before .before .pre .0 in omega (arith, f .low, f .rows)
+mul-w c = let f = c .before .before .before .before .before .before .before .before .before .before .pre .0 in omega (arith, f .low, f .rows)
 
 element-set-from-w : tie.Need-element-set-from-w Inv-loop μ-loop
-element-set-from-w c = let f = c .before .before .before .before .before .before .before .before .before .before .before .pre .0 in omega (arith, f .low, f .rows)
+element-set-from-w c = let f = c .before .before .before .before .before .before .before .before .before .before .pre .0 in omega (arith, f .low, f .rows)
 
 from-lines-requires : tie.Need-from-lines-requires Inv-loop μ-loop
 from-lines-requires c κs =
     let found = c .before .before .before .before .before in
-    let l = found .before .before .before .before .before .before .before .loop in
-    let start = found .before .before .before .before .before .before .before .before .before .before in
+    let l = found .before .before .before .before .before .before .loop in
+    let start = found .before .before .before .before .before .before .before .before .before in
     let f = start .pre .0 in
-    let e : l .t ≡ suc (l .t - 1) = omega (arith, found .before .before .before .before .before .before .loop-test .taken) in
+    let e : l .t ≡ suc (l .t - 1) = omega (arith, found .before .before .before .before .before .loop-test .taken) in
     let S = solving-next f (omega (arith, e, l .inv .1)) _ _ _ _ _ _ _ (rw e at (l .inv .2)) (found .before .before .step .ensures) (not-false _ (found .if1 .left)) in
     (f, start .pre .4, omega arith, found .before .before .step .ensures .lines, S .coefficients)
 
 complete-requires : tie.Need-complete-requires Inv-loop μ-loop
 complete-requires c κs =
     let found = c .before .before .before .before .before .before .before .before .before in
-    let l = found .before .before .before .before .before .before .before .loop in
-    let start = found .before .before .before .before .before .before .before .before .before .before in
+    let l = found .before .before .before .before .before .before .loop in
+    let start = found .before .before .before .before .before .before .before .before .before in
     let f = start .pre .0 in
-    let e : l .t ≡ suc (l .t - 1) = omega (arith, found .before .before .before .before .before .before .loop-test .taken) in
+    let e : l .t ≡ suc (l .t - 1) = omega (arith, found .before .before .before .before .before .loop-test .taken) in
     let S = solving-next f (omega (arith, e, l .inv .1)) _ _ _ _ _ _ _ (rw e at (l .inv .2)) (found .before .before .step .ensures) (not-false _ (found .if1 .left)) in
     let R = c .before .before .before .from-lines .ensures in
-    (f, omega arith, R .rows, S .rows, start .pre .2, start .pre .5, start .pre .6, start .pre .7, start .pre .8)
+    (f, omega arith, R .rows, S .rows, start .pre .2)
 
 returns-2 : tie.Need-returns-2 Inv-loop μ-loop
 returns-2 c =
     let found = c .before .before .before .before .before .before .before .before .before .before .before in
-    let l = found .before .before .before .before .before .before .before .loop in
-    let start = found .before .before .before .before .before .before .before .before .before .before in
+    let l = found .before .before .before .before .before .before .loop in
+    let start = found .before .before .before .before .before .before .before .before .before in
     let f = start .pre .0 in
-    let e : l .t ≡ suc (l .t - 1) = omega (arith, found .before .before .before .before .before .before .loop-test .taken) in
+    let e : l .t ≡ suc (l .t - 1) = omega (arith, found .before .before .before .before .before .loop-test .taken) in
     let S = solving-next f (omega (arith, e, l .inv .1)) _ _ _ _ _ _ _ (rw e at (l .inv .2)) (found .before .before .step .ensures) (not-false _ (found .if1 .left)) in
     let R = c .before .before .before .before .before .from-lines .ensures in
     drawn-solved (solving-drawn (solving-redrawn S R)) (c .before .complete .ensures) (omega (arith, c .if4 .taken, l .inv .0))
@@ -107,10 +99,10 @@ loop-less c = search needs
 loop-again : tie.Need-loop-again Inv-loop μ-loop
 loop-again c =
     let found = c .before .before .before .before .before .before .before .before .before .before .before in
-    let l = found .before .before .before .before .before .before .before .loop in
-    let start = found .before .before .before .before .before .before .before .before .before .before in
+    let l = found .before .before .before .before .before .before .loop in
+    let start = found .before .before .before .before .before .before .before .before .before in
     let f = start .pre .0 in
-    let e : l .t ≡ suc (l .t - 1) = omega (arith, found .before .before .before .before .before .before .loop-test .taken) in
+    let e : l .t ≡ suc (l .t - 1) = omega (arith, found .before .before .before .before .before .loop-test .taken) in
     let S = solving-next f (omega (arith, e, l .inv .1)) _ _ _ _ _ _ _ (rw e at (l .inv .2)) (found .before .before .step .ensures) (not-false _ (found .if1 .left)) in
     let R = c .before .before .before .before .before .from-lines .ensures in
     (l .inv .0, omega arith, rw (c .before .complete .ensures .over (omega (arith, c .if4 .left, l .inv .0))) (solving-redrawn S R))
@@ -121,10 +113,10 @@ loop-less-2 c = search needs
 loop-again-2 : tie.Need-loop-again-2 Inv-loop μ-loop
 loop-again-2 c =
     let found = c .before .before .before .before .before .before .before in
-    let l = found .before .before .before .before .before .before .before .loop in
-    let start = found .before .before .before .before .before .before .before .before .before .before in
+    let l = found .before .before .before .before .before .before .loop in
+    let start = found .before .before .before .before .before .before .before .before .before in
     let f = start .pre .0 in
-    let e : l .t ≡ suc (l .t - 1) = omega (arith, found .before .before .before .before .before .before .loop-test .taken) in
+    let e : l .t ≡ suc (l .t - 1) = omega (arith, found .before .before .before .before .before .loop-test .taken) in
     let S = solving-next f (omega (arith, e, l .inv .1)) _ _ _ _ _ _ _ (rw e at (l .inv .2)) (found .before .before .step .ensures) (not-false _ (found .if1 .left)) in
     (l .inv .0, omega arith, solving-redrawn S (c .before .from-lines .ensures))
 
@@ -134,10 +126,10 @@ loop-less-3 c = search needs
 loop-again-3 : tie.Need-loop-again-3 Inv-loop μ-loop
 loop-again-3 c =
     let found = c .before .before .before in
-    let l = found .before .before .before .before .before .before .before .loop in
-    let start = found .before .before .before .before .before .before .before .before .before .before in
+    let l = found .before .before .before .before .before .before .loop in
+    let start = found .before .before .before .before .before .before .before .before .before in
     let f = start .pre .0 in
-    let e : l .t ≡ suc (l .t - 1) = omega (arith, found .before .before .before .before .before .before .loop-test .taken) in
+    let e : l .t ≡ suc (l .t - 1) = omega (arith, found .before .before .before .before .before .loop-test .taken) in
     let S = solving-next f (omega (arith, e, l .inv .1)) _ _ _ _ _ _ _ (rw e at (l .inv .2)) (found .before .before .step .ensures) (not-false _ (found .if1 .left)) in
     (l .inv .0, omega arith, S)
 
@@ -160,8 +152,6 @@ solve-by-degrees-spec =
     add-t
     loop-holds
     sub-t
-    mul-step
-    element-copy-out-step
     step-requires
     returns
     mul-w

@@ -35,7 +35,7 @@ decode-requires c κs =
     let A = c .before .before .before .before .before .before .answer .ensures in
     let row = leading-row f _ _ _ A (c .before .before .before .before .place-of-each .ensures) in
     let fits = line-full (start .args .t) f in
-    ((f .prime, f .reciprocal, f .rowPoints, f .rowsApart, f .rows, omega (arith, f .low), omega (arith, fits, f .full), row, λ r l. A .answered r l .entered .below), start .pre .6)
+    ((f .prime, f .reciprocal, f .rowPoints, f .rowsApart, f .rows, omega (arith, f .low), omega (arith, fits, f .full), row, λ r l. A .answered r l .entered .below), start .pre .5)
 
 returns : tie.Need-returns
 returns c =
@@ -44,24 +44,27 @@ returns c =
     let A = c .before .before .before .before .before .before .before .before .before .before .answer .ensures in
     stepped-none (c .before .before .before .before .before .before .before .before .before .before .before .before .before .pre .0) _ _ _ A leading (D .small) (D .strip) (not-true _ (c .if1 .taken)) _ _
 
+power-requires : tie.Need-power-requires
+power-requires c κs = let f = c .before .before .before .before .before .before .before .before .before .before .before .before .before .before .before .pre .0 in (f .reciprocal, f .columnPoints)
+
 subtract-requires : tie.Need-subtract-requires
 subtract-requires c κs =
-    let start = c .before .before .before .before .before .before .before .before .before .before .before .before .before .before .before in
+    let start = c .before .before .before .before .before .before .before .before .before .before .before .before .before .before .before .before .before in
     let f = start .pre .0 in
-    let values = c .before .before .before .before .before .decode .ensures .values (not-false _ (c .before .before .if1 .left)) in
-    (f, start .pre .2, result-row _ (positive f) values, result-row _ (positive f) (start .pre .5))
+    let values = c .before .before .before .before .before .before .before .decode .ensures .values (not-false _ (c .before .before .before .before .if1 .left)) in
+    (f, start .pre .2, result-row _ (positive f) values, result-row _ (positive f) (c .before .power .ensures))
 
 carry-requires : tie.Need-carry-requires
-carry-requires c κs = c .before .before .before .before .before .before .before .before .before .before .before .before .before .answer .ensures .size
+carry-requires c κs = c .before .before .before .before .before .before .before .before .before .before .before .before .before .before .before .answer .ensures .size
 
 returns-2 : tie.Need-returns-2
 returns-2 c =
-    let found = not-false _ (c .before .before .before .before .if1 .left) in
-    let D = c .before .before .before .before .before .before .before .decode .ensures in
-    let leading = c .before .before .before .before .before .before .before .before .before .before .before .before .place-of-each .ensures in
-    let A = c .before .before .before .before .before .before .before .before .before .before .before .before .before .before .answer .ensures in
-    let start = c .before .before .before .before .before .before .before .before .before .before .before .before .before .before .before .before .before in
-    stepped-found (start .pre .0) _ _ _ A leading (D .small) (D .strip) found (start .pre .3) (start .pre .2) (D .values found) (start .pre .5)
+    let found = not-false _ (c .before .before .before .before .before .before .if1 .left) in
+    let D = c .before .before .before .before .before .before .before .before .before .decode .ensures in
+    let leading = c .before .before .before .before .before .before .before .before .before .before .before .before .before .before .place-of-each .ensures in
+    let A = c .before .before .before .before .before .before .before .before .before .before .before .before .before .before .before .before .answer .ensures in
+    let start = c .before .before .before .before .before .before .before .before .before .before .before .before .before .before .before .before .before .before .before in
+    stepped-found (start .pre .0) _ _ _ A leading (D .small) (D .strip) found (start .pre .3) (start .pre .2) (D .values found) (c .before .before .before .power .ensures)
     (c .before .subtract .ensures) (c .carry .ensures)
 
 pub step-spec : {M : Type 1} → statement M
@@ -76,6 +79,7 @@ step-spec =
     sub-decode
     decode-requires
     returns
+    power-requires
     subtract-requires
     carry-requires
     returns-2)
