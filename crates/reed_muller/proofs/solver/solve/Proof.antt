@@ -34,7 +34,7 @@ solve-by-degrees-requires c κs =
     let start = c .before .before .before .before .before .before in
     let tried = c .before .before .if1 in
     let all =
-        ⊎-elim {C = tried .left ≡ start .args .left .now} (λ w. w .7 ∙ w .4 .ensures .over (omega (arith, w .6 .left, w .5 .ensures))) (λ w. w .1) (tried .came) in
+    ⊎-elim {C = tried .left ≡ start .args .left .now} (λ w. w .7 ∙ w .4 .ensures .over (omega (arith, w .6 .left, w .5 .ensures))) (λ w. w .1) (tried .came) in
     (start .pre .0, rw all (start .pre .1), start .pre .2, c .before .before .before .from-cells .ensures, start .pre .4)
 
 returns-2 : tie.Need-returns-2
@@ -42,7 +42,7 @@ returns-2 c =
     let start = c .before .before .before .before .before .before .before in
     let tried = c .before .before .before .if1 in
     let all =
-        ⊎-elim {C = tried .left ≡ start .args .left .now} (λ w. w .7 ∙ w .4 .ensures .over (omega (arith, w .6 .left, w .5 .ensures))) (λ w. w .1) (tried .came) in
+    ⊎-elim {C = tried .left ≡ start .args .left .now} (λ w. w .7 ∙ w .4 .ensures .over (omega (arith, w .6 .left, w .5 .ensures))) (λ w. w .1) (tried .came) in
     rw all at (c .solve-by-degrees .ensures)
 
 pub solve-spec : {M : Type 1} → statement M
