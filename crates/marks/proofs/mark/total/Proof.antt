@@ -39,6 +39,9 @@ loop-again c =
     let l = c .before .before .loop in
     (omega arith, refl, omega (arith, l .inv .2, sum-more (l .i) (at (c .before .before .before .args .doubts .now))), omega (arith, c .shared-slice-known .given (l .i)))
 
+cast-result : tie.Need-cast-result Inv-loop μ-loop
+cast-result c = search needs
+
 returns : tie.Need-returns Inv-loop μ-loop
 returns c = let l = c .before .loop in let e : l .i ≡ length (c .before .before .args .doubts .now) = omega arith in rw e at (l .inv .2)
 
@@ -55,4 +58,5 @@ total-spec =
     add-i
     loop-less
     loop-again
+    cast-result
     returns)
