@@ -17,7 +17,7 @@ use Rattle.field.specs.Congruence.{Cong}
 use Rattle.field.specs.Loop.{Upto, Passed}
 use Rattle.field.specs.Row.{row}
 use Rattle.field.proofs.Congruence.{same, below-eq, cancel, _⨾_}
-use Rattle.field.proofs.Row.{row-at, beyond}
+use Rattle.field.proofs.Row.{row-at, beyond, upto-row}
 use Rattle.definitions.specs.Cost.{unread, changed}
 use Rattle.records.proofs.Measured.{part-at, part-length}
 use Rattle.reed_muller.specs.Loops.{cells}
@@ -72,9 +72,20 @@ no-residues n r s h e = tab-is 16 (λ c. residue (squareCell n s r c)) (replicat
     let zero = getD-replicate {A = ℕ} 16 c 0 0 l in
     zero ∙ ap residue (sym zero ∙ row-is (squareCell n s r) (no-line n r s h e) c l)
 
--- the residues of a row
-pub residues-line : (f : ℕ → ℕ) {seen next : List ℕ} → seen ≡ row f → next ≡ row (λ j. residue (at seen j)) → next ≡ row (λ c. residue (f c))
-residues-line f e h = h ∙ tab-eq 16 λ i l. ap residue (row-is f e i l)
+-- the residues of some bytes, set in a row of zeros
+pub residues-set : (s : List ℕ) {l : List ℕ} → Passed 16 0 (λ j v. v ≡ 0) (λ j v. v ≡ residue (at s j)) l (length s) → l ≡ row (λ j. residue (at s j))
+residues-set s P = upto-row (record {
+  size = P .size;
+  done = λ j m. elim (decLt j (length s)) [
+    | yes k ↦ P .done j k
+    | no k ↦ let h : length s ≤ j = omega arith in P .todo j h m ∙ ap residue (sym (beyond s j h))
+  ];
+})
+
+-- the residues of row r, from its own part of the bytes
+pub residues-part : (n r : ℕ) (s : List ℕ) {l : List ℕ} → l ≡ row (λ j. residue (at (part n r s) j)) → r * n + n ≤ length s →
+    l ≡ row (λ c. residue (squareCell n s r c))
+residues-part n r s e h = e ∙ tab-eq 16 λ c m. ap residue (sym (row-at (at (part n r s)) c m) ∙ row-is (squareCell n s r) (part-line n r s refl h) c m)
 
 -- a row more of the changed cells, from its own part of the bytes
 pub changed-more : (n r : ℕ) (s : List ℕ) (left : List (List ℕ)) {k : ℕ} → r * n + n ≤ length s →

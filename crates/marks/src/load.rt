@@ -31,22 +31,25 @@ pub fn residues(symbols: [u16; 16]) -> [u16; 16]
     out
 }
 
-// Row r of the symbols of a square of n columns.
-fn line(bytes: &[u8], n: usize, r: usize) -> [u16; 16]
-    requires { ⌜ (n ≤ 16) × (r < n) × (length (now bytes) ≡ n * n) ⌝ }
-    ensures { λ l. ⌜ l ≡ rowOf (squareCell n (now (bytes .entry)) r) ⌝ }
-{
-    let at = r * n;
-    load::row(&bytes[at..at + n])
-}
-
-// Row r of the doubts.
+// Row r of the doubts of a square of n columns.
 fn doubt_line(bytes: &[u8], n: usize, r: usize) -> [u32; 16]
     requires { ⌜ (n ≤ 16) × (r < n) × (length (now bytes) ≡ n * n) ⌝ }
     ensures { λ l. ⌜ l ≡ rowOf (squareCell n (now (bytes .entry)) r) ⌝ }
 {
     let at = r * n;
     load::doubts(&bytes[at..at + n])
+}
+
+// At most sixteen symbols as residues, 0 beyond their end.
+fn residue_row(symbols: &[u8]) -> [u16; 16]
+    requires { ⌜ length (now symbols) ≤ 16 ⌝ }
+    ensures { λ r. ⌜ r ≡ rowOf (λ j. residue (at (now (symbols .entry)) j)) ⌝ }
+{
+    let mut out = [0u16; 16];
+    for i in 0..symbols.len() {
+        out[i] = symbol_residue(symbols[i] as u16);
+    }
+    out
 }
 
 // The symbols of a square as residues.
@@ -57,8 +60,8 @@ pub fn residue_rows(symbols: &[u8], n: usize) -> [[u16; 16]; 16]
     let mut rows = [[0u16; 16]; 16];
     let mut r = 0;
     while r < n {
-        let seen = line(symbols, n, r);
-        let next = residues(seen);
+        let at = r * n;
+        let next = residue_row(&symbols[at..at + n]);
         rows[r] = next;
         r += 1;
     }

@@ -1,5 +1,5 @@
 -- `marks::load::residue_rows` meets its contract: the rows before r are set. Assumes nothing.
-use mathlib.Core.Path.{_≡_, refl}
+use mathlib.Core.Path.{_≡_}
 use mathlib.Core.List.{[]}
 use Prim.Native.Nat.{_-_, _≤_}
 use native.Mathlib.Omega.{arith}
@@ -7,8 +7,9 @@ use lib.ListN.{replicate}
 use Rattle.field.specs.Loop.{Passed}
 use Rattle.field.specs.Row.{row}
 use Rattle.field.proofs.Loop.{passed-step}
+use Rattle.records.proofs.Square.{row-in}
 use Rattle.marks.specs.Loading.{residue, squareCell}
-use Rattle.marks.proofs.Square.{passed-zeros, passed-rest, no-residues, residues-line}
+use Rattle.marks.proofs.Square.{product-small, passed-zeros, passed-rest, no-residues, residues-part}
 use borrow.Author.Needs.{needs}
 use Rattle.marks.proofs.load.residue_rows.Statement.{statement}
 use Rattle.marks.proofs.load.residue_rows.Tie as tie
@@ -23,11 +24,23 @@ abbrev μ-loop : tie.MeasureT-loop
 loop-holds : tie.Need-loop-holds Inv-loop μ-loop
 loop-holds c = (omega arith, passed-zeros)
 
-line-requires : tie.Need-line-requires Inv-loop μ-loop
-line-requires c κs = search needs
+mul-at : tie.Need-mul-at Inv-loop μ-loop
+mul-at c = let b = c .before .before .before .pre in omega (arith, product-small (b .0) (c .loop-test .taken))
 
-residues-requires : tie.Need-residues-requires Inv-loop μ-loop
-residues-requires c κs = search needs
+add-residue-row : tie.Need-add-residue-row Inv-loop μ-loop
+add-residue-row c = let b = c .before .before .before .pre in omega (arith, b .0, product-small (b .0) (c .loop-test .taken))
+
+sub-residue-row : tie.Need-sub-residue-row Inv-loop μ-loop
+sub-residue-row c = search needs
+
+part-residue-row-start : tie.Need-part-residue-row-start Inv-loop μ-loop
+part-residue-row-start c = search needs
+
+part-residue-row-end : tie.Need-part-residue-row-end Inv-loop μ-loop
+part-residue-row-end c = omega (arith, c .before .before .before .pre .1, row-in _ _ (c .loop-test .taken))
+
+residue-row-requires : tie.Need-residue-row-requires Inv-loop μ-loop
+residue-row-requires c κs = search needs
 
 mul-rows : tie.Need-mul-rows Inv-loop μ-loop
 mul-rows c = search needs
@@ -42,7 +55,13 @@ loop-less : tie.Need-loop-less Inv-loop μ-loop
 loop-less c = search needs
 
 loop-again : tie.Need-loop-again Inv-loop μ-loop
-loop-again c = (omega arith, passed-step _ (omega (arith, c .before .before .before .before .before .pre .0)) (residues-line _ (c .before .line .ensures) (c .residues .ensures)) (c .before .before .before .loop .inv .1))
+loop-again c =
+    let here = c .before .before in
+    let l = here .before .loop in
+    let start = here .before .before .before in
+    let inside = row-in (l .r) (start .args .n) (here .loop-test .taken) in
+    let residues = residues-part (start .args .n) (l .r) (start .args .symbols .now) (c .residue-row .ensures) (omega (arith, start .pre .1, inside)) in
+    (omega arith, passed-step _ (omega (arith, start .pre .0)) residues (l .inv .1))
 
 returns : tie.Need-returns Inv-loop μ-loop
 returns c =
@@ -57,8 +76,12 @@ residue-rows-spec =
     Inv-loop
     μ-loop
     loop-holds
-    line-requires
-    residues-requires
+    mul-at
+    add-residue-row
+    sub-residue-row
+    part-residue-row-start
+    part-residue-row-end
+    residue-row-requires
     mul-rows
     array-set-from-rows
     add-r
