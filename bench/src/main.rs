@@ -6,11 +6,11 @@
 //! - `bench profile P N D KIND COUNT` runs the library alone, on COUNT marks of one line, for a profiler. KIND is clean,
 //!   errors, doubts, rivals or noise for reading such marks, or write or measure.
 //!
-//! Each line of the table is a plan and a stream: the median microseconds of a call by the library, by the port with
-//! division (`plain`), by the port with the reciprocal (`tuned`) and by the tests' decoder (`equations`); how many times
-//! the library's time the others take; and of the marks that the library reads the slowest, by the least of several
-//! rounds, with how many of the plan's clean marks it lasts. Absolute times move with the machine; compare those of one
-//! run.
+//! Each line of the table is a plan and a stream: the microseconds of the median mark, each mark by its least time of
+//! several rounds, by the library, by the port with division (`plain`), by the port with the reciprocal (`tuned`) and by
+//! the tests' decoder (`equations`); how many times the library's time the others take; and the slowest of the marks that
+//! the library reads, with how many of the plan's clean marks it lasts. Absolute times move with the machine; compare
+//! those of one run.
 
 mod check;
 mod contender;

@@ -6,24 +6,23 @@ use std::hint::black_box;
 use std::time::{Duration, Instant};
 
 /// How often a stream is gone through after the round that warms up.
-const ROUNDS: usize = 5;
+const ROUNDS: usize = 9;
 
-/// The times of one contender's calls.
+/// The times of one contender's calls: of each mark the least over the rounds, so that what interrupted the process or
+/// slowed the machine down for a while is not in it.
 pub struct Times {
-    all: Vec<Duration>,
-    /// the least of each mark over the rounds: what interrupted the process is not in it
     least: Vec<Duration>,
 }
 
 impl Times {
     fn new(marks: usize) -> Times {
-        Times { all: Vec::with_capacity(marks * ROUNDS), least: vec![Duration::MAX; marks] }
+        Times { least: vec![Duration::MAX; marks] }
     }
 
-    /// The median in microseconds.
+    /// The median mark in microseconds.
     pub fn median(&mut self) -> f64 {
-        let middle = self.all.len() / 2;
-        microseconds(*self.all.select_nth_unstable(middle).1)
+        let middle = self.least.len() / 2;
+        microseconds(*self.least.select_nth_unstable(middle).1)
     }
 
     /// The slowest mark in microseconds.
@@ -42,7 +41,6 @@ pub fn times<const N: usize>(contenders: [&Contender; N], marks: &[Mark], call: 
             for (mark, least) in stream.iter().zip(&mut times.least) {
                 let time = time(contender, mark, call);
                 if round > 0 {
-                    times.all.push(time);
                     *least = time.min(*least);
                 }
             }
