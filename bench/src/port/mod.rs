@@ -2,14 +2,14 @@
 //!
 //! The three calls take the same bytes as those of `traymark`, make the same checks and give the same answers. Below
 //! them the layers are those of the library: numbers modulo p (`field`), polynomials (`polynomial`), the strip decoder
-//! (`order`, `newton`, `interpolation`, `strip`), the mark decoder (`guess`, `steps`), the mark reader (`mark`). Nothing
+//! (`order`, `newton`, `interpolation`, `strip`), the mark decoder (`draft`, `steps`), the mark reader (`mark`). Nothing
 //! is allocated.
 //!
 //! All is generic over how a number is taken modulo p: by division (`Plain`) or with a reciprocal (`Tuned`).
 
 mod checks;
+mod draft;
 mod field;
-mod guess;
 mod interpolation;
 mod mark;
 mod newton;

@@ -2,8 +2,8 @@
 //! draft of all columns, or of those that remain, is tried before: at most one record is under the radius, so what is
 //! under it is the answer.
 
+use super::draft;
 use super::field::{Inverses, Reduction, Row, Square};
-use super::guess;
 use super::plan::{Plan, FULL};
 use super::polynomial::Powers;
 use super::strip::{Answer, Strip};
@@ -24,7 +24,7 @@ impl<R: Reduction> Steps<'_, R> {
     /// Puts in the columns of the record under the radius, which are subtracted, and returns its cost.
     pub fn solve(&mut self, columns: &mut Square) -> Option<u32> {
         let columns = &mut columns[..=self.plan.degree];
-        if guess::from_cells(self.plan, self.inverses, self.left, columns) {
+        if draft::from_cells(self.plan, self.inverses, self.left, columns) {
             if let Some(cost) = self.try_draft(columns) {
                 return Some(cost);
             }
@@ -39,7 +39,7 @@ impl<R: Reduction> Steps<'_, R> {
         for t in (0..columns.len()).rev() {
             columns[t] = self.step(t, &mut lines)?;
             let columns = &mut columns[..t];
-            if t > 0 && !is_drafted && guess::from_lines(self.plan, self.inverses, &lines, columns) {
+            if t > 0 && !is_drafted && draft::from_lines(self.plan, self.inverses, &lines, columns) {
                 is_drafted = true;
                 if let Some(cost) = self.try_draft(columns) {
                     return Some(cost);
