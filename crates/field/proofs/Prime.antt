@@ -1,6 +1,7 @@
--- A prime modulus has no divisors of zero (Euclid's lemma, by descent), its residues are cancelled and have one inverse each; the test says what is prime. Assumes nothing.
+-- A prime modulus has no divisors of zero (Euclid's lemma, by descent), how inverses are made from one another, and what the test of
+-- primality says. Assumes nothing.
 use mathlib.Core.Logic.{_≢_}
-use mathlib.Core.Path.{_≡_, refl, sym, ap, _∙_}
+use mathlib.Core.Path.{_≡_, refl, ap, _∙_}
 use mathlib.Core.Bool.{Bool, true, false, not, _&&_, false≢true}
 use Prim.Native.Nat.{ℕ, zero, suc, _+_, _*_, _-_, _/_, _%_, _≤_, _<_}
 use native.Mathlib.Omega.{arith}
@@ -11,7 +12,7 @@ use borrow.Author.Tests.{eqb-false, ne-eqb, le-leb, leb-true}
 use Rattle.bounded.proofs.Any.{any-none, none-any}
 use Rattle.field.specs.Congruence.{Cong}
 use Rattle.field.specs.Prime.{divided, isPrime, Prime, Inverse}
-use Rattle.field.proofs.Congruence.{same, ~sym, _⨾_, ~add, ~mul, ~mul-right, less, rest, remainder, below-eq, difference, to-mod, of-mod, mod-cong, cong-mod}
+use Rattle.field.proofs.Congruence.{same, ~sym, _⨾_, ~mul, ~mul-right, less, rest, remainder, below-eq, difference, mod-cong, cong-mod}
 
 -- no number from 2 below m divides p
 abbrev pub Alone : (p m : ℕ) → Type 0
@@ -126,23 +127,6 @@ module _ {q : ℕ} (prime : Prime (suc q)) where
     | no e ↦ euclid (suc q) (b % suc q) a (omega (arith, mod-lt b {m = suc q} (omega arith))) (omega arith) (mod-lt b (omega arith)) (same (omega arith) ⨾ ~mul a (remainder b) ⨾ z)
   ]
 
-  pub no-zero-divisors : (a b : ℕ) → ¬ (Cong q a 0) → ¬ (Cong q b 0) → ¬ (Cong q (a * b) 0)
-  no-zero-divisors a b na nb z = na (divide-out a b nb z)
-
-  -- a common factor is cancelled
-  pub cancel-factor : (a b c : ℕ) → ¬ (Cong q c 0) → Cong q (a * c) (b * c) → Cong q a b
-  cancel-factor a b c nz h = difference a b (divide-out (a + q * b) c nz (same (omega arith) ⨾ ~add h (same {a = q * (b * c)} refl) ⨾ less (b * c) (omega arith)))
-
   -- the difference of two unlike residues is no divisor of zero
   pub apart : (a b m : ℕ) → a < suc q → b < suc q → a ≢ b → Cong q ((a + q * b) * m) 0 → Cong q m 0
   apart a b m i l n z = divide-out m (a + q * b) (λ k. n (below-eq i l (difference a b k))) (same (omega arith) ⨾ z)
-
-  -- an inverse is the only one
-  pub inverse-one : {a r s : ℕ} → Inverse (suc q) a r → Inverse (suc q) a s → r ≡ s
-  inverse-one {a} {r} {s} i j = below-eq (i .below) (j .below) (cancel-factor r s a nz (of-mod (r * a) (s * a) (i .one ∙ sym (j .one))))
-    where
-      nz : ¬ (Cong q a 0)
-      nz z = false-one (to-mod (~mul r z))
-        where
-          false-one : r * a % suc q ≡ r * 0 % suc q → ⊥
-          false-one e = let z : r * 0 ≡ 0 = omega arith in omega (arith, i .one, e, ap (λ t. t % suc q) z, zero-mod (suc q))

@@ -4,7 +4,6 @@ pub mod Roots
 pub mod Eval
 pub mod Record
 pub mod Points
-pub mod Newton
 pub mod Coefficients
 pub mod Grid
 pub mod Powers
