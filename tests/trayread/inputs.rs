@@ -19,6 +19,8 @@ pub struct Input {
 pub fn inputs() -> Vec<Input> {
     let mut inputs = documented();
     inputs.extend(lengths());
+    inputs.extend(counts());
+    inputs.extend(all_lengths());
     inputs.extend(unsound());
     inputs.extend(photographs());
     inputs.extend(rubbish());
@@ -101,6 +103,48 @@ fn lengths() -> Vec<Input> {
         printed: printed.to_string(),
     };
     short.into_iter().chain(long).map(said).collect()
+}
+
+/// A mark of 1, 3 and 16 points each way with one byte less than it has, one more and 5,000 more.
+fn counts() -> Vec<Input> {
+    let mut inputs = Vec::new();
+    for shape in [(251, 1, 0), (251, 3, 1), (251, 16, 7)] {
+        let good = unharmed(shape);
+        for length in [good.len() - 1, good.len() + 1, good.len() + 5_000] {
+            let mut bytes = good.clone();
+            bytes.resize(length, 0);
+            let name = format!("{shape:?}, {length} bytes for {}", good.len());
+            inputs.push(Input { name, bytes, pieces: 1, printed: "REFUSED 6\n".to_string() });
+        }
+        inputs.push(input(format!("{shape:?}, as many bytes as it has"), good));
+    }
+    inputs
+}
+
+/// The first bytes of a mark of 16 by 16 cells and zeros after it, every number of them from 0 to 600.
+fn all_lengths() -> Vec<Input> {
+    let good = unharmed((251, 16, 15));
+    let printed = |length: usize| match length {
+        0..24 => "REFUSED 1\n".to_string(),
+        536 => printed(&good),
+        _ => "REFUSED 6\n".to_string(),
+    };
+    let mut bytes = good.clone();
+    bytes.resize(600, 0);
+    let first = |length: usize| Input {
+        name: format!("{length} bytes of 16 by 16 cells"),
+        bytes: bytes[..length].to_vec(),
+        pieces: 1,
+        printed: printed(length),
+    };
+    (0..=600).map(first).collect()
+}
+
+/// A plan of that shape and a mark of it without a fault.
+fn unharmed(shape: (u32, usize, usize)) -> Vec<u8> {
+    let random = &mut Random::new(500);
+    let plan = plans::plan(shape, random);
+    photographed(&plan, 0, random)
 }
 
 /// Case c with one byte changed, alone, cut after the plan, and with much after it: the plan's number whatever follows.

@@ -1,7 +1,9 @@
-//! Runs the program `trayread` over some hundred inputs, good and bad, and compares what it prints byte for byte.
+//! Runs the program `trayread` over some hundred inputs, good and bad, and compares what it prints byte for byte; then
+//! looks at how it writes, what it says to arguments and what where it can't write.
 //!
 //! `program PATH`, where PATH is the program. A failure names the input; inputs are the same in every run.
 
+mod conduct;
 mod inputs;
 mod printed;
 
@@ -23,12 +25,16 @@ fn main() -> ExitCode {
             return ExitCode::FAILURE;
         }
     }
+    if let Err(what) = behaves(&program, &inputs) {
+        println!("program: FAILED: {what}");
+        return ExitCode::FAILURE;
+    }
     println!("program: ok: {} inputs", inputs.len());
     ExitCode::SUCCESS
 }
 
 fn compare(program: &str, input: &Input) -> Result<(), String> {
-    let output = run(program, input).map_err(|error| format!("{program}: {error}"))?;
+    let output = run(program, input, Stdio::piped()).map_err(|error| format!("{program}: {error}"))?;
     let right = output.status.success() && output.stderr.is_empty() && output.stdout == input.printed.as_bytes();
     if !right {
         return Err(format!("{output:?}, expected {:?}", input.printed));
@@ -36,10 +42,30 @@ fn compare(program: &str, input: &Input) -> Result<(), String> {
     Ok(())
 }
 
+/// The shortest and the longest answer in one write each; arguments; a device that is full.
+fn behaves(program: &str, inputs: &[Input]) -> Result<(), String> {
+    let longest = inputs.iter().max_by_key(|input| input.printed.len()).expect("there are inputs");
+    let shortest = inputs.iter().min_by_key(|input| input.printed.len()).expect("there are inputs");
+    for input in [shortest, longest] {
+        told("an answer in one write", conduct::in_one_write(program, input))?;
+        told("a write that fails", conduct::tells_of_a_failed_write(program, input))?;
+    }
+    for argument in ["--help", "-h", "input", ""] {
+        told(&format!("the argument {argument:?}"), conduct::tells_its_usage(program, argument))?;
+    }
+    Ok(())
+}
+
+fn told(what: &str, right: std::io::Result<bool>) -> Result<(), String> {
+    match right {
+        Ok(true) => Ok(()),
+        other => Err(format!("{what}: {other:?}")),
+    }
+}
+
 /// Runs the program with the input, handed over in as many pieces.
-fn run(program: &str, input: &Input) -> std::io::Result<Output> {
-    let mut child =
-        Command::new(program).stdin(Stdio::piped()).stdout(Stdio::piped()).stderr(Stdio::piped()).spawn()?;
+fn run(program: &str, input: &Input, stdout: Stdio) -> std::io::Result<Output> {
+    let mut child = Command::new(program).stdin(Stdio::piped()).stdout(stdout).stderr(Stdio::piped()).spawn()?;
     let mut stdin = child.stdin.take().expect("it is piped");
     for piece in input.bytes.chunks(input.bytes.len().div_ceil(input.pieces).max(1)) {
         // an answer may come before all was read
