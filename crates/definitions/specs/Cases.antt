@@ -7,7 +7,7 @@
 use mathlib.Core.List.{List, [], _∷_, _++_}
 use Prim.Native.Nat.{ℕ}
 use lib.IntN.{pos}
-use lib.ListN.{replicate, drop}
+use lib.ListN.{replicate, drop, set}
 use Rattle.bounded.specs.Bounded.{any, tab}
 use Rattle.field.specs.Prime.{isPrime}
 use Rattle.definitions.specs.declared.Reading.{Reading}
@@ -110,7 +110,8 @@ cases =
     ∷ (check (plan 7 3 1 1 1 4) ⟹ refused 5 leaving [])
     ∷ []
 
--- not of the table: a strip written and read, a plan with several faults at once, a record of total degree 2 at the corners
+-- not of the table: a strip written and read, a plan with several faults at once, a record of total degree 2 at the corners; each of
+-- the bytes 21 to 23 filled; symbol and doubt wrong at once, doubt and coefficient wrong at once
 abbrev pub moreCases : List Case
 moreCases =
     (write strip planA (3 ∷ 1 ∷ []) (nines 3) ⟹ refused 0 leaving 4 ∷ 5 ∷ 0 ∷ [])
@@ -119,4 +120,9 @@ moreCases =
     ∷ (write square planA (3 ∷ 1 ∷ 7 ∷ []) (nines 8) ⟹ refused 6 leaving nines 8)
     ∷ (write square planA (3 ∷ 1 ∷ 7 ∷ []) (nines 9) ⟹ refused 9 leaving nines 9)
     ∷ (write square (plan 5 3 2 0 1 2) (1 ∷ 0 ∷ 0 ∷ 2 ∷ 3 ∷ 4 ∷ []) (nines 9) ⟹ refused 0 leaving 1 ∷ 0 ∷ 2 ∷ 3 ∷ 0 ∷ 0 ∷ 4 ∷ 4 ∷ 2 ∷ [])
+    ∷ (check (set planA 21 1) ⟹ refused 1 leaving [])
+    ∷ (check (set planA 22 1) ⟹ refused 1 leaving [])
+    ∷ (check (set planA 23 1) ⟹ refused 1 leaving [])
+    ∷ (read square planA (7 ∷ drop 1 mark₁) (101 ∷ sure 8) (nines 3) ⟹ refused 7 leaving nines 3)
+    ∷ (measure square planA mark₁ (101 ∷ sure 8) (3 ∷ 1 ∷ 7 ∷ []) ⟹ refused 8 leaving 3 ∷ 1 ∷ 7 ∷ [])
     ∷ []
