@@ -15,8 +15,9 @@ use Rattle.definitions.specs.Refusals.{first}
 use Rattle.definitions.specs.Plan.{checkNumber, planRows}
 use Rattle.definitions.specs.Code.{Code, strip, square, valueX, valueXY, mark}
 use Rattle.definitions.specs.Cost.{margin}
+use Rattle.definitions.specs.Photograph.{sure}
 use Rattle.definitions.specs.Search.{search, firstOf}
-use Rattle.definitions.specs.Calls.{refused, photoRows, readingOf, writeRows, writeNumber, writeBuffer, measureRows, measureNumber, measureReading, within, nearest, readNumber, readReading, readBuffer}
+use Rattle.definitions.specs.Calls.{refused, photoRows, readingOf, writeRows, writeNumber, writeBuffer, measureRows, measureNumber, measureReading, within, nearest, readRows, readNumber, readReading, readBuffer}
 
 pub data Call : Type 0 where
   check : (P : List ℕ) → Call
@@ -35,7 +36,7 @@ pub data Case : Type 0 where
 -- whoever unfolds this computes with all that it names
 unfoldable pub outcome : Call → Outcome
 unfolding any tab first isPrime checkNumber planRows valueX valueXY mark margin search firstOf photoRows readingOf
-    writeRows writeNumber writeBuffer measureRows measureNumber measureReading within nearest readNumber readReading readBuffer
+    writeRows writeNumber writeBuffer measureRows measureNumber measureReading within nearest readRows readNumber readReading readBuffer
 outcome (check P) = refused (checkNumber P) leaving []
 outcome (write C P F B) = refused (writeNumber C P F B) leaving writeBuffer C P F B
 outcome (measure C P s u F) = measureReading C P s u F leaving F
@@ -77,10 +78,7 @@ photoC = 0 ∷ 1 ∷ 5 ∷ 0 ∷ 2 ∷ 6 ∷ 2 ∷ 4 ∷ 0 ∷ []
 abbrev photoD : List ℕ
 photoD = 0 ∷ 0 ∷ 0 ∷ drop 3 mark₁
 
--- doubts 0; the mark with its first k cells unread, and its doubts; a buffer of 9s, so that "unchanged" is seen
-abbrev pub sure : ℕ → List ℕ
-sure n = replicate n 0
-
+-- the mark with its first k cells unread, and its doubts; a buffer of 9s, so that "unchanged" is seen
 abbrev hidden : ℕ → List ℕ
 hidden k = replicate k 255 ++ drop k mark₁
 
