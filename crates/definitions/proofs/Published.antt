@@ -1,12 +1,18 @@
--- A cost is the published distance times twice the full doubt. Assumes nothing.
+-- A cost is the published distance times twice the full doubt; for a photograph and any record, 200 times. Assumes nothing.
 use mathlib.Core.Path.{_≡_, refl, ap}
 use mathlib.Core.Bool.{Bool, true, false, cond}
+use mathlib.Core.List.{List}
 use Prim.Native.Nat.{ℕ, zero, suc, _+_, _*_, _-_, _≤_, _<_}
 use native.Mathlib.Omega.{arith}
 use native.Mathlib.Nat.{mul-le-mul}
 use lib.Dec.{eqb}
-use Rattle.definitions.specs.Cost.{cell, cost}
+use Rattle.bounded.specs.Bounded.{at}
+use Rattle.definitions.specs.Code.{Code, cells, value}
+use Rattle.definitions.specs.Cost.{full, cell, cost, margin}
 use Rattle.definitions.specs.Published.{Fraction, _over_, _⊕_, half, oneLess, _is_times_, Δ, distance, weighted}
+use Rattle.definitions.specs.Calls.{readingOf}
+use Rattle.definitions.specs.Photograph.{Photograph}
+use Rattle.definitions.specs.Demands.{Weighed}
 
 -- a cell's distance is its cost over twice the full doubt
 cell-published : (f s u v : ℕ) → Δ (s, u over f) v ≡ cell f s u v over (2 * f)
@@ -24,3 +30,11 @@ pub cost-published : (f n : ℕ) (s u v : ℕ → ℕ) → 0 < f → cost f n s 
 cost-published f zero s u v z = (omega arith, omega arith)
 cost-published f (suc n) s u v z =
     rw (cell-published f (s n) (u n) (v n)) (times-more (2 * f) (cost f n s u v) (cell f (s n) (u n) (v n)) (distance n (weighted f s u) v) (omega arith) (cost-published f n s u v z))
+
+pub photo-weighed : (C : Code) (P s u F : List ℕ) → Photograph C P s u → Weighed C P s u F (readingOf C P s u F)
+unfolding readingOf margin
+photo-weighed C P s u F h = record {
+  uncertain = λ c l. (omega arith, h .doubt c l);
+  cost = cost-published full (cells C P) (at s) (at u) (value C P F) (omega arith);
+  margin = refl;
+}

@@ -4,7 +4,6 @@
 --   zeros, filled-no  the same of a stretch of bytes that are 0
 use mathlib.Core.Path.{_≡_, sym, ap}
 use mathlib.Core.Bool.{true, false}
-use mathlib.Core.Logic.{_↔_}
 use mathlib.Core.List.{List}
 use Prim.Native.Nat.{ℕ, _+_, _-_, _≤_, _<_}
 use native.Mathlib.Omega.{arith}
@@ -77,6 +76,3 @@ checked P S = sym (check-at P 11 (
     unused i l m =
         let e : 5 + (i - 5) ≡ i = omega arith in
         omega (arith, S .unused (i - 5) (omega arith) (omega (arith, S .most)), ap (at P) e)
-
-pub sound-exactly : (P : List ℕ) → Sound P ↔ (checkNumber P ≡ 0)
-sound-exactly P = (checked P, sound P)
