@@ -1,5 +1,5 @@
--- What a measuring, a reading and a writing that are not refused know of their arguments; and the number of a call that stops at a test. Assumes
--- nothing.
+-- What a measuring, a reading and a writing that are not refused know of their arguments; and the number of a call that stops at
+-- a test. Assumes nothing.
 use mathlib.Core.Path.{_≡_, refl, sym, _∙_}
 use mathlib.Core.Bool.{false}
 use mathlib.Core.List.{List, [], _∷_}
@@ -10,7 +10,9 @@ use Rattle.bounded.proofs.Any.{any-none, none-any}
 use Rattle.definitions.specs.Refusals.{Row, _when_, first}
 use Rattle.definitions.specs.Plan.{planRows, checkNumber}
 use Rattle.definitions.specs.Code.{Code, size, cells}
-use Rattle.definitions.specs.Calls.{lengthRow, strange, excessive, halfRead, overflowing, recordRow, photoRows, writeRows, writeNumber, measureRows, measureNumber, nearest, missing, readRows, readNumber}
+use Rattle.definitions.specs.Calls.{lengthRow, strange, excessive, halfRead, overflowing, recordRow, photoRows}
+use Rattle.definitions.specs.Calls.{writeRows, writeNumber, measureRows, measureNumber}
+use Rattle.definitions.specs.Calls.{nearest, missing, readRows, readNumber}
 use Rattle.definitions.specs.Word.{IsRecord}
 use Rattle.definitions.specs.Sound.{Sound}
 use Rattle.definitions.specs.Photograph.{Photograph}

@@ -1,5 +1,5 @@
--- Every margin that a mark's call returns is from -49,600 to 25,600, and both ends are reached, by marks of the largest side. Assumes
--- nothing.
+-- Every margin that a mark's call returns is from -49,600 to 25,600, and both ends are reached, by marks of the largest side.
+-- Assumes nothing.
 --
 --   in-range                      from the two numbers whose difference the margin is
 --   measured-range, read-range    the margins of the calls
@@ -21,7 +21,8 @@ use Rattle.definitions.specs.Refusals.{accepted}
 use Rattle.definitions.specs.Plan.{side, degree}
 use Rattle.definitions.specs.Code.{square, cells, value}
 use Rattle.definitions.specs.Cost.{full, cell, radius, margin}
-use Rattle.definitions.specs.Calls.{refused, costOf, readingOf, nearest, the, measureNumber, measureReading, readNumber, readReading}
+use Rattle.definitions.specs.Calls.{refused, costOf, readingOf, nearest, the}
+use Rattle.definitions.specs.Calls.{measureNumber, measureReading, readNumber, readReading}
 use Rattle.definitions.specs.Cases.{outcome}
 use Rattle.definitions.specs.Photograph.{Photograph, sure}
 use Rattle.definitions.specs.Demands.{InRange, Reached}
@@ -46,7 +47,11 @@ cell-most f s u v h = go (eqb s v)
 
 module _ (P s u : List ℕ) (h : Photograph square P s u) where
   cost-most : (F : List ℕ) → costOf square P s u F ≤ side P * side P * 200
-  cost-most F = omega (arith, sum-le (cells square P) (λ c l. cell-most full (at s c) (at u c) (value square P F c) (h .doubt c l)), sum-const (cells square P) 200)
+  cost-most F = omega (
+    arith,
+    sum-le (cells square P) (λ c l. cell-most full (at s c) (at u c) (value square P F c) (h .doubt c l)),
+    sum-const (cells square P) 200,
+  )
 
   photo-range : (F : List ℕ) → InRange (readingOf square P s u F .margin)
   unfolding readingOf
@@ -54,7 +59,8 @@ module _ (P s u : List ℕ) (h : Photograph square P s u) where
       let S = sound P (h .sound) in
       let n : side P * side P ≤ 16 * side P = mul-le-mul-right (side P) (S .most) in
       let k : side P * 1 ≤ side P * (side P - degree P) = mul-le-mul-left (side P) (omega (arith, S .low)) in
-      let m : side P * (side P - degree P) ≤ 16 * 16 = mul-le-mul {m₁ = side P - degree P} {m₂ = 16} (S .most) (omega (arith, S .most)) in
+      let r : side P - degree P ≤ 16 = omega (arith, S .most) in
+      let m : side P * (side P - degree P) ≤ 16 * 16 = mul-le-mul (S .most) r in
       in-range (radius full square P) (costOf square P s u F) (omega arith) (omega (arith, cost-most F, S .most))
 
 -- a refusal has the margin 0
@@ -64,11 +70,13 @@ accepted-range (suc k) r h = (leZ-yes tt, leZ-yes tt)
 
 pub measured-range : (P s u F : List ℕ) → InRange (measureReading square P s u F .margin)
 unfolding measureReading
-measured-range P s u F = accepted-range (measureNumber square P s u F) _ λ e. photo-range P s u (accepted-measuring square P s u F e .1) F
+measured-range P s u F = accepted-range (measureNumber square P s u F) _ λ e.
+    photo-range P s u (accepted-measuring square P s u F e .1) F
 
 pub read-range : (P s u B : List ℕ) → InRange (readReading square P s u B .margin)
 unfolding readReading
-read-range P s u B = accepted-range (readNumber square P s u B) _ λ e. photo-range P s u (accepted-reading square P s u B e) (the (nearest square P s u))
+read-range P s u B = accepted-range (readNumber square P s u B) _ λ e.
+    photo-range P s u (accepted-reading square P s u B e) (the (nearest square P s u))
 
 -- a plan of sixteen points and the degree d, and its records of zeros, whose values are 0
 widest : ℕ → List ℕ

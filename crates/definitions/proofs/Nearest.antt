@@ -11,7 +11,8 @@ use Rattle.definitions.specs.Refusals.{Row, _when_, first, accepted}
 use Rattle.definitions.specs.Plan.{modulus, planRows}
 use Rattle.definitions.specs.Code.{Code, size}
 use Rattle.definitions.specs.Cost.{full, radius}
-use Rattle.definitions.specs.Calls.{photoRows, refused, costOf, readingOf, within, nearest, missing, the, readRows, readNumber, readReading, readBuffer}
+use Rattle.definitions.specs.Calls.{photoRows, refused, costOf, readingOf, within, nearest, missing, the}
+use Rattle.definitions.specs.Calls.{readRows, readNumber, readReading, readBuffer}
 use Rattle.definitions.specs.Word.{IsRecord}
 use Rattle.definitions.specs.Reads.{Reads}
 use Rattle.definitions.proofs.Refusals.{first-append}

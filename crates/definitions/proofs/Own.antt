@@ -1,22 +1,22 @@
 -- A record against its own mark with all doubts 0: the mark is a photograph of the plan, and the record costs 0 with no cell changed. So
 -- demand 2 follows from demand 3. Assumes nothing.
-use mathlib.Core.Path.{_≡_, refl, sym, ap, _∙_}
-use mathlib.Core.Logic.{_⊎_, inl}
+use mathlib.Core.Path.{_≡_, refl, ap, _∙_}
+use mathlib.Core.Logic.{inl}
 use mathlib.Core.Bool.{true, cond}
 use mathlib.Core.List.{List}
-use Prim.Native.Nat.{ℕ, zero, suc, _*_, _-_, _%_, _≤_, _<_}
+use Prim.Native.Nat.{ℕ, zero, suc, _-_, _<_}
 use native.Mathlib.Omega.{arith}
 use native.Mathlib.Nat.{add-zero, mod-lt, mul-le-mul}
 use lib.Dec.{eqb}
 use lib.IntN.{pos}
 use lib.ListN.{length, replicate}
 use borrow.Author.Tests.{eq-eqb}
-use Rattle.bounded.specs.Bounded.{at, sum, tab}
+use Rattle.bounded.specs.Bounded.{at, sum}
 use Rattle.bounded.proofs.Sum.{sum-eq, sum-const}
 use Rattle.bounded.proofs.Tab.{length-tab, tab-at}
 use Rattle.definitions.specs.Plan.{modulus, side, degree}
-use Rattle.definitions.specs.Code.{Code, strip, square, valueX, valueXY, size, cells, value, mark}
-use Rattle.definitions.specs.Cost.{full, unread, cell, radius, margin}
+use Rattle.definitions.specs.Code.{Code, strip, square, valueX, valueXY, cells, value, mark}
+use Rattle.definitions.specs.Cost.{full, cell, radius, margin}
 use Rattle.definitions.specs.Calls.{costOf, changedOf, readingOf, readReading, readBuffer}
 use Rattle.definitions.specs.Word.{IsRecord}
 use Rattle.definitions.specs.Sound.{Sound}
@@ -42,8 +42,11 @@ module _ (C : Code) (P F : List ℕ) where
   equal c l = eq-eqb _ _ (mark-at c l)
 
   pub own-cost : costOf C P (mark C P F) (sure (cells C P)) F ≡ 0
-  own-cost = sum-eq (cells C P) {g = λ c. 0} (λ c l. ap (λ b. cond b (at (sure (cells C P)) c) (2 * full - at (sure (cells C P)) c)) (equal c l) ∙ zeros-at (cells C P) c) ∙ none (cells C P)
+  own-cost = sum-eq (cells C P) {g = λ c. 0} own ∙ none (cells C P)
     where
+      own : (c : ℕ) → c < cells C P → cell full (at (mark C P F) c) (at (sure (cells C P)) c) (value C P F c) ≡ 0
+      own c l = rw (equal c l) (zeros-at (cells C P) c)
+
       none : (n : ℕ) → sum n (λ c. 0) ≡ 0
       none n = sum-const n 0 ∙ omega arith
 

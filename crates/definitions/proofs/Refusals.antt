@@ -1,7 +1,7 @@
--- The laws of refusals in order: which row decides, what an accepted call knows of each row, rows after rows, and that the first number
--- is the lowest where the numbers rise. Assumes nothing.
+-- The laws of refusals in order: which row decides, what an accepted call knows of each row, rows after rows, and that the first
+-- number is the lowest where the numbers rise. Assumes nothing.
 use mathlib.Core.Path.{_≡_, refl, sym, ap, _∙_}
-use mathlib.Core.Logic.{_≢_, _⊎_, inl, inr}
+use mathlib.Core.Logic.{_≢_, inl, inr}
 use mathlib.Core.Bool.{Bool, true, false, not, _&&_, false≢true}
 use mathlib.Core.List.{List, [], _∷_, _++_}
 use Prim.Native.Nat.{ℕ, zero, suc, _≤_}

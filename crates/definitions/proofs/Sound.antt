@@ -23,7 +23,9 @@ zeros P a n h i l m =
     omega (arith, ap (at P) e)
 
 filled-no : (P : List ℕ) (a n : ℕ) → ((i : ℕ) → a ≤ i → i < a + n → at P i ≡ 0) → filled P a n ≡ false
-filled-no P a n h = none-any _ _ λ i l. let z : at P (a + i) ≤ 0 = omega (arith, h (a + i) (omega arith) (omega arith)) in le-ltb _ _ z
+filled-no P a n h = none-any _ _ λ i l.
+    let z : at P (a + i) ≤ 0 = omega (arith, h (a + i) (omega arith) (omega arith)) in
+    le-ltb _ _ z
 
 pub sound : (P : List ℕ) → checkNumber P ≡ 0 → Sound P
 unfolding checkNumber planRows

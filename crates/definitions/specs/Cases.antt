@@ -17,7 +17,9 @@ use Rattle.definitions.specs.Code.{Code, strip, square, valueX, valueXY,
 use Rattle.definitions.specs.Cost.{margin}
 use Rattle.definitions.specs.Photograph.{sure}
 use Rattle.definitions.specs.Search.{search, firstOf}
-use Rattle.definitions.specs.Calls.{refused, photoRows, readingOf, writeRows, writeNumber, writeBuffer, measureRows, measureNumber, measureReading, within, nearest, readRows, readNumber, readReading, readBuffer}
+use Rattle.definitions.specs.Calls.{refused, photoRows, readingOf, writeRows, writeNumber, writeBuffer}
+use Rattle.definitions.specs.Calls.{measureRows, measureNumber, measureReading}
+use Rattle.definitions.specs.Calls.{within, nearest, readRows, readNumber, readReading, readBuffer}
 
 pub data Call : Type 0 where
   check : (P : List ℕ) → Call
@@ -36,7 +38,8 @@ pub data Case : Type 0 where
 -- whoever unfolds this computes with all that it names
 unfoldable pub outcome : Call → Outcome
 unfolding any tab first isPrime checkNumber planRows valueX valueXY mark margin search firstOf photoRows readingOf
-    writeRows writeNumber writeBuffer measureRows measureNumber measureReading within nearest readRows readNumber readReading readBuffer
+    writeRows writeNumber writeBuffer measureRows measureNumber measureReading
+    within nearest readRows readNumber readReading readBuffer
 outcome (check P) = refused (checkNumber P) leaving []
 outcome (write C P F B) = refused (writeNumber C P F B) leaving writeBuffer C P F B
 outcome (measure C P s u F) = measureReading C P s u F leaving F
@@ -108,8 +111,8 @@ cases =
     ∷ (check (plan 7 3 1 1 1 4) ⟹ refused 5 leaving [])
     ∷ []
 
--- not of the table: a strip written and read, a plan with several faults at once, a record of total degree 2 at the corners; each of
--- the bytes 21 to 23 filled; symbol and doubt wrong at once, doubt and coefficient wrong at once
+-- not of the table: a strip written and read, a plan with several faults at once, a record of total degree 2 at the corners; each
+-- of the bytes 21 to 23 filled; symbol and doubt wrong at once, doubt and coefficient wrong at once
 abbrev pub moreCases : List Case
 moreCases =
     (write strip planA (3 ∷ 1 ∷ []) (nines 3) ⟹ refused 0 leaving 4 ∷ 5 ∷ 0 ∷ [])

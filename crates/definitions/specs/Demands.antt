@@ -1,15 +1,18 @@
--- The customer's demands, and what document 01 says of every answer, as statements over the definitions. The crate `traymark` proves them.
+-- The customer's demands, and what document 01 says of every answer, as statements over the definitions. The crate `traymark`
+-- proves them.
 --
---   Written C P F b           demand 2: in b each cell has the value, modulo p, of the polynomial of F at its row and column points, or
---                             of a strip at its point
---   RoundTrip C P F B B′      demand 2: reading what was written of F into B, all doubts 0, gives F into B′ at cost 0; measuring does so too
---   Weighed C P s u F r       demand 2: the reading r of the record F has 200 times the published distance as its cost, and the limit less
---                             the cost as its margin
---   Nearest C P s u B         demand 3: at most one record of the plan costs under the limit, the reading is that one with its cost, and
---                             it is 10 exactly when there is none. The limit is the radius: 100 n (n - d) for a mark, 100 (n - d) for a strip
---   UnreadCosts C P s u F     an unread cell costs 100
---   MarkMargins               a mark's margin is from -49,600 to 25,600, and both ends are reached
---   LowestGiven               the lowest number that applies is given, over those that concern the call
+--   Written C P F b         demand 2: in b each cell has the value, modulo p, of the polynomial of F at its row and column
+--                           points, or of a strip at its point
+--   RoundTrip C P F B B′    demand 2: reading what was written of F into B, with all doubts 0, gives F into B′ at cost 0, with
+--                           the whole limit as the margin; so does measuring
+--   Weighed C P s u F r     demand 2: the reading r of the record F has as its cost 200 times the published distance, and as its
+--                           margin the limit less the cost
+--   Nearest C P s u B       demand 3: at most one record of the plan costs under the limit, the reading is that one with its
+--                           cost, and it is 10 exactly when there is none. The limit is the radius: 100 n (n - d) for a
+--                           mark, 100 (n - d) for a strip
+--   UnreadCosts C P s u F   an unread cell costs 100
+--   MarkMargins             a mark's margin is from -49,600 to 25,600, and both ends are reached
+--   LowestGiven             the lowest number that applies is given, over those that concern the call
 --
 -- What this file is for: the sentences that a user relies on, each as one statement whose parts are named.
 use mathlib.Core.Path.{_≡_}
@@ -27,7 +30,9 @@ use Rattle.definitions.specs.Code.{Code, strip, square, valueX, valueXY,
 use Rattle.definitions.specs.Cost.{full, unread, cell, radius}
 use Rattle.definitions.specs.Published.{Fraction, _over_, FromZeroToOne, _is_times_, distance, weighted}
 use Rattle.definitions.specs.Calls as calls
-use Rattle.definitions.specs.Calls.{costOf, readingOf, writeRows, writeNumber, writeBuffer, measureRows, measureNumber, measureReading, readRows, readNumber, readReading, readBuffer}
+use Rattle.definitions.specs.Calls.{costOf, readingOf, writeRows, writeNumber, writeBuffer}
+use Rattle.definitions.specs.Calls.{measureRows, measureNumber, measureReading}
+use Rattle.definitions.specs.Calls.{readRows, readNumber, readReading, readBuffer}
 use Rattle.definitions.specs.Finder.{findRows, findNumber}
 use Rattle.definitions.specs.Word.{IsRecord}
 use Rattle.definitions.specs.Photograph.{sure}

@@ -7,7 +7,8 @@
 --   accepted k a b    what a call with the number k does: a where k is 0, else b
 --
 -- What this file is for: every call's number is `first` of the rows that concern the call, in the table's order. A number whose
--- condition has several tests has a row for each. The numbers rise along the rows of each call, so that the first to apply is the lowest.
+-- condition has several tests has a row for each. Along the rows of each call the numbers rise, so that the first to apply is the
+-- lowest.
 use mathlib.Core.Path.{_≡_}
 use mathlib.Core.Logic.{_≢_, _⊎_}
 use mathlib.Core.Bool.{Bool, true, false}

@@ -2,7 +2,7 @@
 --
 --   Sound P    all bytes of the plan P are as in the table "The season plan", row by row
 --
--- What this file is for: "a plan is sound when all its bytes are as in this table". It is `Sound` exactly when `checkNumber` is 0.
+-- What this file is for: "a plan is sound when all its bytes are as in this table". It is so exactly when `checkNumber` is 0.
 use mathlib.Core.Path.{_≡_}
 use mathlib.Core.List.{List}
 use mathlib.Core.Logic.{_≢_}

@@ -1,5 +1,12 @@
--- The customer's demands 2 and 3, for marks and for strips, and what document 01 says of every plan, cell, margin and number: theorems over
--- the definitions that the calls' contracts repeat. Their statements are in `definitions/specs`. Assumes nothing.
+-- The customer's demands 2 and 3, for marks and strips, and what document 01 says of every plan, cell, margin and number, over
+-- the definitions that the calls' contracts repeat. The names in these statements are of `definitions/specs`. Assumes nothing.
+--
+--   sound-exactly                        "The season plan": which plans are sound
+--   demand-2-written, demand-2           demand 2: what is written, and that it is read back
+--   demand-2-measured, demand-2-read     demand 2: costs and margins
+--   demand-3                             demand 3
+--   unread-costs, mark-margins           "Photographed mark and cost"
+--   lowest-given                         "What is returned"
 use mathlib.Core.Path.{_≡_, refl, sym, _∙_}
 use mathlib.Core.Logic.{_↔_}
 use mathlib.Core.List.{List}
@@ -9,7 +16,8 @@ use Rattle.bounded.specs.Bounded.{at}
 use Rattle.definitions.specs.Plan.{planRows, checkNumber}
 use Rattle.definitions.specs.Code.{Code, strip, square, size, cells, value, mark}
 use Rattle.definitions.specs.Cost.{full}
-use Rattle.definitions.specs.Calls.{photoRows, writeRows, writeNumber, writeBuffer, measureRows, measureNumber, measureReading, readRows, readNumber, readReading, readBuffer}
+use Rattle.definitions.specs.Calls.{photoRows, writeRows, writeNumber, writeBuffer}
+use Rattle.definitions.specs.Calls.{measureRows, measureNumber, measureReading, readRows, readNumber, readReading, readBuffer}
 use Rattle.definitions.specs.Finder.{findRows, findNumber}
 use Rattle.definitions.specs.Sound.{Sound}
 use Rattle.definitions.specs.Photograph.{Photograph, sure}
@@ -43,27 +51,31 @@ demand-3 square P s u B h l = nearest square P s u B h l (only-square P s u h)
 pub demand-2-written : (C : Code) (P F B : List ℕ) → writeNumber C P F B ≡ 0 → Written C P F (writeBuffer C P F B)
 demand-2-written C P F B e = rw (← write-fills C P F B refl e) (mark-written C P F)
 
--- Demand 2, reading what was written: for every plan, record and buffer that the writer accepts, reading what it wrote with all doubts 0
--- gives the same record at cost 0, with no cell changed; so does measuring it.
+-- Demand 2, reading what was written: for every plan, record and buffer that the writer accepts, reading what it wrote with all
+-- doubts 0 gives the same record at cost 0, with no cell changed; so does measuring it.
 pub demand-2 : (C : Code) (P F B B′ : List ℕ) → writeNumber C P F B ≡ 0 → length B′ ≡ size C P → RoundTrip C P F B B′
 demand-2 C P F B B′ e l =
     let w = accepted-writing C P F B e in
     let photo = own-photo P (w .sound) C F in
     let n = measuring-accepted C P (mark C P F) (sure (cells C P)) F photo (w .given) in
+    let m = sym (measure-gives C P (mark C P F) (sure (cells C P)) F refl n) ∙ own-reading C P F in
     let t = own-read P (w .sound) C F B′ (w .given) (demand-3 C P (mark C P F) (sure (cells C P)) B′ photo l) in
     record {
       reading = rw (← write-fills C P F B refl e) (t .0);
       buffer = rw (← write-fills C P F B refl e) (t .1);
-      measured = rw (← write-fills C P F B refl e) (sym (measure-gives C P (mark C P F) (sure (cells C P)) F refl n) ∙ own-reading C P F);
+      measured = rw (← write-fills C P F B refl e) m;
     }
 
--- Demand 2, costs: what measuring and reading accept costs 200 times the published distance, and has the limit less the cost as its
--- margin.
+-- Demand 2, costs: what measuring and reading accept costs 200 times the published distance, and its margin is the limit less the
+-- cost.
 pub demand-2-measured : (C : Code) (P s u F : List ℕ) → measureNumber C P s u F ≡ 0 → Weighed C P s u F (measureReading C P s u F)
-demand-2-measured C P s u F e = rw (← measure-gives C P s u F refl e) (photo-weighed C P s u F (accepted-measuring C P s u F e .1))
+demand-2-measured C P s u F e =
+    rw (← measure-gives C P s u F refl e) (photo-weighed C P s u F (accepted-measuring C P s u F e .1))
 
-pub demand-2-read : (C : Code) (P s u B : List ℕ) → readNumber C P s u B ≡ 0 → Weighed C P s u (readBuffer C P s u B) (readReading C P s u B)
-demand-2-read C P s u B e = rw (read-gives C P s u B e) (photo-weighed C P s u (readBuffer C P s u B) (accepted-reading C P s u B e))
+pub demand-2-read : (C : Code) (P s u B : List ℕ) → readNumber C P s u B ≡ 0 →
+    Weighed C P s u (readBuffer C P s u B) (readReading C P s u B)
+demand-2-read C P s u B e =
+    rw (read-gives C P s u B e) (photo-weighed C P s u (readBuffer C P s u B) (accepted-reading C P s u B e))
 
 -- An unread cell costs 100 for every record.
 pub unread-costs : (C : Code) (P s u F : List ℕ) → Photograph C P s u → UnreadCosts C P s u F

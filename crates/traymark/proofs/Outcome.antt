@@ -5,7 +5,8 @@ use mathlib.Core.List.{List}
 use Prim.Native.Nat.{ℕ, zero, suc}
 use Rattle.definitions.specs.Refusals.{first, accepted}
 use Rattle.definitions.specs.Code.{Code, mark}
-use Rattle.definitions.specs.Calls.{refused, readingOf, photoRows, writeNumber, writeBuffer, measureNumber, measureReading, readNumber, readReading, readBuffer}
+use Rattle.definitions.specs.Calls.{refused, readingOf, photoRows, writeNumber, writeBuffer, measureNumber, measureReading}
+use Rattle.definitions.specs.Calls.{readNumber, readReading, readBuffer}
 use Rattle.definitions.specs.Reads.{Reads}
 use Rattle.definitions.proofs.Nearest.{reads-refused}
 use Rattle.marks.specs.Loading.{Taken}
@@ -45,6 +46,7 @@ module _ (C : Code) (P s u B : List ℕ) {k : ℕ} (e : k ≡ first (photoRows C
   read-takes z = taken C P s u B (sym e ∙ z)
 
 -- the reading is that of the record in the buffer
-pub read-gives : (C : Code) (P s u B : List ℕ) → readNumber C P s u B ≡ 0 → readReading C P s u B ≡ readingOf C P s u (readBuffer C P s u B)
+pub read-gives : (C : Code) (P s u B : List ℕ) → readNumber C P s u B ≡ 0 →
+    readReading C P s u B ≡ readingOf C P s u (readBuffer C P s u B)
 unfolding readReading readBuffer
 read-gives C P s u B e = rw e
