@@ -1,5 +1,5 @@
--- What a measuring and a writing that are not refused know of their arguments; and the number of a call that stops at a test. Assumes
--- nothing.
+-- What a measuring, a reading and a writing that are not refused know of their arguments; and the number of a call that stops at
+-- a test. Assumes nothing.
 use mathlib.Core.Path.{_≡_, refl, sym, _∙_}
 use mathlib.Core.Bool.{false}
 use mathlib.Core.List.{List, [], _∷_}
@@ -10,7 +10,9 @@ use Rattle.bounded.proofs.Any.{any-none, none-any}
 use Rattle.definitions.specs.Refusals.{Row, _when_, first}
 use Rattle.definitions.specs.Plan.{planRows, checkNumber}
 use Rattle.definitions.specs.Code.{Code, size, cells}
-use Rattle.definitions.specs.Calls.{lengthRow, strange, excessive, halfRead, overflowing, recordRow, photoRows, writeRows, writeNumber, measureRows, measureNumber}
+use Rattle.definitions.specs.Calls.{lengthRow, strange, excessive, halfRead, overflowing, recordRow, photoRows}
+use Rattle.definitions.specs.Calls.{writeRows, writeNumber, measureRows, measureNumber}
+use Rattle.definitions.specs.Calls.{nearest, missing, readRows, readNumber}
 use Rattle.definitions.specs.Word.{IsRecord}
 use Rattle.definitions.specs.Sound.{Sound}
 use Rattle.definitions.specs.Photograph.{Photograph}
@@ -38,9 +40,10 @@ module _ (C : Code) (P : List ℕ) where
       let h = accepted-photo C P s u F (b .0) in
       (sound P (h .sound), h, record-is F (accepted-buffer C P s u F (b .0)) (b .1))
 
-  pub writing-checked : (F B : List ℕ) → writeNumber C P F B ≡ 0 → checkNumber P ≡ 0
-  unfolding writeNumber writeRows planRows checkNumber
-  writing-checked F B e = first-both (planRows P) (writeTests P F B (cells C P) (size C P)) tt e .0
+  pub accepted-reading : (s u B : List ℕ) → readNumber C P s u B ≡ 0 → Photograph C P s u
+  unfolding readNumber readRows photoRows planRows
+  accepted-reading s u B e =
+      accepted-photo C P s u B (first-both (photoRows C P s u B) ((10 when missing (nearest C P s u)) ∷ []) tt e .0)
 
   pub accepted-writing : (F B : List ℕ) → writeNumber C P F B ≡ 0 → Writing C P F B
   unfolding writeNumber writeRows planRows checkNumber first

@@ -7,8 +7,9 @@ use lib.IntN.{pos}
 use lib.ListN.{drop}
 use Rattle.definitions.specs.Calls.{refused}
 use Rattle.definitions.specs.Cost.{class}
+use Rattle.definitions.specs.Photograph.{sure}
 use Rattle.definitions.specs.Tray.{trayReading}
-use Rattle.definitions.specs.Cases.{outcome, call, said, cases, moreCases, planA, mark₁, photoC, sure}
+use Rattle.definitions.specs.Cases.{outcome, call, said, cases, moreCases, planA, mark₁, photoC}
 
 pub cases-hold : map outcome (map call cases) ≡ map said cases
 unfolding outcome

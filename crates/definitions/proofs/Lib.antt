@@ -7,5 +7,7 @@ pub mod Photograph
 pub mod Nearest
 pub mod Demands
 pub mod Own
+pub mod Margin
+pub mod Published
 pub mod Finder
 pub mod Accepted

@@ -11,7 +11,8 @@ use Rattle.definitions.specs.Refusals.{Row, _when_, first, accepted}
 use Rattle.definitions.specs.Plan.{modulus, planRows}
 use Rattle.definitions.specs.Code.{Code, size}
 use Rattle.definitions.specs.Cost.{full, radius}
-use Rattle.definitions.specs.Calls.{photoRows, refused, costOf, readingOf, within, nearest, missing, the, readNumber, readReading, readBuffer}
+use Rattle.definitions.specs.Calls.{photoRows, refused, costOf, readingOf, within, nearest, missing, the}
+use Rattle.definitions.specs.Calls.{readRows, readNumber, readReading, readBuffer}
 use Rattle.definitions.specs.Word.{IsRecord}
 use Rattle.definitions.specs.Reads.{Reads}
 use Rattle.definitions.proofs.Refusals.{first-append}
@@ -45,7 +46,7 @@ module _ (C : Code) (P s u B : List ℕ) where
   last o = (10 when missing o) ∷ []
 
   number : {k : ℕ} {o : Option (List ℕ)} → first (photoRows C P s u B) ≡ k → nearest C P s u ≡ o → readNumber C P s u B ≡ accepted k (first (last o)) k
-  unfolding first planRows photoRows readNumber
+  unfolding first planRows photoRows readRows readNumber
   number e m = first-append (photoRows C P s u B) (last (nearest C P s u)) tt ∙ ap₂ (λ k o. accepted k (first (last o)) k) e m
 
   pub reads-refused : (k : ℕ) → first (photoRows C P s u B) ≡ suc k → Reads C P s u B (refused (suc k)) B

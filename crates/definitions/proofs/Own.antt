@@ -1,28 +1,28 @@
 -- A record against its own mark with all doubts 0: the mark is a photograph of the plan, and the record costs 0 with no cell changed. So
 -- demand 2 follows from demand 3. Assumes nothing.
-use mathlib.Core.Path.{_≡_, refl, sym, ap, _∙_}
-use mathlib.Core.Logic.{_⊎_, inl}
+use mathlib.Core.Path.{_≡_, refl, ap, _∙_}
+use mathlib.Core.Logic.{inl}
 use mathlib.Core.Bool.{true, cond}
 use mathlib.Core.List.{List}
-use Prim.Native.Nat.{ℕ, zero, suc, _*_, _-_, _%_, _≤_, _<_}
+use Prim.Native.Nat.{ℕ, zero, suc, _-_, _<_}
 use native.Mathlib.Omega.{arith}
 use native.Mathlib.Nat.{add-zero, mod-lt, mul-le-mul}
 use lib.Dec.{eqb}
 use lib.IntN.{pos}
 use lib.ListN.{length, replicate}
 use borrow.Author.Tests.{eq-eqb}
-use Rattle.bounded.specs.Bounded.{at, sum, tab}
+use Rattle.bounded.specs.Bounded.{at, sum}
 use Rattle.bounded.proofs.Sum.{sum-eq, sum-const}
 use Rattle.bounded.proofs.Tab.{length-tab, tab-at}
-use Rattle.definitions.specs.Plan.{modulus, side, degree, checkNumber}
-use Rattle.definitions.specs.Code.{Code, strip, square, valueX, valueXY, size, cells, value, mark}
-use Rattle.definitions.specs.Cost.{full, unread, cell, radius, margin}
-use Rattle.definitions.specs.Calls.{costOf, changedOf, readingOf}
+use Rattle.definitions.specs.Plan.{modulus, side, degree}
+use Rattle.definitions.specs.Code.{Code, strip, square, valueX, valueXY, cells, value, mark}
+use Rattle.definitions.specs.Cost.{full, cell, radius, margin}
+use Rattle.definitions.specs.Calls.{costOf, changedOf, readingOf, readReading, readBuffer}
 use Rattle.definitions.specs.Word.{IsRecord}
 use Rattle.definitions.specs.Sound.{Sound}
-use Rattle.definitions.specs.Photograph.{Photograph}
-use Rattle.definitions.specs.Demands.{Nearest, RoundTrip}
-use Rattle.definitions.proofs.Sound.{sound}
+use Rattle.definitions.specs.Photograph.{Photograph, sure}
+use Rattle.definitions.specs.Demands.{Nearest, clean}
+use Rattle.definitions.proofs.Sound.{checked}
 
 zeros-at : (n c : ℕ) → at (replicate n 0) c ≡ 0
 zeros-at zero c = refl
@@ -33,10 +33,6 @@ zeros-length : (n : ℕ) → length {A = ℕ} (replicate n 0) ≡ n
 zeros-length zero = refl
 zeros-length (suc n) = ap suc (zeros-length n)
 
--- no doubts over the cells of a plan
-abbrev pub sure : Code → List ℕ → List ℕ
-sure C P = replicate (cells C P) 0
-
 module _ (C : Code) (P F : List ℕ) where
   mark-at : (c : ℕ) → c < cells C P → at (mark C P F) c ≡ value C P F c
   unfolding mark
@@ -45,16 +41,19 @@ module _ (C : Code) (P F : List ℕ) where
   equal : (c : ℕ) → c < cells C P → eqb (at (mark C P F) c) (value C P F c) ≡ true
   equal c l = eq-eqb _ _ (mark-at c l)
 
-  pub own-cost : costOf C P (mark C P F) (sure C P) F ≡ 0
-  own-cost = sum-eq (cells C P) {g = λ c. 0} (λ c l. ap (λ b. cond b (at (sure C P) c) (2 * full - at (sure C P) c)) (equal c l) ∙ zeros-at (cells C P) c) ∙ none (cells C P)
+  pub own-cost : costOf C P (mark C P F) (sure (cells C P)) F ≡ 0
+  own-cost = sum-eq (cells C P) {g = λ c. 0} own ∙ none (cells C P)
     where
+      own : (c : ℕ) → c < cells C P → cell full (at (mark C P F) c) (at (sure (cells C P)) c) (value C P F c) ≡ 0
+      own c l = rw (equal c l) (zeros-at (cells C P) c)
+
       none : (n : ℕ) → sum n (λ c. 0) ≡ 0
       none n = sum-const n 0 ∙ omega arith
 
   pub own-changed : changedOf C P (mark C P F) F ≡ 0
   own-changed = sum-eq (cells C P) {g = λ c. 0} (λ c l. ap (λ b. cond b 0 1) (equal c l)) ∙ sum-const (cells C P) 0 ∙ omega arith
 
-  pub own-reading : readingOf C P (mark C P F) (sure C P) F ≡ record { number = 0; cost = 0; margin = pos (radius full C P); changed = 0; class = 0 }
+  pub own-reading : readingOf C P (mark C P F) (sure (cells C P)) F ≡ clean C P
   unfolding readingOf margin
   own-reading = rw (own-cost, own-changed) (ap (λ m. record { number = 0; cost = 0; margin = pos m; changed = 0; class = 0 }) (add-zero (radius full C P)))
 
@@ -64,10 +63,10 @@ module _ (P : List ℕ) (S : Sound P) where
   value-below strip F c = mod-lt _ (omega (arith, S .prime .least))
   value-below square F c = mod-lt _ (omega (arith, S .prime .least))
 
-  pub own-photo : (C : Code) (F : List ℕ) → checkNumber P ≡ 0 → Photograph C P (mark C P F) (sure C P)
+  pub own-photo : (C : Code) (F : List ℕ) → Photograph C P (mark C P F) (sure (cells C P))
   unfolding mark
-  own-photo C F e = record {
-    sound = e;
+  own-photo C F = record {
+    sound = checked P S;
     symbols = length-tab (cells C P) (value C P F);
     doubts = zeros-length (cells C P);
     symbol = λ c l. inl (rw (mark-at C P F c l) (value-below C F c));
@@ -79,8 +78,10 @@ module _ (P : List ℕ) (S : Sound P) where
   radius-positive strip = omega (arith, S .low)
   radius-positive square = omega (arith, mul-le-mul {n₁ = 1} {m₁ = 1} {n₂ = side P} {m₂ = side P - degree P} (omega (arith, S .low)) (omega (arith, S .low)))
 
-pub round-trip : (C : Code) (P F B : List ℕ) → checkNumber P ≡ 0 → IsRecord C P F → Nearest C P (mark C P F) (sure C P) B → RoundTrip C P F B
-round-trip C P F B e r h =
-    let z : costOf C P (mark C P F) (sure C P) F < radius full C P = omega (arith, own-cost C P F, radius-positive P (sound P e) C) in
-    let t = h .returned F r z in
-    record { reading = t .0 ∙ own-reading C P F; buffer = t .1 }
+  -- reading it back
+  pub own-read : (C : Code) (F B : List ℕ) → IsRecord C P F → Nearest C P (mark C P F) (sure (cells C P)) B →
+      (readReading C P (mark C P F) (sure (cells C P)) B ≡ clean C P) × (readBuffer C P (mark C P F) (sure (cells C P)) B ≡ F)
+  own-read C F B r h =
+      let z : costOf C P (mark C P F) (sure (cells C P)) F < radius full C P = omega (arith, own-cost C P F, radius-positive C) in
+      let t = h .returned F r z in
+      (t .0 ∙ own-reading C P F, t .1)

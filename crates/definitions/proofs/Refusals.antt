@@ -1,12 +1,14 @@
--- The laws of refusals in order: which row decides, what an accepted call knows of each row, and rows after rows. Assumes nothing.
+-- The laws of refusals in order: which row decides, what an accepted call knows of each row, rows after rows, and that the first
+-- number is the lowest where the numbers rise. Assumes nothing.
 use mathlib.Core.Path.{_≡_, refl, sym, ap, _∙_}
-use mathlib.Core.Bool.{Bool, true, false, not}
+use mathlib.Core.Logic.{_≢_, inl, inr}
+use mathlib.Core.Bool.{Bool, true, false, not, _&&_, false≢true}
 use mathlib.Core.List.{List, [], _∷_, _++_}
-use Prim.Native.Nat.{ℕ, zero, suc}
+use Prim.Native.Nat.{ℕ, zero, suc, _≤_}
 use native.Mathlib.Omega.{arith}
-use lib.Dec.{eqb}
-use borrow.Author.Tests.{eq-eqb, ne-eqb, lt-ltb, le-ltb, le-leb, lt-leb}
-use Rattle.definitions.specs.Refusals.{Row, _when_, first, accepted}
+use lib.Dec.{eqb, leb}
+use borrow.Author.Tests.{eq-eqb, ne-eqb, lt-ltb, le-ltb, le-leb, lt-leb, leb-true}
+use Rattle.definitions.specs.Refusals.{Row, _when_, first, Applies, Lowest, accepted}
 
 -- no row has the number 0
 abbrev pub Numbered : List Row → Type 0
@@ -66,6 +68,46 @@ unfolding first
 first-at [] i h = refl
 first-at ((k when b) ∷ rows) zero h = rw h
 first-at ((k when b) ∷ rows) (suc i) h = rw (h .0) (first-at rows i (h .1))
+
+-- the first row to apply, whatever the order of the numbers: 0 where none applies, else the number of one that does
+pub first-none : (rows : List Row) → Numbered rows → first rows ≡ 0 → (j : ℕ) → ¬ (Applies rows j)
+unfolding first
+first-none ((zero when b) ∷ rows) h e j a = h
+first-none ((suc k when true) ∷ rows) h e j a = omega arith
+first-none ((suc k when false) ∷ rows) h e j (inl a) = false≢true (a .1)
+first-none ((suc k when false) ∷ rows) h e j (inr a) = first-none rows h e j a
+
+pub first-applies : (rows : List Row) → first rows ≢ 0 → Applies rows (first rows)
+unfolding first
+first-applies [] n = n refl
+first-applies ((k when true) ∷ rows) n = inl (refl, refl)
+first-applies ((k when false) ∷ rows) n = inr (first-applies rows n)
+
+-- the numbers rise from m on: none is below the one before it
+abbrev pub rising : ℕ → List Row → Bool
+rising m [] = true
+rising m ((k when b) ∷ rows) = leb m k && rising k rows
+
+both : (a b : Bool) → a && b ≡ true → (a ≡ true) × (b ≡ true)
+both true b e = (refl, e)
+both false b e = absurd (false≢true e)
+
+rising-least : (m : ℕ) (rows : List Row) → rising m rows ≡ true → (j : ℕ) → Applies rows j → m ≤ j
+rising-least m ((k when b) ∷ rows) r j (inl a) = omega (arith, leb-true m k (both (leb m k) (rising k rows) r .0), a .0)
+rising-least m ((k when b) ∷ rows) r j (inr a) =
+    let h = both (leb m k) (rising k rows) r in
+    omega (arith, leb-true m k (h .0), rising-least k rows (h .1) j a)
+
+first-least : (m : ℕ) (rows : List Row) → rising m rows ≡ true → (j : ℕ) → Applies rows j → first rows ≤ j
+unfolding first
+first-least m ((k when true) ∷ rows) r j (inl a) = omega (arith, a .0)
+first-least m ((k when true) ∷ rows) r j (inr a) = rising-least k rows (both (leb m k) (rising k rows) r .1) j a
+first-least m ((k when false) ∷ rows) r j (inl a) = absurd (false≢true (a .1))
+first-least m ((k when false) ∷ rows) r j (inr a) = first-least k rows (both (leb m k) (rising k rows) r .1) j a
+
+-- the first is the lowest
+pub first-lowest : (rows : List Row) → Numbered rows → rising 1 rows ≡ true → Lowest rows (first rows)
+first-lowest rows h r = record { none = first-none rows h; applies = first-applies rows; least = first-least 1 rows r }
 
 -- a code's tests as the definitions' tests; `search tests` finds them in what is known at a return
 pub equal : (a b : ℕ) → a ≡ b → not (eqb a b) ≡ false

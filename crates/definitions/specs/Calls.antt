@@ -109,8 +109,11 @@ abbrev pub the : Option (List ℕ) → List ℕ
 the none = []
 the (some F) = F
 
+unfoldable pub readRows : Code → (P s u B : List ℕ) → List Row
+readRows C P s u B = photoRows C P s u B ++ (10 when missing (nearest C P s u)) ∷ []
+
 unfoldable pub readNumber : Code → (P s u B : List ℕ) → ℕ
-readNumber C P s u B = first (photoRows C P s u B ++ (10 when missing (nearest C P s u)) ∷ [])
+readNumber C P s u B = first (readRows C P s u B)
 
 unfoldable pub readReading : Code → (P s u B : List ℕ) → Reading
 readReading C P s u B = accepted (readNumber C P s u B) (readingOf C P s u (the (nearest C P s u))) (refused (readNumber C P s u B))

@@ -7,7 +7,7 @@
 use mathlib.Core.List.{List, [], _∷_, _++_}
 use Prim.Native.Nat.{ℕ}
 use lib.IntN.{pos}
-use lib.ListN.{replicate, drop}
+use lib.ListN.{replicate, drop, set}
 use Rattle.bounded.specs.Bounded.{any, tab}
 use Rattle.field.specs.Prime.{isPrime}
 use Rattle.definitions.specs.declared.Reading.{Reading}
@@ -15,8 +15,11 @@ use Rattle.definitions.specs.Refusals.{first}
 use Rattle.definitions.specs.Plan.{checkNumber, planRows}
 use Rattle.definitions.specs.Code.{Code, strip, square, valueX, valueXY, mark}
 use Rattle.definitions.specs.Cost.{margin}
+use Rattle.definitions.specs.Photograph.{sure}
 use Rattle.definitions.specs.Search.{search, firstOf}
-use Rattle.definitions.specs.Calls.{refused, photoRows, readingOf, writeRows, writeNumber, writeBuffer, measureRows, measureNumber, measureReading, within, nearest, readNumber, readReading, readBuffer}
+use Rattle.definitions.specs.Calls.{refused, photoRows, readingOf, writeRows, writeNumber, writeBuffer}
+use Rattle.definitions.specs.Calls.{measureRows, measureNumber, measureReading}
+use Rattle.definitions.specs.Calls.{within, nearest, readRows, readNumber, readReading, readBuffer}
 
 pub data Call : Type 0 where
   check : (P : List ℕ) → Call
@@ -35,7 +38,8 @@ pub data Case : Type 0 where
 -- whoever unfolds this computes with all that it names
 unfoldable pub outcome : Call → Outcome
 unfolding any tab first isPrime checkNumber planRows valueX valueXY mark margin search firstOf photoRows readingOf
-    writeRows writeNumber writeBuffer measureRows measureNumber measureReading within nearest readNumber readReading readBuffer
+    writeRows writeNumber writeBuffer measureRows measureNumber measureReading
+    within nearest readRows readNumber readReading readBuffer
 outcome (check P) = refused (checkNumber P) leaving []
 outcome (write C P F B) = refused (writeNumber C P F B) leaving writeBuffer C P F B
 outcome (measure C P s u F) = measureReading C P s u F leaving F
@@ -77,10 +81,7 @@ photoC = 0 ∷ 1 ∷ 5 ∷ 0 ∷ 2 ∷ 6 ∷ 2 ∷ 4 ∷ 0 ∷ []
 abbrev photoD : List ℕ
 photoD = 0 ∷ 0 ∷ 0 ∷ drop 3 mark₁
 
--- doubts 0; the mark with its first k cells unread, and its doubts; a buffer of 9s, so that "unchanged" is seen
-abbrev pub sure : ℕ → List ℕ
-sure n = replicate n 0
-
+-- the mark with its first k cells unread, and its doubts; a buffer of 9s, so that "unchanged" is seen
 abbrev hidden : ℕ → List ℕ
 hidden k = replicate k 255 ++ drop k mark₁
 
@@ -110,7 +111,8 @@ cases =
     ∷ (check (plan 7 3 1 1 1 4) ⟹ refused 5 leaving [])
     ∷ []
 
--- not of the table: a strip written and read, a plan with several faults at once, a record of total degree 2 at the corners
+-- not of the table: a strip written and read, a plan with several faults at once, a record of total degree 2 at the corners; each
+-- of the bytes 21 to 23 filled; symbol and doubt wrong at once, doubt and coefficient wrong at once
 abbrev pub moreCases : List Case
 moreCases =
     (write strip planA (3 ∷ 1 ∷ []) (nines 3) ⟹ refused 0 leaving 4 ∷ 5 ∷ 0 ∷ [])
@@ -119,4 +121,9 @@ moreCases =
     ∷ (write square planA (3 ∷ 1 ∷ 7 ∷ []) (nines 8) ⟹ refused 6 leaving nines 8)
     ∷ (write square planA (3 ∷ 1 ∷ 7 ∷ []) (nines 9) ⟹ refused 9 leaving nines 9)
     ∷ (write square (plan 5 3 2 0 1 2) (1 ∷ 0 ∷ 0 ∷ 2 ∷ 3 ∷ 4 ∷ []) (nines 9) ⟹ refused 0 leaving 1 ∷ 0 ∷ 2 ∷ 3 ∷ 0 ∷ 0 ∷ 4 ∷ 4 ∷ 2 ∷ [])
+    ∷ (check (set planA 21 1) ⟹ refused 1 leaving [])
+    ∷ (check (set planA 22 1) ⟹ refused 1 leaving [])
+    ∷ (check (set planA 23 1) ⟹ refused 1 leaving [])
+    ∷ (read square planA (7 ∷ drop 1 mark₁) (101 ∷ sure 8) (nines 3) ⟹ refused 7 leaving nines 3)
+    ∷ (measure square planA mark₁ (101 ∷ sure 8) (3 ∷ 1 ∷ 7 ∷ []) ⟹ refused 8 leaving 3 ∷ 1 ∷ 7 ∷ [])
     ∷ []

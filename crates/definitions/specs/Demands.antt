@@ -1,40 +1,102 @@
--- The customer's demands as statements over the definitions. That they hold is proved in the crate `traymark`.
+-- The customer's demands, and what document 01 says of every answer, as statements over the definitions. The crate `traymark`
+-- proves them.
 --
---   Nearest C P s u B     demand 3: at most one record of the plan costs under the limit, the reading is that one with its cost, and
---                         it is 10 exactly when there is none. The limit is the radius: 100 n (n - d) for a mark, 100 (n - d) for a strip
---   Written C P F b       demand 2: in b each cell has the value, modulo p, of the polynomial of F at its row and column points, or of a
---                         strip at its point
---   RoundTrip C P F B     demand 2: reading the mark of F with all doubts 0 gives F at cost 0, and changes nothing else
+--   Written C P F b         demand 2: in b each cell has the value, modulo p, of the polynomial of F at its row and column
+--                           points, or of a strip at its point
+--   RoundTrip C P F B B′    demand 2: reading what was written of F into B, with all doubts 0, gives F into B′ at cost 0, with
+--                           the whole limit as the margin; so does measuring
+--   Weighed C P s u F r     demand 2: the reading r of the record F has as its cost 200 times the published distance, and as its
+--                           margin the limit less the cost
+--   Nearest C P s u B       demand 3: at most one record of the plan costs under the limit, the reading is that one with its
+--                           cost, and it is 10 exactly when there is none. The limit is the radius: 100 n (n - d) for a
+--                           mark, 100 (n - d) for a strip
+--   UnreadCosts C P s u F   an unread cell costs 100
+--   MarkMargins             a mark's margin is from -49,600 to 25,600, and both ends are reached
+--   LowestGiven             the lowest number that applies is given, over those that concern the call
 --
 -- What this file is for: the sentences that a user relies on, each as one statement whose parts are named.
 use mathlib.Core.Path.{_≡_}
 use mathlib.Core.List.{List}
 use mathlib.Core.Logic.{_≢_}
 use Prim.Native.Nat.{ℕ, _+_, _*_, _≤_, _<_}
-use lib.IntN.{pos}
-use lib.ListN.{length, replicate}
+use lib.IntN.{ℤ, pos, negℤ, _-ℤ_}
+use lib.Signed.{_≤ℤ_}
+use lib.ListN.{length}
 use Rattle.bounded.specs.Bounded.{at}
-use Rattle.definitions.specs.Plan.{modulus, side, degree, point}
-use Rattle.definitions.specs.Code.{Code, strip, square, valueX, valueXY, cells, mark}
-use Rattle.definitions.specs.Cost.{full, radius}
+use Rattle.definitions.specs.declared.Reading.{Reading}
+use Rattle.definitions.specs.Refusals.{Lowest}
+use Rattle.definitions.specs.Plan.{modulus, side, degree, point, planRows, checkNumber}
+use Rattle.definitions.specs.Code.{Code, strip, square, valueX, valueXY, cells, value}
+use Rattle.definitions.specs.Cost.{full, unread, cell, radius}
+use Rattle.definitions.specs.Published.{Fraction, _over_, FromZeroToOne, _is_times_, distance, weighted}
 use Rattle.definitions.specs.Calls as calls
-use Rattle.definitions.specs.Calls.{costOf, readingOf, readNumber, readReading, readBuffer}
+use Rattle.definitions.specs.Calls.{costOf, readingOf, writeRows, writeNumber, writeBuffer}
+use Rattle.definitions.specs.Calls.{measureRows, measureNumber, measureReading}
+use Rattle.definitions.specs.Calls.{readRows, readNumber, readReading, readBuffer}
+use Rattle.definitions.specs.Finder.{findRows, findNumber}
 use Rattle.definitions.specs.Word.{IsRecord}
-
-pub record Nearest (C : Code) (P s u B : List ℕ) : Type 0 where
-  -- where a record costs under the limit, every other record of the plan costs the limit or more
-  pub alone : (F G : List ℕ) → IsRecord C P F → IsRecord C P G → F ≢ G → costOf C P s u F < radius full C P → radius full C P ≤ costOf C P s u G
-  -- the reader returns the one under the limit, with its cost
-  pub returned : (F : List ℕ) → IsRecord C P F → costOf C P s u F < radius full C P → (readReading C P s u B ≡ readingOf C P s u F) × (readBuffer C P s u B ≡ F)
-  -- it refuses with 10 exactly when no record costs under the limit; then the lent buffer is as it was
-  pub refuses : ((F : List ℕ) → IsRecord C P F → radius full C P ≤ costOf C P s u F) → (readReading C P s u B ≡ calls.refused 10) × (readBuffer C P s u B ≡ B)
-  pub refused : readNumber C P s u B ≡ 10 → (F : List ℕ) → IsRecord C P F → radius full C P ≤ costOf C P s u F
+use Rattle.definitions.specs.Photograph.{sure}
 
 abbrev pub Written : Code → (P F b : List ℕ) → Type 0
 Written strip P F b = (length b ≡ side P) × ((j : ℕ) → j < side P → at b j ≡ valueX (modulus P) (degree P) F (point P j))
 Written square P F b = (length b ≡ side P * side P)
     × ((i j : ℕ) → i < side P → j < side P → at b (i * side P + j) ≡ valueXY (modulus P) (degree P) F (point P i) (point P j))
 
-pub record RoundTrip (C : Code) (P F B : List ℕ) : Type 0 where
-  pub reading : readReading C P (mark C P F) (replicate (cells C P) 0) B ≡ record { number = 0; cost = 0; margin = pos (radius full C P); changed = 0; class = 0 }
-  pub buffer : readBuffer C P (mark C P F) (replicate (cells C P) 0) B ≡ F
+-- what is said of a record whose mark was read as it was written
+abbrev pub clean : Code → List ℕ → Reading
+clean C P = record { number = 0; cost = 0; margin = pos (radius full C P); changed = 0; class = 0 }
+
+pub record RoundTrip (C : Code) (P F B B′ : List ℕ) : Type 0 where
+  pub reading : readReading C P (writeBuffer C P F B) (sure (cells C P)) B′ ≡ clean C P
+  pub buffer : readBuffer C P (writeBuffer C P F B) (sure (cells C P)) B′ ≡ F
+  pub measured : measureReading C P (writeBuffer C P F B) (sure (cells C P)) F ≡ clean C P
+
+-- the published distance of a photograph from the mark of the record F
+abbrev pub published : Code → (P s u F : List ℕ) → Fraction
+published C P s u F = distance (cells C P) (weighted full (at s) (at u)) (value C P F)
+
+pub record Weighed (C : Code) (P s u F : List ℕ) (r : Reading) : Type 0 where
+  -- each cell has an uncertainty, as the published distance asks
+  pub uncertain : (c : ℕ) → c < cells C P → FromZeroToOne (at u c over full)
+  pub cost : r .cost is 200 times published C P s u F
+  pub margin : r .margin ≡ pos (radius full C P) -ℤ pos (r .cost)
+
+pub record Nearest (C : Code) (P s u B : List ℕ) : Type 0 where
+  -- where a record costs under the limit, every other record of the plan costs the limit or more
+  pub alone : (F G : List ℕ) → IsRecord C P F → IsRecord C P G → F ≢ G →
+      costOf C P s u F < radius full C P → radius full C P ≤ costOf C P s u G
+  -- the reader returns the one under the limit, with its cost
+  pub returned : (F : List ℕ) → IsRecord C P F → costOf C P s u F < radius full C P →
+      (readReading C P s u B ≡ readingOf C P s u F) × (readBuffer C P s u B ≡ F)
+  -- it refuses with 10 exactly when no record costs under the limit; then the lent buffer is as it was
+  pub refuses : ((F : List ℕ) → IsRecord C P F → radius full C P ≤ costOf C P s u F) →
+      (readReading C P s u B ≡ calls.refused 10) × (readBuffer C P s u B ≡ B)
+  pub refused : readNumber C P s u B ≡ 10 → (F : List ℕ) → IsRecord C P F → radius full C P ≤ costOf C P s u F
+
+abbrev pub UnreadCosts : Code → (P s u F : List ℕ) → Type 0
+UnreadCosts C P s u F = (c : ℕ) → c < cells C P → at s c ≡ unread → cell full (at s c) (at u c) (value C P F c) ≡ 100
+
+-- the margin m is from -49,600 to 25,600; some record has it when it is measured against some mark
+abbrev pub InRange : ℤ → Type 0
+InRange m = (negℤ (pos 49600) ≤ℤ m) × (m ≤ℤ pos 25600)
+
+pub record Reached (m : ℤ) : Type 0 where
+  pub P : List ℕ
+  pub s : List ℕ
+  pub u : List ℕ
+  pub F : List ℕ
+  pub accepted : measureNumber square P s u F ≡ 0
+  pub margin : measureReading square P s u F .margin ≡ m
+
+pub record MarkMargins : Type 0 where
+  pub measured : (P s u F : List ℕ) → InRange (measureReading square P s u F .margin)
+  pub read : (P s u B : List ℕ) → InRange (readReading square P s u B .margin)
+  pub lowest : Reached (negℤ (pos 49600))
+  pub highest : Reached (pos 25600)
+
+pub record LowestGiven : Type 0 where
+  pub check : (P : List ℕ) → Lowest (planRows P) (checkNumber P)
+  pub write : (C : Code) (P F B : List ℕ) → Lowest (writeRows C P F B) (writeNumber C P F B)
+  pub measure : (C : Code) (P s u F : List ℕ) → Lowest (measureRows C P s u F) (measureNumber C P s u F)
+  pub read : (C : Code) (P s u B : List ℕ) → Lowest (readRows C P s u B) (readNumber C P s u B)
+  pub find : (file : List ℕ) (season : ℕ) → Lowest (findRows file season) (findNumber file season)

@@ -3,6 +3,7 @@ pub mod Refusals
 pub mod Plan
 pub mod Code
 pub mod Cost
+pub mod Published
 pub mod Search
 pub mod Calls
 pub mod Finder

@@ -4,7 +4,7 @@
 --   isPrime p       the test by trial division: p is 2 or more, and no number from 2 to p - 1 divides it
 --   Prime p         the same as facts
 --   Inverse p a r   r is the inverse of a modulo p: below p, and r a leaves 1
---   Inverses p t    t is 251 numbers, and those at 1 .. p - 1 are the inverses of their places modulo p
+--   Inverses p t    t is 251 numbers: entry 0 is 0, and those at 1 .. p - 1 are the inverses of their places modulo p
 --
 -- What this file is for: the fields of document 01 are those of a prime modulus.
 use mathlib.Core.Path.{_≡_}
@@ -32,4 +32,5 @@ pub record Inverse (p a r : ℕ) : Type 0 where
 
 pub record Inverses (p : ℕ) (t : List ℕ) : Type 0 where
   pub size : length t ≡ 251
+  pub zero : at t 0 ≡ 0
   pub each : (a : ℕ) → 0 < a → a < p → Inverse p a (at t a)

@@ -3,7 +3,7 @@ ghost use Prim.Native.Nat.{_≤_};
 ghost use Rattle.field.specs.Prime.{Prime, Inverses};
 ghost use Rattle.field.specs.Row.{Reciprocal};
 
-// The inverses modulo 251 by the number; 0 has none.
+// The inverses modulo 251 by the number; 0 has none, and entry 0 is 0.
 const INVERSES: [u16; 251] = [
     0,
     1,
@@ -265,9 +265,9 @@ fn table() -> [u16; 251]
     INVERSES
 }
 
-// The inverses modulo p by the number, from 1 to p - 1; the entries from p are any. At 251, the largest modulus and the
-// usual one, by the table; else each of the lower half from one before it: p = k a + r makes 1 / a the same as -k / r, and r
-// is less than a; and each of the upper half from its mirror in the lower: 1 / (p - a) is -1 / a.
+// The inverses modulo p by the number, from 1 to p - 1; entry 0 is 0, the entries from p are any. At 251, the largest
+// modulus and the usual one, by the table; else each of the lower half from one before it: p = k a + r makes 1 / a the same
+// as -k / r, and r is less than a; and each of the upper half from its mirror in the lower: 1 / (p - a) is -1 / a.
 pub fn inverses(p: u16, m: u16) -> [u16; 251]
     requires { ⌜ Prime p × (p ≤ 251) × Reciprocal p m ⌝ }
     ensures { λ r. ⌜ Inverses p r ⌝ }

@@ -1,24 +1,43 @@
--- The customer's demands 2 and 3, for marks and for strips, over the definitions that the calls' contracts repeat. Assumes nothing.
+-- The customer's demands 2 and 3, for marks and strips, and what document 01 says of every plan, cell, margin and number, over
+-- the definitions that the calls' contracts repeat. The names in these statements are of `definitions/specs`. Assumes nothing.
+--
+--   sound-exactly                        "The season plan": which plans are sound
+--   demand-2-written, demand-2           demand 2: what is written, and that it is read back
+--   demand-2-measured, demand-2-read     demand 2: costs and margins
+--   demand-3                             demand 3
+--   unread-costs, mark-margins           "Photographed mark and cost"
+--   lowest-given                         "What is returned"
 use mathlib.Core.Path.{_≡_, refl, sym, _∙_}
+use mathlib.Core.Logic.{_↔_}
 use mathlib.Core.List.{List}
 use Prim.Native.Nat.{ℕ}
-use lib.IntN.{pos}
 use lib.ListN.{length}
-use Rattle.definitions.specs.Plan.{checkNumber}
-use Rattle.definitions.specs.Code.{Code, strip, square, size, mark}
-use Rattle.definitions.specs.Cost.{full, radius}
-use Rattle.definitions.specs.Calls.{writeNumber, writeBuffer, measureReading}
-use Rattle.definitions.specs.Word.{IsRecord}
-use Rattle.definitions.specs.Photograph.{Photograph}
-use Rattle.definitions.specs.Demands.{Nearest, Written, RoundTrip}
-use Rattle.definitions.proofs.Sound.{sound}
+use Rattle.bounded.specs.Bounded.{at}
+use Rattle.definitions.specs.Plan.{planRows, checkNumber}
+use Rattle.definitions.specs.Code.{Code, strip, square, size, cells, value, mark}
+use Rattle.definitions.specs.Cost.{full}
+use Rattle.definitions.specs.Calls.{photoRows, writeRows, writeNumber, writeBuffer}
+use Rattle.definitions.specs.Calls.{measureRows, measureNumber, measureReading, readRows, readNumber, readReading, readBuffer}
+use Rattle.definitions.specs.Finder.{findRows, findNumber}
+use Rattle.definitions.specs.Sound.{Sound}
+use Rattle.definitions.specs.Photograph.{Photograph, sure}
+use Rattle.definitions.specs.Demands.{Written, RoundTrip, Weighed, Nearest, UnreadCosts, MarkMargins, LowestGiven}
+use Rattle.definitions.proofs.Refusals.{first-lowest}
+use Rattle.definitions.proofs.Sound.{sound, checked}
 use Rattle.definitions.proofs.Demands.{nearest}
-use Rattle.definitions.proofs.Accepted.{writing-checked, accepted-writing, measuring-accepted}
-use Rattle.definitions.proofs.Own.{sure, own-photo, own-reading, round-trip}
+use Rattle.definitions.proofs.Accepted.{accepted-writing, accepted-measuring, accepted-reading, measuring-accepted}
+use Rattle.definitions.proofs.Own.{own-photo, own-reading, own-read}
+use Rattle.definitions.proofs.Published.{photo-weighed}
+use Rattle.definitions.proofs.Margin.{measured-range, read-range, lowest, highest}
+use Rattle.distance.proofs.Cost.{cell-full}
 use Rattle.reed_solomon.proofs.Plan.{only-strip}
 use Rattle.reed_muller.proofs.Mark.{only-square}
-use Rattle.traymark.proofs.Outcome.{write-fills, measure-gives}
+use Rattle.traymark.proofs.Outcome.{write-fills, measure-gives, read-gives}
 use Rattle.records.proofs.Written.{mark-written}
+
+-- A plan is sound, all its bytes as in the table, exactly when checking it gives 0.
+pub sound-exactly : (P : List ℕ) → Sound P ↔ (checkNumber P ≡ 0)
+sound-exactly P = (checked P, sound P)
 
 -- Demand 3. For every sound plan and every photograph in buffers of the right lengths, whatever the points, symbols and doubts: where a
 -- record costs under the limit, every other record of the plan costs the limit or more; the reading is the one under the limit with
@@ -32,16 +51,47 @@ demand-3 square P s u B h l = nearest square P s u B h l (only-square P s u h)
 pub demand-2-written : (C : Code) (P F B : List ℕ) → writeNumber C P F B ≡ 0 → Written C P F (writeBuffer C P F B)
 demand-2-written C P F B e = rw (← write-fills C P F B refl e) (mark-written C P F)
 
--- Measuring a record against the mark that was written of it, with all doubts 0: cost 0, no cell changed, class 0, and the whole radius
--- as the margin.
-pub demand-2-measured : (C : Code) (P F B : List ℕ) → writeNumber C P F B ≡ 0 →
-    measureReading C P (writeBuffer C P F B) (sure C P) F ≡ record { number = 0; cost = 0; margin = pos (radius full C P); changed = 0; class = 0 }
-demand-2-measured C P F B e =
+-- Demand 2, reading what was written: for every plan, record and buffer that the writer accepts, reading what it wrote with all
+-- doubts 0 gives the same record at cost 0, with no cell changed; so does measuring it.
+pub demand-2 : (C : Code) (P F B B′ : List ℕ) → writeNumber C P F B ≡ 0 → length B′ ≡ size C P → RoundTrip C P F B B′
+demand-2 C P F B B′ e l =
     let w = accepted-writing C P F B e in
-    let n = measuring-accepted C P (mark C P F) (sure C P) F (own-photo P (w .sound) C F (writing-checked C P F B e)) (w .given) in
-    rw (← write-fills C P F B refl e) (sym (measure-gives C P (mark C P F) (sure C P) F refl n) ∙ own-reading C P F)
+    let photo = own-photo P (w .sound) C F in
+    let n = measuring-accepted C P (mark C P F) (sure (cells C P)) F photo (w .given) in
+    let m = sym (measure-gives C P (mark C P F) (sure (cells C P)) F refl n) ∙ own-reading C P F in
+    let t = own-read P (w .sound) C F B′ (w .given) (demand-3 C P (mark C P F) (sure (cells C P)) B′ photo l) in
+    record {
+      reading = rw (← write-fills C P F B refl e) (t .0);
+      buffer = rw (← write-fills C P F B refl e) (t .1);
+      measured = rw (← write-fills C P F B refl e) m;
+    }
 
--- Demand 2, reading what was written: for every sound plan and every record of it, reading its mark with all doubts 0 gives the record
--- at cost 0, with no cell changed.
-pub demand-2 : (C : Code) (P F B : List ℕ) → checkNumber P ≡ 0 → IsRecord C P F → length B ≡ size C P → RoundTrip C P F B
-demand-2 C P F B e r l = round-trip C P F B e r (demand-3 C P (mark C P F) (sure C P) B (own-photo P (sound P e) C F e) l)
+-- Demand 2, costs: what measuring and reading accept costs 200 times the published distance, and its margin is the limit less the
+-- cost.
+pub demand-2-measured : (C : Code) (P s u F : List ℕ) → measureNumber C P s u F ≡ 0 → Weighed C P s u F (measureReading C P s u F)
+demand-2-measured C P s u F e =
+    rw (← measure-gives C P s u F refl e) (photo-weighed C P s u F (accepted-measuring C P s u F e .1))
+
+pub demand-2-read : (C : Code) (P s u B : List ℕ) → readNumber C P s u B ≡ 0 →
+    Weighed C P s u (readBuffer C P s u B) (readReading C P s u B)
+demand-2-read C P s u B e =
+    rw (read-gives C P s u B e) (photo-weighed C P s u (readBuffer C P s u B) (accepted-reading C P s u B e))
+
+-- An unread cell costs 100 for every record.
+pub unread-costs : (C : Code) (P s u F : List ℕ) → Photograph C P s u → UnreadCosts C P s u F
+unread-costs C P s u F h c l e = rw (h .erased c l e) (cell-full full (at s c) (value C P F c))
+
+-- Every margin of a mark is from -49,600 to 25,600, and both ends are reached.
+pub mark-margins : MarkMargins
+mark-margins = record { measured = measured-range; read = read-range; lowest = lowest; highest = highest }
+
+-- The number that a call gives is the lowest that applies, over those that concern the call.
+pub lowest-given : LowestGiven
+unfolding checkNumber writeNumber measureNumber readNumber findNumber planRows photoRows writeRows measureRows readRows findRows
+lowest-given = record {
+  check = λ P. first-lowest (planRows P) tt refl;
+  write = λ C P F B. first-lowest (writeRows C P F B) tt refl;
+  measure = λ C P s u F. first-lowest (measureRows C P s u F) tt refl;
+  read = λ C P s u B. first-lowest (readRows C P s u B) tt refl;
+  find = λ file y. first-lowest (findRows file y) tt refl;
+}

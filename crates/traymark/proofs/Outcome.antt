@@ -6,6 +6,7 @@ use Prim.Native.Nat.{ℕ, zero, suc}
 use Rattle.definitions.specs.Refusals.{first, accepted}
 use Rattle.definitions.specs.Code.{Code, mark}
 use Rattle.definitions.specs.Calls.{refused, readingOf, photoRows, writeNumber, writeBuffer, measureNumber, measureReading}
+use Rattle.definitions.specs.Calls.{readNumber, readReading, readBuffer}
 use Rattle.definitions.specs.Reads.{Reads}
 use Rattle.definitions.proofs.Nearest.{reads-refused}
 use Rattle.marks.specs.Loading.{Taken}
@@ -43,3 +44,9 @@ module _ (C : Code) (P s u B : List ℕ) {k : ℕ} (e : k ≡ first (photoRows C
 
   pub read-takes : k ≡ 0 → Taken C P s u B
   read-takes z = taken C P s u B (sym e ∙ z)
+
+-- the reading is that of the record in the buffer
+pub read-gives : (C : Code) (P s u B : List ℕ) → readNumber C P s u B ≡ 0 →
+    readReading C P s u B ≡ readingOf C P s u (readBuffer C P s u B)
+unfolding readReading readBuffer
+read-gives C P s u B e = rw e

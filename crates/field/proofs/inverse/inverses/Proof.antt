@@ -17,9 +17,10 @@ use borrow.Author.Needs.{needs}
 use Rattle.field.proofs.inverse.inverses.Statement.{statement}
 use Rattle.field.proofs.inverse.inverses.Tie as tie
 
--- the numbers that are less than a, or less than a before p, have their inverses
+-- entry 0 is 0, and the numbers that are less than a, or less than a before p, have their inverses
 record Made (p a : ℕ) (l : List ℕ) : Type 0 where
   size : length l ≡ 251
+  zero : at l 0 ≡ 0
   each : (b : ℕ) → 0 < b → b < p → min b (p - b) < a → Inverse p b (at l b)
 
 -- entry 1 of the table is 1, the inverse of 1 by every modulus
@@ -33,6 +34,7 @@ first i = omega (arith, (i .each 1 (omega arith) (omega arith)) .one, (i .each 1
 made-start : {p : ℕ} {t : List ℕ} → 2 ≤ p → p ≤ 251 → Inverses 251 t → Made p 2 (set t (p - 1) (p - 1))
 made-start {p} {t} l k i = record {
   size = length-set t (p - 1) (p - 1) ∙ i .size;
+  zero = let n : 0 ≢ p - 1 = λ e. omega arith in getD-set-other t (p - 1) 0 (p - 1) 0 n ∙ i .zero;
   each = λ b z h m. elim (ℕ-discrete b (p - 1)) [
     | yes e ↦
         let n : p - 1 < length t = omega (arith, i .size) in
@@ -47,9 +49,13 @@ before {p} {a} r h l m =
     let k = mod-lt p {m = a} (omega arith) in
     m .each (p % a) (omega (arith, r .alone a h l)) (omega (arith, k)) (omega (arith, k))
 
-made-step : {p a v : ℕ} {l : List ℕ} → p ≤ 251 → a + a < p → Inverse p a v → Made p a l → Made p (a + 1) (set (set l a v) (p - a) (p - v))
-made-step {p} {a} {v} {l} k h i m = record {
+made-step : {p a v : ℕ} {l : List ℕ} → p ≤ 251 → 2 ≤ a → a + a < p → Inverse p a v → Made p a l →
+    Made p (a + 1) (set (set l a v) (p - a) (p - v))
+made-step {p} {a} {v} {l} k two h i m = record {
   size = length-set (set l a v) (p - a) (p - v) ∙ n;
+  zero = getD-set-other (set l a v) (p - a) 0 (p - v) 0 (λ e. omega arith)
+      ∙ getD-set-other l a 0 v 0 (λ e. omega arith)
+      ∙ m .zero;
   each = λ b z t s. elim (ℕ-discrete b (p - a)) [
     | yes e ↦
         let f : p - a < length (set l a v) = omega (arith, n) in
@@ -165,13 +171,14 @@ loop-again c =
     let b = c .before .before .before .before .before in
     let l = c .before .before .loop in
     let i = before (b .pre .0) (l .inv .0) (omega arith) (l .inv .2) in
-    (omega arith, omega arith, made-step (b .pre .1) (omega arith) (rw (c .reduce .ensures .0) (inverse-step (omega arith) i)) (l .inv .2))
+    let m = made-step (b .pre .1) (l .inv .0) (omega arith) (inverse-step (omega arith) i) (l .inv .2) in
+    (omega arith, omega arith, rw (c .reduce .ensures .0) m)
 
 returns-2 : tie.Need-returns-2 Inv-loop μ-loop
 returns-2 c =
     let l = c .before .loop in
     let odd = not-twice (c .before .before .before .before .pre .0) (l .inv .0) in
-    record { size = l .inv .2 .size; each = λ b z k. l .inv .2 .each b z k (omega (arith, odd)) }
+    record { size = l .inv .2 .size; zero = l .inv .2 .zero; each = λ b z k. l .inv .2 .each b z k (omega (arith, odd)) }
 
 pub inverses-spec : {M : Type 1} → statement M
 inverses-spec =

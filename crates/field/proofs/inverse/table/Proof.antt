@@ -1,11 +1,11 @@
 -- `field::inverse::table` meets its contract: one test, which antt computes over the table. Assumes nothing.
 use mathlib.Core.Path.{_≡_, refl}
-use mathlib.Core.Bool.{Bool, true, false, not, _&&_, true≢false}
+use mathlib.Core.Bool.{Bool, true, false, not, _&&_, false≢true}
 use mathlib.Core.List.{List, [], _∷_}
-use Prim.Native.Nat.{ℕ, suc, _-_, _*_, _%_}
+use Prim.Native.Nat.{ℕ, zero, suc, _*_, _%_, _<_}
 use native.Mathlib.Omega.{arith}
 use lib.Dec.{eqb, ltb}
-use borrow.Author.Tests.{eqb-true, ltb-true}
+use borrow.Author.Tests.{eqb-true, ltb-true, not-false}
 use Rattle.bounded.specs.Bounded.{at, any}
 use Rattle.bounded.proofs.Any.{any-none}
 use Rattle.field.specs.Prime.{Inverse}
@@ -31,30 +31,37 @@ inverses =
     158 ∷ 222 ∷ 10 ∷ 115 ∷ 120 ∷ 57 ∷ 239 ∷ 138 ∷ 66 ∷ 237 ∷ 59 ∷ 47 ∷ 184 ∷ 233 ∷ 193 ∷ 230 ∷
     114 ∷ 25 ∷ 223 ∷ 94 ∷ 215 ∷ 209 ∷ 50 ∷ 188 ∷ 167 ∷ 125 ∷ 250 ∷ []
 
--- whether the entry at suc i is no inverse of it; entry 0 is free
-wrong : ℕ → Bool
-wrong i = not (ltb (at inverses (suc i)) 251 && eqb (at inverses (suc i) * suc i % 251) 1)
+-- the rule of the entry r at the place a: at 0 it is 0, elsewhere the inverse
+rule : (a r : ℕ) → Bool
+rule zero r = eqb r 0
+rule (suc a) r = ltb r 251 && eqb (r * suc a % 251) 1
 
-none-wrong : any 250 wrong ≡ false
-unfolding any wrong inverses
+wrong : ℕ → Bool
+wrong a = not (rule a (at inverses a))
+
+none-wrong : any 251 wrong ≡ false
+unfolding any rule wrong inverses
 none-wrong = refl
 
-right : (a r : ℕ) → not (ltb r 251 && eqb (r * a % 251) 1) ≡ false → Inverse 251 a r
-right a r h = go (ltb r 251) (eqb (r * a % 251) 1) refl refl h
+right : (a : ℕ) → a < 251 → rule a (at inverses a) ≡ true
+unfolding wrong
+right a l = not-false _ (any-none 251 wrong none-wrong a l)
+
+inverse : (a r : ℕ) → ltb r 251 && eqb (r * a % 251) 1 ≡ true → Inverse 251 a r
+inverse a r h = go (ltb r 251) (eqb (r * a % 251) 1) refl refl h
   where
-    go : (x y : Bool) → ltb r 251 ≡ x → eqb (r * a % 251) 1 ≡ y → not (x && y) ≡ false → Inverse 251 a r
+    go : (x y : Bool) → ltb r 251 ≡ x → eqb (r * a % 251) 1 ≡ y → x && y ≡ true → Inverse 251 a r
     go true true l e h = record { below = ltb-true _ _ l; one = eqb-true _ _ e }
-    go true false l e h = absurd (true≢false h)
-    go false y l e h = absurd (true≢false h)
+    go true false l e h = absurd (false≢true h)
+    go false y l e h = absurd (false≢true h)
 
 returns : tie.Need-returns
-unfolding inverses wrong
-returns c = record {
-  size = refl;
-  each = λ a z l.
-      let back : suc (a - 1) ≡ a = omega arith in
-      rw back at (right (suc (a - 1)) (at inverses (suc (a - 1))) (any-none 250 wrong none-wrong (a - 1) (omega arith)));
-}
+unfolding inverses rule
+returns c = record { size = refl; zero = eqb-true _ _ (right 0 (omega arith)); each = each }
+  where
+    each : (a : ℕ) → 0 < a → a < 251 → Inverse 251 a (at inverses a)
+    each zero z l = absurd (omega arith)
+    each (suc a) z l = inverse (suc a) (at inverses (suc a)) (right (suc a) l)
 
 pub table-spec : {M : Type 1} → statement M
 table-spec = tie.close (tie.spec returns)

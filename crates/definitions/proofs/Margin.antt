@@ -1,0 +1,91 @@
+-- Every margin that a mark's call returns is from -49,600 to 25,600, and both ends are reached, by marks of the largest side.
+-- Assumes nothing.
+--
+--   in-range                      from the two numbers whose difference the margin is
+--   measured-range, read-range    the margins of the calls
+--   lowest, highest               the ends, computed: all 256 cells wrong at the highest degree, all right at the lowest
+use mathlib.Core.Path.{_≡_, refl}
+use mathlib.Core.Bool.{Bool, true, false, cond}
+use mathlib.Core.List.{List, [], _∷_, _++_}
+use Prim.Native.Nat.{ℕ, zero, suc, _+_, _*_, _-_, _≤_}
+use native.Mathlib.Omega.{arith}
+use native.Mathlib.Nat.{mul-le-mul, mul-le-mul-left, mul-le-mul-right}
+use lib.Dec.{eqb, ltb, le→leb}
+use lib.IntN.{pos, negsuc, negℤ}
+use lib.ListN.{replicate}
+use lib.Signed.{leZ-yes}
+use Rattle.bounded.specs.Bounded.{at, tab}
+use Rattle.bounded.proofs.Sum.{sum-le, sum-const}
+use Rattle.definitions.specs.declared.Reading.{Reading}
+use Rattle.definitions.specs.Refusals.{accepted}
+use Rattle.definitions.specs.Plan.{side, degree}
+use Rattle.definitions.specs.Code.{square, cells, value}
+use Rattle.definitions.specs.Cost.{full, cell, radius, margin}
+use Rattle.definitions.specs.Calls.{refused, costOf, readingOf, nearest, the}
+use Rattle.definitions.specs.Calls.{measureNumber, measureReading, readNumber, readReading}
+use Rattle.definitions.specs.Cases.{outcome}
+use Rattle.definitions.specs.Photograph.{Photograph, sure}
+use Rattle.definitions.specs.Demands.{InRange, Reached}
+use Rattle.definitions.proofs.Sound.{sound}
+use Rattle.definitions.proofs.Accepted.{accepted-measuring, accepted-reading}
+
+by-sign : (t : Bool) (R D : ℕ) → R ≤ 25600 → D ≤ R + 49600 → ltb R D ≡ t → InRange (cond t (negsuc (D - suc R)) (pos (R - D)))
+by-sign true R D i l e = (leZ-yes (le→leb (D - suc R) 49599 (omega arith)), leZ-yes tt)
+by-sign false R D i l e = (leZ-yes tt, leZ-yes (le→leb (R - D) 25600 (omega arith)))
+
+in-range : (R D : ℕ) → R ≤ 25600 → D ≤ R + 49600 → InRange (margin R D)
+unfolding margin
+in-range R zero i l = (leZ-yes tt, leZ-yes (le→leb (R + 0) 25600 (omega arith)))
+in-range R (suc D) i l = by-sign (ltb R (suc D)) R (suc D) i l refl
+
+cell-most : (f s u v : ℕ) → u ≤ f → cell f s u v ≤ 2 * f
+cell-most f s u v h = go (eqb s v)
+  where
+    go : (b : Bool) → cond b u (2 * f - u) ≤ 2 * f
+    go true = omega arith
+    go false = omega arith
+
+module _ (P s u : List ℕ) (h : Photograph square P s u) where
+  cost-most : (F : List ℕ) → costOf square P s u F ≤ side P * side P * 200
+  cost-most F = omega (
+    arith,
+    sum-le (cells square P) (λ c l. cell-most full (at s c) (at u c) (value square P F c) (h .doubt c l)),
+    sum-const (cells square P) 200,
+  )
+
+  photo-range : (F : List ℕ) → InRange (readingOf square P s u F .margin)
+  unfolding readingOf
+  photo-range F =
+      let S = sound P (h .sound) in
+      let n : side P * side P ≤ 16 * side P = mul-le-mul-right (side P) (S .most) in
+      let k : side P * 1 ≤ side P * (side P - degree P) = mul-le-mul-left (side P) (omega (arith, S .low)) in
+      let r : side P - degree P ≤ 16 = omega (arith, S .most) in
+      let m : side P * (side P - degree P) ≤ 16 * 16 = mul-le-mul (S .most) r in
+      in-range (radius full square P) (costOf square P s u F) (omega arith) (omega (arith, cost-most F, S .most))
+
+-- a refusal has the margin 0
+accepted-range : (k : ℕ) (r : Reading) → (k ≡ 0 → InRange (r .margin)) → InRange (accepted k r (refused k) .margin)
+accepted-range zero r h = h refl
+accepted-range (suc k) r h = (leZ-yes tt, leZ-yes tt)
+
+pub measured-range : (P s u F : List ℕ) → InRange (measureReading square P s u F .margin)
+unfolding measureReading
+measured-range P s u F = accepted-range (measureNumber square P s u F) _ λ e.
+    photo-range P s u (accepted-measuring square P s u F e .1) F
+
+pub read-range : (P s u B : List ℕ) → InRange (readReading square P s u B .margin)
+unfolding readReading
+read-range P s u B = accepted-range (readNumber square P s u B) _ λ e.
+    photo-range P s u (accepted-reading square P s u B e) (the (nearest square P s u))
+
+-- a plan of sixteen points and the degree d, and its records of zeros, whose values are 0
+widest : ℕ → List ℕ
+widest d = 0 ∷ 12 ∷ 17 ∷ 16 ∷ d ∷ tab 16 (λ i. i) ++ sure 3
+
+pub lowest : Reached (negℤ (pos 49600))
+unfolding widest outcome
+lowest = record { P = widest 15; s = replicate 256 1; u = sure 256; F = sure 136; accepted = refl; margin = refl }
+
+pub highest : Reached (pos 25600)
+unfolding widest outcome
+highest = record { P = widest 0; s = sure 256; u = sure 256; F = sure 1; accepted = refl; margin = refl }
