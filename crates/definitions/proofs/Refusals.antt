@@ -109,6 +109,18 @@ first-least m ((k when false) ∷ rows) r j (inr a) = first-least k rows (both (
 pub first-lowest : (rows : List Row) → Numbered rows → rising 1 rows ≡ true → Lowest rows (first rows)
 first-lowest rows h r = record { none = first-none rows h; applies = first-applies rows; least = first-least 1 rows r }
 
+-- a number that no row has is not given
+abbrev pub absent : ℕ → List Row → Bool
+absent k [] = true
+absent k ((j when b) ∷ rows) = not (eqb j k) && absent k rows
+
+pub first-absent : (k : ℕ) (rows : List Row) → k ≢ 0 → absent k rows ≡ true → first rows ≢ k
+unfolding first
+first-absent k [] z h e = z (sym e)
+first-absent k ((j when true) ∷ rows) z h e =
+    false≢true (rw (eq-eqb j k e) at (both (not (eqb j k)) (absent k rows) h .0))
+first-absent k ((j when false) ∷ rows) z h e = first-absent k rows z (both (not (eqb j k)) (absent k rows) h .1) e
+
 -- a code's tests as the definitions' tests; `search tests` finds them in what is known at a return
 pub equal : (a b : ℕ) → a ≡ b → not (eqb a b) ≡ false
 equal a b e = rw (eq-eqb a b e)
