@@ -1,5 +1,11 @@
 -- The laws of refusals in order: which row decides, what an accepted call knows of each row, rows after rows, and that the first
 -- number is the lowest where the numbers rise. Assumes nothing.
+--
+--   first-append, first-refuses, first-passes, first-both    rows after rows
+--   first-clear, first-at                                    the number 0, and the number of the row at which the tests stop
+--   first-none, first-applies, first-absent                  the number is one that applies; whatever the order of the numbers
+--   first-lowest                                             where they rise, it is the lowest
+--   equal .. not-false                                       a code's tests as those of the definitions
 use mathlib.Core.Path.{_≡_, refl, sym, ap, _∙_}
 use mathlib.Core.Logic.{_≢_, inl, inr}
 use mathlib.Core.Bool.{Bool, true, false, not, _&&_, false≢true}

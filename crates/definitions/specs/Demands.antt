@@ -16,6 +16,7 @@
 --   LowestGiven             the lowest number that applies is given, over those that concern the call
 --   Measures C P s u F      measuring never gives 10: every record of a photograph's plan is measured, whatever its margin
 --
+-- Signed numbers are the kit's (lib.IntN, lib.Signed): pos n is n, negℤ (pos n) is -n, ≤ℤ their order.
 -- What this file is for: the sentences that a user relies on, each as one statement whose parts are named.
 use mathlib.Core.Path.{_≡_}
 use mathlib.Core.List.{List}

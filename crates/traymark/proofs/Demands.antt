@@ -4,7 +4,7 @@
 --   sound-exactly                        "The season plan": which plans are sound
 --   demand-1                             demand 1: what a refusal gives and leaves
 --   demand-2-written, demand-2           demand 2: what is written, and that it is read back
---   demand-2-measured, demand-2-read     demand 2: costs and margins
+--   demand-2-cost, demand-2-cost-read    demand 2: costs and margins, of measuring and of reading
 --   demand-3                             demand 3
 --   unread-costs, mark-margins           "Photographed mark and cost"
 --   lowest-given, measures               "What is returned"
@@ -79,13 +79,13 @@ demand-2 C P F B B′ e l =
 
 -- Demand 2, costs: what measuring and reading accept costs 200 times the published distance, and its margin is the limit less the
 -- cost.
-pub demand-2-measured : (C : Code) (P s u F : List ℕ) → measureNumber C P s u F ≡ 0 → Weighed C P s u F (measureReading C P s u F)
-demand-2-measured C P s u F e =
+pub demand-2-cost : (C : Code) (P s u F : List ℕ) → measureNumber C P s u F ≡ 0 → Weighed C P s u F (measureReading C P s u F)
+demand-2-cost C P s u F e =
     rw (← measure-gives C P s u F refl e) (photo-weighed C P s u F (accepted-measuring C P s u F e .1))
 
-pub demand-2-read : (C : Code) (P s u B : List ℕ) → readNumber C P s u B ≡ 0 →
+pub demand-2-cost-read : (C : Code) (P s u B : List ℕ) → readNumber C P s u B ≡ 0 →
     Weighed C P s u (readBuffer C P s u B) (readReading C P s u B)
-demand-2-read C P s u B e =
+demand-2-cost-read C P s u B e =
     rw (read-gives C P s u B e) (photo-weighed C P s u (readBuffer C P s u B) (accepted-reading C P s u B e))
 
 -- An unread cell costs 100 for every record.
