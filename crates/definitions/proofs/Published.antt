@@ -1,4 +1,7 @@
 -- A cost is the published distance times twice the full doubt; for a photograph and any record, 200 times. Assumes nothing.
+--
+--   cell-published, cost-published    of one cell, and of n cells, for any full doubt
+--   photo-weighed                     of a photograph: the cost and the margin of any record
 use mathlib.Core.Path.{_≡_, refl, ap}
 use mathlib.Core.Bool.{Bool, true, false}
 use mathlib.Core.List.{List}

@@ -1,5 +1,11 @@
 -- The laws of refusals in order: which row decides, what an accepted call knows of each row, rows after rows, and that the first
 -- number is the lowest where the numbers rise. Assumes nothing.
+--
+--   first-append, first-refuses, first-passes, first-both    rows after rows
+--   first-clear, first-at                                    the number 0, and the number of the row at which the tests stop
+--   first-none, first-applies, first-absent                  the number is one that applies; whatever the order of the numbers
+--   first-lowest                                             where they rise, it is the lowest
+--   equal .. not-false                                       a code's tests as those of the definitions
 use mathlib.Core.Path.{_≡_, refl, sym, ap, _∙_}
 use mathlib.Core.Logic.{_≢_, inl, inr}
 use mathlib.Core.Bool.{Bool, true, false, not, _&&_, false≢true}
@@ -108,6 +114,18 @@ first-least m ((k when false) ∷ rows) r j (inr a) = first-least k rows (both (
 -- the first is the lowest
 pub first-lowest : (rows : List Row) → Numbered rows → rising 1 rows ≡ true → Lowest rows (first rows)
 first-lowest rows h r = record { none = first-none rows h; applies = first-applies rows; least = first-least 1 rows r }
+
+-- a number that no row has is not given
+abbrev pub absent : ℕ → List Row → Bool
+absent k [] = true
+absent k ((j when b) ∷ rows) = not (eqb j k) && absent k rows
+
+pub first-absent : (k : ℕ) (rows : List Row) → k ≢ 0 → absent k rows ≡ true → first rows ≢ k
+unfolding first
+first-absent k [] z h e = z (sym e)
+first-absent k ((j when true) ∷ rows) z h e =
+    false≢true (rw (eq-eqb j k e) at (both (not (eqb j k)) (absent k rows) h .0))
+first-absent k ((j when false) ∷ rows) z h e = first-absent k rows z (both (not (eqb j k)) (absent k rows) h .1) e
 
 -- a code's tests as the definitions' tests; `search tests` finds them in what is known at a return
 pub equal : (a b : ℕ) → a ≡ b → not (eqb a b) ≡ false

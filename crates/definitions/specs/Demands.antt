@@ -1,6 +1,7 @@
 -- The customer's demands, and what document 01 says of every answer, as statements over the definitions. The crate `traymark`
 -- proves them.
 --
+--   RefusalsKeep            demand 1: a refused call gives its number and zeros, and leaves the buffer lent for its result
 --   Written C P F b         demand 2: in b each cell has the value, modulo p, of the polynomial of F at its row and column
 --                           points, or of a strip at its point
 --   RoundTrip C P F B B′    demand 2: reading what was written of F into B, with all doubts 0, gives F into B′ at cost 0, with
@@ -13,7 +14,9 @@
 --   UnreadCosts C P s u F   an unread cell costs 100
 --   MarkMargins             a mark's margin is from -49,600 to 25,600, and both ends are reached
 --   LowestGiven             the lowest number that applies is given, over those that concern the call
+--   Measures C P s u F      measuring never gives 10: every record of a photograph's plan is measured, whatever its margin
 --
+-- Signed numbers are the kit's (lib.IntN, lib.Signed): pos n is n, negℤ (pos n) is -n, ≤ℤ their order.
 -- What this file is for: the sentences that a user relies on, each as one statement whose parts are named.
 use mathlib.Core.Path.{_≡_}
 use mathlib.Core.List.{List}
@@ -35,7 +38,14 @@ use Rattle.definitions.specs.Calls.{measureRows, measureNumber, measureR
 use Rattle.definitions.specs.Calls.{readRows, readNumber, readReading, readBuffer}
 use Rattle.definitions.specs.Finder.{findRows, findNumber}
 use Rattle.definitions.specs.Word.{IsRecord}
-use Rattle.definitions.specs.Photograph.{sure}
+use Rattle.definitions.specs.Photograph.{Photograph, sure}
+
+pub record RefusalsKeep : Type 0 where
+  pub write : (C : Code) (P F B : List ℕ) → writeNumber C P F B ≢ 0 → writeBuffer C P F B ≡ B
+  pub measure : (C : Code) (P s u F : List ℕ) → measureNumber C P s u F ≢ 0 →
+      measureReading C P s u F ≡ calls.refused (measureNumber C P s u F)
+  pub read : (C : Code) (P s u B : List ℕ) → readNumber C P s u B ≢ 0 →
+      (readReading C P s u B ≡ calls.refused (readNumber C P s u B)) × (readBuffer C P s u B ≡ B)
 
 abbrev pub Written : Code → (P F b : List ℕ) → Type 0
 Written strip P F b = (length b ≡ side P) × ((j : ℕ) → j < side P → at b j ≡ valueX (modulus P) (degree P) F (point P j))
@@ -56,7 +66,7 @@ abbrev pub published : Code → (P s u F : List ℕ) → Fraction
 published C P s u F = distance (cells C P) (weighted full (at s) (at u)) (value C P F)
 
 pub record Weighed (C : Code) (P s u F : List ℕ) (r : Reading) : Type 0 where
-  -- each cell has an uncertainty, as the published distance asks
+  -- each doubt over 100 is from 0 to 1, as the published distance asks of an uncertainty
   pub uncertain : (c : ℕ) → c < cells C P → FromZeroToOne (at u c over full)
   pub cost : r .cost is 200 times published C P s u F
   pub margin : r .margin ≡ pos (radius full C P) -ℤ pos (r .cost)
@@ -76,10 +86,10 @@ pub record Nearest (C : Code) (P s u B : List ℕ) : Type 0 where
 abbrev pub UnreadCosts : Code → (P s u F : List ℕ) → Type 0
 UnreadCosts C P s u F = (c : ℕ) → c < cells C P → at s c ≡ unread → cell full (at s c) (at u c) (value C P F c) ≡ 100
 
--- the margin m is from -49,600 to 25,600; some record has it when it is measured against some mark
 abbrev pub InRange : ℤ → Type 0
 InRange m = (negℤ (pos 49600) ≤ℤ m) × (m ≤ℤ pos 25600)
 
+-- some record, measured against some mark, has the margin m
 pub record Reached (m : ℤ) : Type 0 where
   pub P : List ℕ
   pub s : List ℕ
@@ -100,3 +110,7 @@ pub record LowestGiven : Type 0 where
   pub measure : (C : Code) (P s u F : List ℕ) → Lowest (measureRows C P s u F) (measureNumber C P s u F)
   pub read : (C : Code) (P s u B : List ℕ) → Lowest (readRows C P s u B) (readNumber C P s u B)
   pub find : (file : List ℕ) (season : ℕ) → Lowest (findRows file season) (findNumber file season)
+
+pub record Measures (C : Code) (P s u F : List ℕ) : Type 0 where
+  pub never : measureNumber C P s u F ≢ 10
+  pub each : Photograph C P s u → IsRecord C P F → measureNumber C P s u F ≡ 0

@@ -7,7 +7,7 @@
 --   D is k times q     the whole number D is k times the fraction q
 --   Δ (σ, u) σ′        the distance of a weighted symbol, σ with the uncertainty u, from a symbol
 --   distance n r f     Δ(r, f), the sum over the n places t of Δ(r(t), f(t))
---   weighted f s u     the weighted function of symbols s with doubts u: a doubt over the full doubt f is the uncertainty
+--   weighted full s u  the weighted function of symbols s with doubts u: a doubt over the full doubt is the uncertainty
 --
 -- What this file is for: a cost is the published distance times twice the full doubt, a whole number; for photographs, 200 times.
 use mathlib.Core.Path.{_≡_}
@@ -44,5 +44,5 @@ abbrev pub distance : (n : ℕ) (r : ℕ → ℕ × Fraction) (f : ℕ → ℕ) 
 distance zero r f = 0 over 1
 distance (suc n) r f = distance n r f ⊕ Δ (r n) (f n)
 
-abbrev pub weighted : (f : ℕ) (s u : ℕ → ℕ) → ℕ → ℕ × Fraction
-weighted f s u t = (s t, u t over f)
+abbrev pub weighted : (full : ℕ) (s u : ℕ → ℕ) → ℕ → ℕ × Fraction
+weighted full s u t = (s t, u t over full)

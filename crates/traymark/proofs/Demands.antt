@@ -1,16 +1,18 @@
--- The customer's demands 2 and 3, for marks and strips, and what document 01 says of every plan, cell, margin and number, over
+-- The customer's demands, for marks and strips, and what document 01 says of every plan, cell, margin and number, over
 -- the definitions that the calls' contracts repeat. The names in these statements are of `definitions/specs`. Assumes nothing.
 --
 --   sound-exactly                        "The season plan": which plans are sound
+--   demand-1                             demand 1: what a refusal gives and leaves
 --   demand-2-written, demand-2           demand 2: what is written, and that it is read back
---   demand-2-measured, demand-2-read     demand 2: costs and margins
+--   demand-2-cost, demand-2-cost-read    demand 2: costs and margins, of measuring and of reading
 --   demand-3                             demand 3
 --   unread-costs, mark-margins           "Photographed mark and cost"
---   lowest-given                         "What is returned"
+--   lowest-given, measures               "What is returned"
 use mathlib.Core.Path.{_≡_, refl, sym, _∙_}
 use mathlib.Core.Logic.{_↔_}
 use mathlib.Core.List.{List}
 use Prim.Native.Nat.{ℕ}
+use native.Mathlib.Omega.{arith}
 use lib.ListN.{length}
 use Rattle.bounded.specs.Bounded.{at}
 use Rattle.definitions.specs.Plan.{planRows, checkNumber}
@@ -21,8 +23,9 @@ use Rattle.definitions.specs.Calls.{measureRows, measureNumber, measureReading,
 use Rattle.definitions.specs.Finder.{findRows, findNumber}
 use Rattle.definitions.specs.Sound.{Sound}
 use Rattle.definitions.specs.Photograph.{Photograph, sure}
-use Rattle.definitions.specs.Demands.{Written, RoundTrip, Weighed, Nearest, UnreadCosts, MarkMargins, LowestGiven}
-use Rattle.definitions.proofs.Refusals.{first-lowest}
+use Rattle.definitions.specs.Demands.{RefusalsKeep, Written, RoundTrip, Weighed, Nearest}
+use Rattle.definitions.specs.Demands.{UnreadCosts, MarkMargins, LowestGiven, Measures}
+use Rattle.definitions.proofs.Refusals.{first-lowest, first-absent}
 use Rattle.definitions.proofs.Sound.{sound, checked}
 use Rattle.definitions.proofs.Demands.{nearest}
 use Rattle.definitions.proofs.Accepted.{accepted-writing, accepted-measuring, accepted-reading, measuring-accepted}
@@ -32,12 +35,20 @@ use Rattle.definitions.proofs.Margin.{measured-range, read-range, lowest, highe
 use Rattle.distance.proofs.Cost.{cell-full}
 use Rattle.reed_solomon.proofs.Plan.{only-strip}
 use Rattle.reed_muller.proofs.Mark.{only-square}
-use Rattle.traymark.proofs.Outcome.{write-fills, measure-gives, read-gives}
+use Rattle.traymark.proofs.Outcome.{write-keeps, write-fills, measure-refuses, measure-gives, read-keeps, read-gives}
 use Rattle.records.proofs.Written.{mark-written}
 
 -- A plan is sound, all its bytes as in the table, exactly when checking it gives 0.
 pub sound-exactly : (P : List ℕ) → Sound P ↔ (checkNumber P ≡ 0)
 sound-exactly P = (checked P, sound P)
+
+-- Demand 1: a refused call gives its number and zeros, and leaves the buffer that was lent for its result as it was.
+pub demand-1 : RefusalsKeep
+demand-1 = record {
+  write = λ C P F B n. sym (write-keeps C P F B refl n);
+  measure = λ C P s u F n. sym (measure-refuses C P s u F refl n);
+  read = read-keeps;
+}
 
 -- Demand 3. For every sound plan and every photograph in buffers of the right lengths, whatever the points, symbols and doubts: where a
 -- record costs under the limit, every other record of the plan costs the limit or more; the reading is the one under the limit with
@@ -68,13 +79,13 @@ demand-2 C P F B B′ e l =
 
 -- Demand 2, costs: what measuring and reading accept costs 200 times the published distance, and its margin is the limit less the
 -- cost.
-pub demand-2-measured : (C : Code) (P s u F : List ℕ) → measureNumber C P s u F ≡ 0 → Weighed C P s u F (measureReading C P s u F)
-demand-2-measured C P s u F e =
+pub demand-2-cost : (C : Code) (P s u F : List ℕ) → measureNumber C P s u F ≡ 0 → Weighed C P s u F (measureReading C P s u F)
+demand-2-cost C P s u F e =
     rw (← measure-gives C P s u F refl e) (photo-weighed C P s u F (accepted-measuring C P s u F e .1))
 
-pub demand-2-read : (C : Code) (P s u B : List ℕ) → readNumber C P s u B ≡ 0 →
+pub demand-2-cost-read : (C : Code) (P s u B : List ℕ) → readNumber C P s u B ≡ 0 →
     Weighed C P s u (readBuffer C P s u B) (readReading C P s u B)
-demand-2-read C P s u B e =
+demand-2-cost-read C P s u B e =
     rw (read-gives C P s u B e) (photo-weighed C P s u (readBuffer C P s u B) (accepted-reading C P s u B e))
 
 -- An unread cell costs 100 for every record.
@@ -94,4 +105,12 @@ lowest-given = record {
   measure = λ C P s u F. first-lowest (measureRows C P s u F) tt refl;
   read = λ C P s u B. first-lowest (readRows C P s u B) tt refl;
   find = λ file y. first-lowest (findRows file y) tt refl;
+}
+
+-- Measuring never gives 10: a record of the plan is measured against every photograph, a margin of 0 or below returned as such.
+pub measures : (C : Code) (P s u F : List ℕ) → Measures C P s u F
+unfolding measureNumber measureRows photoRows planRows
+measures C P s u F = record {
+  never = first-absent 10 (measureRows C P s u F) (λ e. omega arith) refl;
+  each = measuring-accepted C P s u F;
 }

@@ -45,6 +45,11 @@ module _ (C : Code) (P s u B : List ℕ) {k : ℕ} (e : k ≡ first (photoRows C
   pub read-takes : k ≡ 0 → Taken C P s u B
   read-takes z = taken C P s u B (sym e ∙ z)
 
+pub read-keeps : (C : Code) (P s u B : List ℕ) → (readNumber C P s u B ≡ 0 → ⊥) →
+    (readReading C P s u B ≡ refused (readNumber C P s u B)) × (readBuffer C P s u B ≡ B)
+unfolding readReading readBuffer
+read-keeps C P s u B h = (sym (other (readNumber C P s u B) _ _ h), sym (other (readNumber C P s u B) _ _ h))
+
 -- the reading is that of the record in the buffer
 pub read-gives : (C : Code) (P s u B : List ℕ) → readNumber C P s u B ≡ 0 →
     readReading C P s u B ≡ readingOf C P s u (readBuffer C P s u B)
