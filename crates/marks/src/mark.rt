@@ -57,9 +57,9 @@ fn changed_cells(symbols: &[u8], n: usize, left: &[[u16; 16]; 16]) -> u32
 }
 
 // The first numbers of the message, as many as the record has bytes.
-fn write_message(record: &mut [u8], message: [u16; 136])
-    requires { ⌜ (length (now «record») ≤ 136) × ((j : ℕ) → j < length (now «record») → at message j < 256) ⌝ }
-    ensures { λ _. ⌜ now («record» .exit) ≡ tab (length (now («record» .entry))) (at message) ⌝ }
+fn write_message(record: &mut [u8], message: &[u16; 136])
+    requires { ⌜ (length (now «record») ≤ 136) × ((j : ℕ) → j < length (now «record») → at (now message) j < 256) ⌝ }
+    ensures { λ _. ⌜ now («record» .exit) ≡ tab (length (now («record» .entry))) (at (now (message .entry))) ⌝ }
 {
     for j in 0..record.len() {
         record[j] = message[j] as u8;
@@ -108,7 +108,7 @@ fn decoded(plan: &[u8], symbols: &[u8], doubts: &[u8], record: &mut [u8]) -> Rea
     if cost >= radius {
         return summary::refused(10);
     }
-    write_message(record, message);
+    write_message(record, &message);
     let changed = changed_cells(symbols, n, &left);
     summary::reading(radius, cost, changed)
 }

@@ -3,6 +3,8 @@ use crate::grid::Grid;
 use crate::message;
 use crate::remainder;
 use crate::solver;
+ghost use mathlib.Core.Path.{_≡_};
+ghost use lib.ListN.{length};
 ghost use Rattle.field.specs.Prime.{Inverses};
 ghost use Rattle.polynomial.specs.Powers.{Rows};
 ghost use Rattle.reed_muller.specs.Fit.{Fit, DoubtRows};
@@ -19,7 +21,7 @@ pub fn decode(
     message: &mut [u16; 136],
     cost: &mut u32,
 ) -> [[u16; 16]; 16]
-    requires { ⌜ Fit g × Rows (g .p) symbols × DoubtRows g doubts × Inverses (g .p) (now inverses) ⌝ }
+    requires { ⌜ Fit g × Rows (g .p) symbols × DoubtRows g doubts × Inverses (g .p) (now inverses) × (length (now message) ≡ 136) ⌝ }
     ensures { λ left. ⌜ Outcome g symbols doubts left (under g (now (cost .exit))) (now (message .exit)) (now (cost .exit)) ⌝ }
 {
     let mut left = symbols;
@@ -29,6 +31,6 @@ pub fn decode(
     if solved >= remainder::radius(g) {
         return left;
     }
-    *message = message::flatten(&columns, g.d);
+    message::flatten(message, &columns, g.d);
     left
 }
