@@ -14,7 +14,6 @@ use borrow.Author.Tests.{lt-ltb, le-ltb}
 use Rattle.bounded.specs.Bounded.{at, tab}
 use Rattle.bounded.proofs.Sum.{sum-eq, sum-rows, cell-row, cell-column}
 use Rattle.bounded.proofs.Tab.{length-tab, tab-at}
-use Rattle.field.specs.Prime.{Inverses}
 use Rattle.field.specs.Row.{row, Reciprocal}
 use Rattle.field.proofs.Congruence.{same, ~add, mod-cong, _⨾_}
 use Rattle.field.proofs.Row.{row-at, row-of, beyond}
@@ -93,13 +92,11 @@ module _ {P s u B x : List ℕ} {left u′ : List (List ℕ)} (t : Taken square 
   loaded r c l m = rw (symbol-at t es r c l m, doubt-at r c l m)
       (residue-loaded (at s (r * side P + c)) (at u (r * side P + c)) (t .photo .erased (r * side P + c) (inside t es r c l m)))
 
-  pub mark-received : {m : ℕ} {v : List ℕ} → Reciprocal (modulus P) m → Inverses (modulus P) v →
-      Fit (gridOf P x m) × Rows (modulus P) left × DoubtRows (gridOf P x m) u′ × Inverses (modulus P) v
-  mark-received R table = (
+  pub mark-received : {m : ℕ} → Reciprocal (modulus P) m → Fit (gridOf P x m) × Rows (modulus P) left × DoubtRows (gridOf P x m) u′
+  mark-received R = (
     square-fits (t .sound) R (rw ex (points-row (t .sound))) point-at (omega arith),
     symbol-rows t es,
     λ r l c m. rw (doubt-at r c l m) (t .photo .doubt (r * side P + c) (inside t es r c l m)),
-    table,
   )
 
   -- what the decoder answers, and what it leaves

@@ -1,54 +1,57 @@
+-- `marks::mark::write_message` meets its contract: the places below j are written. Assumes nothing.
+use mathlib.Core.Path.{_≡_, refl, _∙_}
+use mathlib.Core.List.{_++_}
+use Prim.Native.Nat.{_-_, _≤_, _<_}
+use native.Mathlib.Omega.{arith}
+use lib.ListN.{length, drop}
+use Rattle.bounded.specs.Bounded.{at, tab}
+use Rattle.bounded.proofs.Tab.{tab-more, tab-whole}
 use borrow.Author.Needs.{needs}
 use Rattle.marks.proofs.mark.write_message.Statement.{statement}
 use Rattle.marks.proofs.mark.write_message.Tie as tie
-use Rattle.marks.proofs.mark.write_message.Reads as reads
-use Rattle.marks.proofs.mark.write_message.Lts as lts
 
 abbrev Inv-loop : tie.InvT-loop
-Inv-loop record₀ message j₀ j-end «record» j = ?
+Inv-loop record₀ message j₀ j-end «record» j =
+    (j ≤ length record₀) × (j-end ≡ length record₀) × (length «record» ≡ length record₀) × («record» ≡ tab j (at message) ++ drop j record₀)
 
 abbrev μ-loop : tie.MeasureT-loop
-μ-loop record₀ message j₀ j-end «record» j = ?
+μ-loop record₀ message j₀ j-end «record» j = length record₀ - j
 
--- src/mark.rt:64:5
 loop-holds : tie.Need-loop-holds Inv-loop μ-loop
-loop-holds c = search needs
+unfolding tab
+loop-holds c = (omega arith, refl, refl, refl)
 
--- src/mark.rt:65:21
 mul-record : tie.Need-mul-record Inv-loop μ-loop
 mul-record c = search needs
 
--- src/mark.rt:65:21
 element-copy-out-record : tie.Need-element-copy-out-record Inv-loop μ-loop
 element-copy-out-record c = search needs
 
--- src/mark.rt:65:21
 cast-record : tie.Need-cast-record Inv-loop μ-loop
-cast-record c = search needs
+cast-record c = omega (arith, c .before .before .before .pre .1 (c .before .before .loop .j) (omega arith))
 
--- src/mark.rt:65:9
 slice-write-record : tie.Need-slice-write-record Inv-loop μ-loop
 slice-write-record c = search needs
 
--- src/mark.rt:64:9
 add-j : tie.Need-add-j Inv-loop μ-loop
 add-j c = search needs
 
--- src/mark.rt:64:5
 loop-less : tie.Need-loop-less Inv-loop μ-loop
 loop-less c = search needs
 
--- src/mark.rt:64:5
 loop-again : tie.Need-loop-again Inv-loop μ-loop
-loop-again c = search needs
+loop-again c =
+    let l = c .before .before .loop in
+    let h : l .j < length (c .before .before .before .args .«record» .now) = omega arith in
+    (search needs, search needs, search needs, rw (l .inv .3) (tab-more _ _ _ h))
 
--- src/mark.rt:60:1
 same-length : tie.Need-same-length Inv-loop μ-loop
 same-length c = search needs
 
--- src/mark.rt:60:1
 returns : tie.Need-returns Inv-loop μ-loop
-returns c = search needs
+returns c =
+    let e : c .before .loop .j ≡ length (c .before .before .args .«record» .now) = omega arith in
+    rw e at (c .before .loop .inv .3) ∙ tab-whole _ (at (c .before .before .args .message .now)) (c .before .before .args .«record» .now) refl
 
 pub write-message-spec : {M : Type 1} → statement M
 write-message-spec =
