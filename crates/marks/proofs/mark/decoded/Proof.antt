@@ -37,11 +37,10 @@ write-message-requires c κs =
     let s = e .before .before .before .before in
     let d = s .before .before .before in
     let x = d .before in
-    let t = x .before .before .before .before .before .before .before .before .pre in
-    (
+    let t = x .before .before .before .before .before .before .before .before .pre in (
       message-room t (x .points .ensures) (s .residue-rows .ensures) (d .doubt-rows .ensures) (e .decode .ensures),
       message-small t (x .points .ensures) (s .residue-rows .ensures) (d .doubt-rows .ensures) (e .decode .ensures)
-      (omega (arith, i .if1 .left, r .radius .ensures .0)),
+          (omega (arith, i .if1 .left, r .radius .ensures .0)),
     )
 
 changed-cells-requires : tie.Need-changed-cells-requires

@@ -16,7 +16,7 @@ decode-spec =
     (λ c. let r = c .before in outcome-none (r .before .solve .ensures) (omega (arith, c .if1 .taken, r .radius .ensures)))
     (λ c κs. search needs)
     (λ c.
-        let e = c .before .before .before in
-        let s = e .before .before in
-        outcome-found (s .solve .ensures) (s .before .before .before .before .pre .0) (c .flatten .ensures)
-        (omega (arith, e .if1 .left, e .before .radius .ensures))))
+    let e = c .before .before .before in
+    let s = e .before .before in
+    outcome-found (s .solve .ensures) (s .before .before .before .before .pre .0) (c .flatten .ensures)
+    (omega (arith, e .if1 .left, e .before .radius .ensures))))

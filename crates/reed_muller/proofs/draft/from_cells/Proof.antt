@@ -19,11 +19,11 @@ from-cells-spec =
     (λ c. search needs)
     (λ c κs. search needs)
     (λ c κs.
-        let b = c .before .before .before .before .before .before .before .before .before .before .before .before .before .before .pre in
-        let f = b .0 in
-        (f .reciprocal, b .1, c .before .exchange .ensures .rows, f .columnPoints, omega (arith, f .low, f .rows)))
+    let b = c .before .before .before .before .before .before .before .before .before .before .before .before .before .before .pre in
+    let f = b .0 in
+    (f .reciprocal, b .1, c .before .exchange .ensures .rows, f .columnPoints, omega (arith, f .low, f .rows)))
     (λ c κs.
-        let e = c .before .before .before in
-        let f = e .before .before .before .before .before .before .before .before .before .before .before .before .before .pre .0 in
-        (f .reciprocal, c .before .divide-differences2 .ensures, f .columnPoints, omega (arith, f .low, f .rows)))
+    let e = c .before .before .before in
+    let f = e .before .before .before .before .before .before .before .before .before .before .before .before .before .pre .0 in
+    (f .reciprocal, c .before .divide-differences2 .ensures, f .columnPoints, omega (arith, f .low, f .rows)))
     (λ c. search needs))

@@ -22,9 +22,9 @@ from-lines-spec =
     (λ c. search needs)
     (λ c. search needs)
     (λ c κs.
-        let g = c .before .before .before in
-        let b = g .before .before .before .before .before .pre in
-        (b .0 .reciprocal, b .1, g .gather .ensures .0, g .gather .ensures .1, last-small c))
+    let g = c .before .before .before in
+    let b = g .before .before .before .before .before .pre in
+    (b .0 .reciprocal, b .1, g .gather .ensures .0, g .gather .ensures .1, last-small c))
     (λ c. omega (arith, last-small (c .before .before .before)))
     (λ c. last-small (c .before .before .before))
     (λ c κs. search needs)
