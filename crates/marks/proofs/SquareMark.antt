@@ -46,6 +46,12 @@ use Rattle.marks.proofs.Square.{cell-at, flag-differ}
 abbrev gridOf : (P x : List ℕ) (m : ℕ) → Grid
 gridOf P x m = record { p = modulus P; m = m; x = x; a = side P; y = x; b = side P; d = degree P; full = full }
 
+-- a record has a byte at least, and at most as many as a message has numbers
+pub record-room : {P s u B : List ℕ} → Taken square P s u B → (0 < length B) × (length B ≤ 136)
+record-room {P} t =
+    let l : degree P < 16 = omega (arith, t .sound .most, t .sound .low) in
+    rw (t .room, add-one (degree P)) (omega (arith, start-next (degree P) l), omega (arith, start-next (degree P) l, start-most (degree P) l))
+
 module _ {P s u B : List ℕ} {left : List (List ℕ)} (t : Taken square P s u B) (es : SymbolRows (side P) s left) where
   positive : 0 < modulus P
   positive = omega (arith, t .sound .prime .least)
@@ -110,11 +116,7 @@ module _ {P s u B x : List ℕ} {left u′ : List (List ℕ)} (t : Taken square 
     found : g < radius full square P → under (gridOf P x m) g ≡ true
     found h = lt-ltb g _ (omega (arith, limit-is))
 
-    -- the message fits into bytes, and into its buffer
-    pub message-room : length B ≤ 136
-    message-room = let l : degree P < 16 = omega (arith, t .sound .most, t .sound .low) in
-        rw (t .room, add-one (degree P)) (omega (arith, start-next (degree P) l, start-most (degree P) l))
-
+    -- the message fits into bytes
     pub message-small : g < radius full square P → (j : ℕ) → j < length B → at w j < 256
     message-small h j l =
         let z = found h in

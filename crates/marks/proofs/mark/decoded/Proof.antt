@@ -1,7 +1,7 @@
 -- `marks::mark::decoded` meets its contract: what is loaded is what the decoder asks for, and its answer is the reading. Assumes nothing.
 use mathlib.Core.Path.{refl}
 use native.Mathlib.Omega.{arith}
-use Rattle.marks.proofs.SquareMark.{mark-received, mark-refused, mark-reading, message-room, message-small}
+use Rattle.marks.proofs.SquareMark.{mark-received, mark-refused, mark-reading, message-small, record-room}
 use borrow.Author.Needs.{needs}
 use Rattle.marks.proofs.mark.decoded.Statement.{statement}
 use Rattle.marks.proofs.mark.decoded.Tie as tie
@@ -17,8 +17,11 @@ decode-requires c κs =
     let h = mark-received t (x .points .ensures) (s .residue-rows .ensures) (d .doubt-rows .ensures) (r .reciprocal .ensures) in
     (h .0, h .1, h .2, i .inverses .ensures, refl)
 
-returns : tie.Need-returns
-returns c =
+radius-requires : tie.Need-radius-requires
+radius-requires c κs = search needs
+
+refuses : tie.Need-returns
+refuses c =
     let r = c .before .before in
     let e = r .before in
     let s = e .before .before .before .before in
@@ -38,7 +41,7 @@ write-message-requires c κs =
     let d = s .before .before .before in
     let x = d .before in
     let t = x .before .before .before .before .before .before .before .before .pre in (
-      message-room t (x .points .ensures) (s .residue-rows .ensures) (d .doubt-rows .ensures) (e .decode .ensures),
+      record-room t .1,
       message-small t (x .points .ensures) (s .residue-rows .ensures) (d .doubt-rows .ensures) (e .decode .ensures)
           (omega (arith, i .if1 .left, r .radius .ensures .0)),
     )
@@ -80,9 +83,9 @@ decoded-spec =
     (λ c κs. search needs)
     (λ c κs. search needs)
     decode-requires
+    radius-requires
     (λ c κs. search needs)
-    (λ c κs. search needs)
-    returns
+    refuses
     write-message-requires
     changed-cells-requires
     (λ c κs. search needs)
