@@ -50,7 +50,8 @@ gridOf P x m = record { p = modulus P; m = m; x = x; a = side P; y = x; b = side
 pub record-room : {P s u B : List ℕ} → Taken square P s u B → (0 < length B) × (length B ≤ 136)
 record-room {P} t =
     let l : degree P < 16 = omega (arith, t .sound .most, t .sound .low) in
-    rw (t .room, add-one (degree P)) (omega (arith, start-next (degree P) l), omega (arith, start-next (degree P) l, start-most (degree P) l))
+    let e = start-next (degree P) l in
+    rw (t .room, add-one (degree P)) (omega (arith, e), omega (arith, e, start-most (degree P) l))
 
 module _ {P s u B : List ℕ} {left : List (List ℕ)} (t : Taken square P s u B) (es : SymbolRows (side P) s left) where
   positive : 0 < modulus P
@@ -98,7 +99,8 @@ module _ {P s u B x : List ℕ} {left u′ : List (List ℕ)} (t : Taken square 
   loaded r c l m = rw (symbol-at t es r c l m, doubt-at r c l m)
       (residue-loaded (at s (r * side P + c)) (at u (r * side P + c)) (t .photo .erased (r * side P + c) (inside t es r c l m)))
 
-  pub mark-received : {m : ℕ} → Reciprocal (modulus P) m → Fit (gridOf P x m) × Rows (modulus P) left × DoubtRows (gridOf P x m) u′
+  pub mark-received : {m : ℕ} → Reciprocal (modulus P) m →
+      Fit (gridOf P x m) × Rows (modulus P) left × DoubtRows (gridOf P x m) u′
   mark-received R = (
     square-fits (t .sound) R (rw ex (points-row (t .sound))) point-at (omega arith),
     symbol-rows t es,
@@ -106,7 +108,8 @@ module _ {P s u B x : List ℕ} {left u′ : List (List ℕ)} (t : Taken square 
   )
 
   -- what the decoder answers, and what it leaves
-  module _ {m g : ℕ} {after : List (List ℕ)} {w : List ℕ} (D : Outcome (gridOf P x m) left u′ after (under (gridOf P x m) g) w g) where
+  module _ {m g : ℕ} {after : List (List ℕ)} {w : List ℕ}
+      (D : Outcome (gridOf P x m) left u′ after (under (gridOf P x m) g) w g) where
     limit-is : limit (gridOf P x m) ≡ radius full square P
     limit-is = omega (arith, ap (λ n. full * n) (radius-square (side P) (degree P)))
 
@@ -122,7 +125,8 @@ module _ {P s u B x : List ℕ} {left u′ : List (List ℕ)} (t : Taken square 
         let z = found h in
         let k : j < size square P = omega (arith, t .room) in
         let W = tab (size square P) (at w) in
-        let F = mark-record P s u B (t .clear) point-at loaded w (D .decoded) z W (length-tab (size square P) (at w)) (λ i n. tab-at (size square P) (at w) i n) in
+        let n = size square P in
+        let F = mark-record P s u B (t .clear) point-at loaded w (D .decoded) z W (length-tab n (at w)) (tab-at n (at w)) in
         omega (arith, F .below j k, tab-at (size square P) (at w) j k, t .sound .small)
 
     module _ (h : g < radius full square P) {W : List ℕ} (stored : W ≡ tab (length B) (at w)) where
@@ -156,5 +160,7 @@ module _ {P s u B x : List ℕ} {left u′ : List (List ℕ)} (t : Taken square 
 
       pub mark-reading : {k : ℕ} → k ≡ changedCells (side P) (side P) s after → Reads square P s u B (summary (radius full square P) g k) W
       unfolding readingOf
-      mark-reading e = rw (e, changed-of, mark-cost P s u B (t .clear) point-at loaded w (D .decoded) (found h) W word-length word-at)
-          (mark-found P s u B (t .clear) point-at loaded w (D .decoded) (found h) W word-length word-at)
+      mark-reading e =
+          let z = found h in
+          rw (e, changed-of, mark-cost P s u B (t .clear) point-at loaded w (D .decoded) z W word-length word-at)
+          (mark-found P s u B (t .clear) point-at loaded w (D .decoded) z W word-length word-at)

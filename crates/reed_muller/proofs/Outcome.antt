@@ -30,7 +30,8 @@ remaining-more F r b u left h = sum-more r _ ∙ ap (λ n. remaining F r b (cell
 module _ {g : Grid} {s u left columns : List (List ℕ)} {cost : ℕ} (S : Solved g s u left columns cost) where
   -- the cost is not under the radius
   pub outcome-none : {m : List ℕ} → limit g ≤ cost → Outcome g s u left (under g cost) m cost
-  outcome-none {m} h = rw (le-ltb _ _ h) (record { decoded = decoded-none (coef m) (S .over h); remains = λ y. absurd (false≢true y) })
+  outcome-none {m} h = rw (le-ltb _ _ h)
+      (record { decoded = decoded-none (coef m) (S .over h); remains = λ y. absurd (false≢true y) })
 
   -- it is: the flat record of the columns is the answer
   pub outcome-found : {m : List ℕ} → Fit g → Flat columns (g .d + 1) m → cost < limit g → Outcome g s u left (under g cost) m cost

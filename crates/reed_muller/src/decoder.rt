@@ -10,9 +10,9 @@ ghost use Rattle.polynomial.specs.Powers.{Rows};
 ghost use Rattle.reed_muller.specs.Fit.{Fit, DoubtRows};
 ghost use Rattle.reed_muller.specs.Outcome.{Outcome, under};
 
-// Takes the square of the symbols, each below p, and that of the doubts by value, and returns what is left of the symbols by value. Where
-// a record is under the radius, the message becomes that record, of which the groups up to degree d count, and the cost its own; where
-// none is, the cost is not under the radius.
+// Takes the square of the symbols, each below p, and that of the doubts by value, and returns what is left of the symbols by
+// value. Where a record is under the radius, the message becomes that record, of which the groups up to degree d count, and the
+// cost its own; where none is, the cost is not under the radius.
 pub fn decode(
     g: Grid,
     inverses: &[u16; 251],

@@ -51,7 +51,8 @@ same-length c = search needs
 returns : tie.Need-returns Inv-loop μ-loop
 returns c =
     let e : c .before .loop .j ≡ length (c .before .before .args .«record» .now) = omega arith in
-    rw e at (c .before .loop .inv .3) ∙ tab-whole _ (at (c .before .before .args .message .now)) (c .before .before .args .«record» .now) refl
+    let a = c .before .before .args in
+    rw e at (c .before .loop .inv .3) ∙ tab-whole _ (at (a .message .now)) (a .«record» .now) refl
 
 pub write-message-spec : {M : Type 1} → statement M
 write-message-spec =

@@ -19,9 +19,10 @@ from-cells-spec =
     (λ c. search needs)
     (λ c κs. search needs)
     (λ c κs.
-    let b = c .before .before .before .before .before .before .before .before .before .before .before .before .before .before .pre in
+    let e = c .before in
+    let b = e .before .before .before .before .before .before .before .before .before .before .before .before .before .pre in
     let f = b .0 in
-    (f .reciprocal, b .1, c .before .exchange .ensures .rows, f .columnPoints, omega (arith, f .low, f .rows)))
+    (f .reciprocal, b .1, e .exchange .ensures .rows, f .columnPoints, omega (arith, f .low, f .rows)))
     (λ c κs.
     let e = c .before .before .before in
     let f = e .before .before .before .before .before .before .before .before .before .before .before .before .before .pre .0 in

@@ -11,7 +11,8 @@ last-small : (c : tie.After-f3) → c .before .if2 .last < 16
 last-small c =
     let g = c .before .before .before in
     let f = g .before .before .before .before .before .pre .0 in
-    ⊎-elim (λ w. omega (arith, w .0 .taken, w .1, g .gather .ensures .2)) (λ w. omega (arith, w .1, f .low, f .rows)) (c .before .if2 .came)
+    ⊎-elim (λ w. omega (arith, w .0 .taken, w .1, g .gather .ensures .2))
+    (λ w. omega (arith, w .1, f .low, f .rows)) (c .before .if2 .came)
 
 pub from-lines-spec : {M : Type 1} → statement M
 from-lines-spec =

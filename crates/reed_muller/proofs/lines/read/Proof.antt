@@ -5,19 +5,25 @@ use borrow.Author.Needs.{needs}
 use Rattle.reed_muller.proofs.lines.read.Statement.{statement}
 use Rattle.reed_muller.proofs.lines.read.Tie as tie
 
+decode-requires : tie.Need-decode-requires
+decode-requires c κs =
+    let b = c .before .pre in
+    let f = b .0 in
+    ((f .prime, f .reciprocal, f .columnPoints, f .columnsApart, f .columns, omega (arith, f .narrow), omega (arith, f .full), b .2, b .3), b .4)
+
+returns : tie.Need-returns
+returns c =
+    let i = c .before in
+    let D = i .before .decode .ensures in
+    let b = i .before .before .before .pre in
+    answered-found (b .0) (b .3) (D .small) (i .if1 .taken) (D .strip)
+
 pub read-spec : {M : Type 1} → statement M
 read-spec =
     tie.close
     (tie.spec
-    (λ c κs.
-    let b = c .before .pre in
-    let f = b .0 in
-    ((f .prime, f .reciprocal, f .columnPoints, f .columnsApart, f .columns, omega (arith, f .narrow), omega (arith, f .full), b .2, b .3), b .4))
-    (λ c.
-    let i = c .before in
-    let D = i .before .decode .ensures in
-    let b = i .before .before .before .pre in
-    answered-found (b .0) (b .3) (D .small) (i .if1 .taken) (D .strip))
+    decode-requires
+    returns
     (λ c. search needs)
     (λ c. search needs)
     (λ c. let start = c .before .before .before .before .before in omega (arith, line-full (start .args .t) (start .pre .0)))

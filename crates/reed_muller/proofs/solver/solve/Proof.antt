@@ -25,7 +25,8 @@ solve-spec =
     let d = e .before .before .before .before .before in
     let start = d .before .before .before in
     let D = drawn-start {g = start .args .g} {u = start .args .doubts .now} (start .pre .1) (d .from-cells .ensures) in
-    drawn-solved (rw (← add-one (start .args .g .d)) at D) (e .complete .ensures) (omega (arith, c .if2 .taken, c .before .radius .ensures)))
+    drawn-solved (rw (← add-one (start .args .g .d)) at D) (e .complete .ensures)
+    (omega (arith, c .if2 .taken, c .before .radius .ensures)))
     (λ c κs.
     let i = c .before .before in
     let e = i .before .before in
