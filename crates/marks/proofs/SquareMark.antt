@@ -1,7 +1,7 @@
 -- A mark that is loaded, decoded and stored is the reading that document 01 defines. Assumes nothing.
 use mathlib.Core.Path.{_≡_, refl, sym, ap, _∙_}
 use mathlib.Core.Logic.{_⊎_, inl}
-use mathlib.Core.Bool.{Bool, true, false, cond}
+use mathlib.Core.Bool.{true, cond}
 use mathlib.Core.List.{List}
 use Prim.Native.Nat.{ℕ, suc, _+_, _*_, _-_, _%_, _^_, _≤_, _<_}
 use native.Mathlib.Omega.{arith}
@@ -10,11 +10,10 @@ use native.Mathlib.Decide.{decLt}
 use native.Mathlib.Nat.{mul-le-mul-right, mod-lt}
 use lib.Dec.{eqb}
 use lib.ListN.{length}
-use borrow.Author.Tests.{le-ltb}
+use borrow.Author.Tests.{lt-ltb, le-ltb}
 use Rattle.bounded.specs.Bounded.{at, tab}
 use Rattle.bounded.proofs.Sum.{sum-eq, sum-rows, cell-row, cell-column}
 use Rattle.bounded.proofs.Tab.{length-tab, tab-at}
-use Rattle.field.specs.Prime.{Inverses}
 use Rattle.field.specs.Row.{row, Reciprocal}
 use Rattle.field.proofs.Congruence.{same, ~add, mod-cong, _⨾_}
 use Rattle.field.proofs.Row.{row-at, row-of, beyond}
@@ -35,7 +34,8 @@ use Rattle.reed_muller.specs.declared.grid.Grid.{Grid}
 use Rattle.reed_muller.specs.Fit.{Fit, DoubtRows}
 use Rattle.reed_muller.specs.Loops.{cells}
 use Rattle.reed_muller.specs.Mark.{LoadedGrid}
-use Rattle.reed_muller.specs.Outcome.{Outcome}
+use Rattle.reed_muller.specs.Outcome.{Outcome, under}
+use Rattle.reed_muller.specs.Steps.{limit}
 use Rattle.reed_muller.proofs.Square.{square-fits}
 use Rattle.reed_muller.proofs.Mark.{mark-none, mark-record, mark-cost, mark-found}
 use Rattle.marks.specs.Loading.{residue, squareCell, SymbolRows, DoubtLines, Taken}
@@ -45,6 +45,13 @@ use Rattle.marks.proofs.Square.{cell-at, flag-differ}
 
 abbrev gridOf : (P x : List ℕ) (m : ℕ) → Grid
 gridOf P x m = record { p = modulus P; m = m; x = x; a = side P; y = x; b = side P; d = degree P; full = full }
+
+-- a record has a byte at least, and at most as many as a message has numbers
+pub record-room : {P s u B : List ℕ} → Taken square P s u B → (0 < length B) × (length B ≤ 136)
+record-room {P} t =
+    let l : degree P < 16 = omega (arith, t .sound .most, t .sound .low) in
+    let e = start-next (degree P) l in
+    rw (t .room, add-one (degree P)) (omega (arith, e), omega (arith, e, start-most (degree P) l))
 
 module _ {P s u B : List ℕ} {left : List (List ℕ)} (t : Taken square P s u B) (es : SymbolRows (side P) s left) where
   positive : 0 < modulus P
@@ -92,43 +99,37 @@ module _ {P s u B x : List ℕ} {left u′ : List (List ℕ)} (t : Taken square 
   loaded r c l m = rw (symbol-at t es r c l m, doubt-at r c l m)
       (residue-loaded (at s (r * side P + c)) (at u (r * side P + c)) (t .photo .erased (r * side P + c) (inside t es r c l m)))
 
-  pub mark-received : {m : ℕ} {v : List ℕ} → Reciprocal (modulus P) m → Inverses (modulus P) v →
-      Fit (gridOf P x m) × Rows (modulus P) left × DoubtRows (gridOf P x m) u′ × Inverses (modulus P) v
-  mark-received R table = (
+  pub mark-received : {m : ℕ} → Reciprocal (modulus P) m →
+      Fit (gridOf P x m) × Rows (modulus P) left × DoubtRows (gridOf P x m) u′
+  mark-received R = (
     square-fits (t .sound) R (rw ex (points-row (t .sound))) point-at (omega arith),
     symbol-rows t es,
     λ r l c m. rw (doubt-at r c l m) (t .photo .doubt (r * side P + c) (inside t es r c l m)),
-    table,
   )
 
   -- what the decoder answers, and what it leaves
-  module _ {m g : ℕ} {after : List (List ℕ)} {found : Bool} {w : List ℕ} (D : Outcome (gridOf P x m) left u′ after found w g) where
-    pub mark-refused : found ≡ false → Reads square P s u B (refused 10) B
-    mark-refused z = mark-none P s u B (t .clear) point-at loaded w (D .decoded) z
+  module _ {m g : ℕ} {after : List (List ℕ)} {w : List ℕ}
+      (D : Outcome (gridOf P x m) left u′ after (under (gridOf P x m) g) w g) where
+    limit-is : limit (gridOf P x m) ≡ radius full square P
+    limit-is = omega (arith, ap (λ n. full * n) (radius-square (side P) (degree P)))
 
-    -- a cost is a small number
-    pub mark-under : found ≡ true → g < 2147483648
-    mark-under z = omega (
-      arith,
-      D .decoded .sound z .1,
-      ap (λ n. full * n) (radius-square (side P) (degree P)),
-      mul-le-mul-right (side P - degree P) (t .sound .most),
-      t .sound .most,
-    )
+    pub mark-refused : radius full square P ≤ g → Reads square P s u B (refused 10) B
+    mark-refused h = mark-none P s u B (t .clear) point-at loaded w (D .decoded) (le-ltb g _ (omega (arith, limit-is)))
 
-    -- the message fits into bytes, and into its buffer
-    pub message-room : length B ≤ 136
-    message-room = let l : degree P < 16 = omega (arith, t .sound .most, t .sound .low) in
-        rw (t .room, add-one (degree P)) (omega (arith, start-next (degree P) l, start-most (degree P) l))
+    found : g < radius full square P → under (gridOf P x m) g ≡ true
+    found h = lt-ltb g _ (omega (arith, limit-is))
 
-    pub message-small : found ≡ true → (j : ℕ) → j < length B → at w j < 256
-    message-small z j l =
+    -- the message fits into bytes
+    pub message-small : g < radius full square P → (j : ℕ) → j < length B → at w j < 256
+    message-small h j l =
+        let z = found h in
         let k : j < size square P = omega (arith, t .room) in
         let W = tab (size square P) (at w) in
-        let h = mark-record P s u B (t .clear) point-at loaded w (D .decoded) z W (length-tab (size square P) (at w)) (λ i n. tab-at (size square P) (at w) i n) in
-        omega (arith, h .below j k, tab-at (size square P) (at w) j k, t .sound .small)
+        let n = size square P in
+        let F = mark-record P s u B (t .clear) point-at loaded w (D .decoded) z W (length-tab n (at w)) (tab-at n (at w)) in
+        omega (arith, F .below j k, tab-at (size square P) (at w) j k, t .sound .small)
 
-    module _ (z : found ≡ true) {W : List ℕ} (stored : W ≡ tab (length B) (at w)) where
+    module _ (h : g < radius full square P) {W : List ℕ} (stored : W ≡ tab (length B) (at w)) where
       word-length : length W ≡ size square P
       word-length = rw stored (length-tab (length B) (at w)) ∙ t .room
 
@@ -149,7 +150,7 @@ module _ {P s u B x : List ℕ} {left u′ : List (List ℕ)} (t : Taken square 
       cell-changed : (r c : ℕ) → r < side P → c < side P →
           _≡_ {A = ℕ} (cond (eqb (flag (squareCell (side P) s r c) (cells after r c)) 0) 0 1) (cond (eqb (at s (r * side P + c)) (value square P W (r * side P + c))) 0 1)
       cell-changed r c l m =
-          let R = D .remains z in
+          let R = D .remains (found h) in
           rw (cell-at (side P) s r c m, value-at r c l m)
           (flag-differ (t .sound .small) (t .photo .symbol (r * side P + c) (inside t es r c l m)) (omega (arith, R .below r c l m, positive t es)) (mod-lt (line-value r c) (positive t es))
           (~add (same refl) (mod-cong (positive t es) (line-value r c)) ⨾ R .whole r c l m ⨾ same (symbol-at t es r c l m)))
@@ -159,5 +160,7 @@ module _ {P s u B x : List ℕ} {left u′ : List (List ℕ)} (t : Taken square 
 
       pub mark-reading : {k : ℕ} → k ≡ changedCells (side P) (side P) s after → Reads square P s u B (summary (radius full square P) g k) W
       unfolding readingOf
-      mark-reading e = rw (e, changed-of, mark-cost P s u B (t .clear) point-at loaded w (D .decoded) z W word-length word-at)
+      mark-reading e =
+          let z = found h in
+          rw (e, changed-of, mark-cost P s u B (t .clear) point-at loaded w (D .decoded) z W word-length word-at)
           (mark-found P s u B (t .clear) point-at loaded w (D .decoded) z W word-length word-at)

@@ -1,3 +1,3 @@
--- What the contracts of writing, measuring and reading need beside the definitions.
+-- What the contracts of reading need beside the definitions: how photographs are taken and loaded, and the changed cells.
 pub mod Loading
 pub mod Changed

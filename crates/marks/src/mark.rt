@@ -57,9 +57,9 @@ fn changed_cells(symbols: &[u8], n: usize, left: &[[u16; 16]; 16]) -> u32
 }
 
 // The first numbers of the message, as many as the record has bytes.
-fn write_message(record: &mut [u8], message: [u16; 136])
-    requires { ⌜ (length (now «record») ≤ 136) × ((j : ℕ) → j < length (now «record») → at message j < 256) ⌝ }
-    ensures { λ _. ⌜ now («record» .exit) ≡ tab (length (now («record» .entry))) (at message) ⌝ }
+fn write_message(record: &mut [u8], message: &[u16; 136])
+    requires { ⌜ (length (now «record») ≤ 136) × ((j : ℕ) → j < length (now «record») → at (now message) j < 256) ⌝ }
+    ensures { λ _. ⌜ now («record» .exit) ≡ tab (length (now («record» .entry))) (at (now (message .entry))) ⌝ }
 {
     for j in 0..record.len() {
         record[j] = message[j] as u8;
@@ -90,7 +90,7 @@ fn decoded(plan: &[u8], symbols: &[u8], doubts: &[u8], record: &mut [u8]) -> Rea
     let u = load::doubt_rows(doubts, n);
     let m = reciprocal(p);
     let table = inverses(p, m);
-    let mut left = load::residue_rows(symbols, n);
+    let s = load::residue_rows(symbols, n);
     let g = Grid {
         p,
         m,
@@ -101,15 +101,16 @@ fn decoded(plan: &[u8], symbols: &[u8], doubts: &[u8], record: &mut [u8]) -> Rea
         d,
         full: FULL,
     };
-    let a = decode(g, &table, &mut left, &u);
-    if !a.found {
+    let mut message = [0; 136];
+    let mut cost = 0;
+    let left = decode(g, &table, s, u, &mut message, &mut cost);
+    let radius = summary::radius(FULL, n, n, d);
+    if cost >= radius {
         return summary::refused(10);
     }
-    let message = a.message;
-    write_message(record, message);
+    write_message(record, &message);
     let changed = changed_cells(symbols, n, &left);
-    let radius = summary::radius(FULL, n, n, d);
-    summary::reading(radius, a.cost, changed)
+    summary::reading(radius, cost, changed)
 }
 
 // The mark of n times n cells, of total degree d. Doubts that come to the radius leave no record under it.

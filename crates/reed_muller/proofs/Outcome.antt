@@ -1,10 +1,11 @@
 -- What the decoder of marks returns: what is left, measured row by row; and its outcome under the radius and else. Assumes nothing.
 use mathlib.Core.Path.{_≡_, sym, ap, _∙_}
-use mathlib.Core.Bool.{Bool, true, false, false≢true}
+use mathlib.Core.Bool.{false≢true}
 use mathlib.Core.List.{List}
 use Prim.Native.Nat.{ℕ, suc, _+_, _*_, _-_, _≤_, _<_}
 use native.Mathlib.Omega.{arith}
 use lib.ListN.{replicate, getD-replicate}
+use borrow.Author.Tests.{lt-ltb, le-ltb}
 use Rattle.bounded.specs.Bounded.{at}
 use Rattle.bounded.proofs.Sum.{sum-eq, sum-more}
 use Rattle.field.proofs.Congruence.{same}
@@ -15,7 +16,7 @@ use Rattle.reed_muller.specs.Degree.{remaining}
 use Rattle.reed_muller.specs.Fit.{Fit}
 use Rattle.reed_muller.specs.Groups.{Flat}
 use Rattle.reed_muller.specs.Loops.{cells}
-use Rattle.reed_muller.specs.Outcome.{Outcome}
+use Rattle.reed_muller.specs.Outcome.{Outcome, under}
 use Rattle.reed_muller.specs.Steps.{found, limit, Solved}
 use Rattle.reed_muller.proofs.Last.{decoded-none, decoded-found}
 use Rattle.reed_muller.proofs.Rest.{rest-whole}
@@ -28,18 +29,19 @@ remaining-more F r b u left h = sum-more r _ ∙ ap (λ n. remaining F r b (cell
 
 module _ {g : Grid} {s u left columns : List (List ℕ)} {cost : ℕ} (S : Solved g s u left columns cost) where
   -- the cost is not under the radius
-  pub outcome-none : {none : Bool} {m : List ℕ} {c : ℕ} → limit g ≤ cost → none ≡ false → Outcome g s u left none m c
-  outcome-none {m} h e = rw e (record { decoded = decoded-none (coef m) (S .over h); remains = λ y. absurd (false≢true y) })
+  pub outcome-none : {m : List ℕ} → limit g ≤ cost → Outcome g s u left (under g cost) m cost
+  outcome-none {m} h = rw (le-ltb _ _ h)
+      (record { decoded = decoded-none (coef m) (S .over h); remains = λ y. absurd (false≢true y) })
 
   -- it is: the flat record of the columns is the answer
-  pub outcome-found : {m : List ℕ} → Fit g → Flat columns (g .d + 1) m → cost < limit g → Outcome g s u left true m cost
+  pub outcome-found : {m : List ℕ} → Fit g → Flat columns (g .d + 1) m → cost < limit g → Outcome g s u left (under g cost) m cost
   outcome-found {m} f F h =
-      let (e, D) = S .under h in record {
+      let (e, D) = S .under h in rw (lt-ltb _ _ h) (record {
         decoded = decoded-found (coef m) (found columns) (D .costs) is
             (λ t i l. rw (is t i l) (modulus (D .coefficients .done t (omega (arith, f .low, f .rows)) .small i))) e h;
         remains = λ _. rest-whole (at (g .x)) (found columns) (coef m) (λ r c k l. modulus (D .rows .done r (omega (arith, f .rows)) .small c)) (D .rest)
             (λ t i l. same (sym (is t i l)));
-      }
+      })
     where
       is : (t i : ℕ) → i + t ≤ g .d → coef m i t ≡ found columns i t
       is t i l = F .is t i (omega arith)

@@ -4,47 +4,33 @@ use crate::message;
 use crate::remainder;
 use crate::solver;
 ghost use mathlib.Core.Path.{_≡_};
-ghost use mathlib.Core.Bool.{false};
+ghost use lib.ListN.{length};
 ghost use Rattle.field.specs.Prime.{Inverses};
 ghost use Rattle.polynomial.specs.Powers.{Rows};
 ghost use Rattle.reed_muller.specs.Fit.{Fit, DoubtRows};
-ghost use Rattle.reed_muller.specs.Outcome.{Outcome};
+ghost use Rattle.reed_muller.specs.Outcome.{Outcome, under};
 
-// Where found, the one record under the radius, of which the groups up to degree d count, and its cost.
-pub struct Decoding {
-    pub message: [u16; 136],
-    pub cost: u32,
-    pub found: bool,
-}
-
-fn none() -> Decoding
-    ensures { λ r. ⌜ r .found ≡ false ⌝ }
-{
-    Decoding {
-        message: [0; 136],
-        cost: 0,
-        found: false,
-    }
-}
-
-// The record under the radius, if there is one; `left` holds the symbols, each below p, and afterwards what is left of them.
+// Takes the square of the symbols, each below p, and that of the doubts by value, and returns what is left of the symbols by
+// value. Where a record is under the radius, the message becomes that record, of which the groups up to degree d count, and the
+// cost its own; where none is, the cost is not under the radius.
 pub fn decode(
     g: Grid,
     inverses: &[u16; 251],
-    left: &mut [[u16; 16]; 16],
-    doubts: &[[u32; 16]; 16],
-) -> Decoding
-    requires { ⌜ Fit g × Rows (g .p) (now left) × DoubtRows g (now doubts) × Inverses (g .p) (now inverses) ⌝ }
-    ensures { λ r. ⌜ Outcome g (now (left .entry)) (now (doubts .entry)) (now (left .exit)) (r .found) (r .message) (r .cost) ⌝ }
+    symbols: [[u16; 16]; 16],
+    doubts: [[u32; 16]; 16],
+    message: &mut [u16; 136],
+    cost: &mut u32,
+) -> [[u16; 16]; 16]
+    requires { ⌜ Fit g × Rows (g .p) symbols × DoubtRows g doubts × Inverses (g .p) (now inverses) × (length (now message) ≡ 136) ⌝ }
+    ensures { λ left. ⌜ Outcome g symbols doubts left (under g (now (cost .exit))) (now (message .exit)) (now (cost .exit)) ⌝ }
 {
+    let mut left = symbols;
     let mut columns = [[0u16; 16]; 16];
-    let cost = solver::solve(g, inverses, left, doubts, &mut columns);
-    if cost < remainder::radius(g) {
-        return Decoding {
-            message: message::flatten(&columns, g.d),
-            cost,
-            found: true,
-        };
+    let solved = solver::solve(g, inverses, &mut left, &doubts, &mut columns);
+    *cost = solved;
+    if solved >= remainder::radius(g) {
+        return left;
     }
-    none()
+    message::flatten(message, &columns, g.d);
+    left
 }

@@ -1,7 +1,9 @@
-// Drafts of a mark's columns: made by interpolation, without looking for errors. Nothing is said of a draft but that its numbers are
-// residues, since it is tried like any record; where the cells or lines that it comes from are right it is the answer.
+// Drafts of a mark's columns: made by interpolation, without looking for errors. No function here decides a result, each only how
+// long reading takes, since a draft is tried like any record (`trial`), and what is measured decides. So the contracts say no more
+// than that the numbers are residues and that columns already found stay (`Redrawn`); "meant" is what they don't say.
 use crate::grid::Grid;
 use crate::lines;
+use distance::word;
 use field::rows;
 use polynomial::bivariate::place_of_each;
 ghost use Prim.Native.Nat.{_≤_, _<_};
@@ -11,7 +13,7 @@ ghost use Rattle.polynomial.specs.Powers.{Rows};
 ghost use Rattle.reed_muller.specs.Fit.{Fit};
 ghost use Rattle.reed_muller.specs.Steps.{Redrawn};
 
-// c (a - b).
+// Meant: c (a - b).
 fn quotient(a: [u16; 16], b: [u16; 16], c: u16, p: u16, m: u16) -> [u16; 16]
     requires { ⌜ Reciprocal p m × Row p a × Row p b × (c < p) ⌝ }
     ensures { λ r. ⌜ Row p r ⌝ }
@@ -20,7 +22,7 @@ fn quotient(a: [u16; 16], b: [u16; 16], c: u16, p: u16, m: u16) -> [u16; 16]
     rows::scale(c, difference, p, m)
 }
 
-// Newton's coefficients of sixteen polynomials at once, from their values at the first d + 1 points.
+// Meant: Newton's coefficients of sixteen polynomials at once, from their values at the first d + 1 points.
 fn divide_differences(
     f: &mut [[u16; 16]; 16],
     x: [u16; 16],
@@ -48,8 +50,8 @@ fn divide_differences(
     }
 }
 
-// Their coefficients by powers, from Newton's: from the highest on each is freed of a multiple of the one above it, as just made, so that
-// the compiler doesn't work across rows.
+// Meant: their coefficients by powers, from Newton's. From the highest on each is freed of a multiple of the one above it, as just
+// made, so that the compiler doesn't work across rows.
 fn change_to_powers(f: &mut [[u16; 16]; 16], x: [u16; 16], d: usize, p: u16, m: u16)
     requires { ⌜ Reciprocal p m × Rows p (now f) × Row p x × (d < 16) ⌝ }
     ensures { λ _. ⌜ Rows p (now (f .exit)) ⌝ }
@@ -69,7 +71,7 @@ fn change_to_powers(f: &mut [[u16; 16]; 16], x: [u16; 16], d: usize, p: u16, m: 
     }
 }
 
-// The first k places of the rows become the first k columns.
+// Meant: the first k places of the rows become the first k columns. The other columns stay.
 fn exchange(f: &[[u16; 16]; 16], k: usize, p: u16, columns: &mut [[u16; 16]; 16])
     requires { ⌜ (0 < p) × Rows p (now f) × Rows p (now columns) × (k ≤ 16) ⌝ }
     ensures { λ _. ⌜ Redrawn p k (now (columns .entry)) (now (columns .exit)) ⌝ }
@@ -82,23 +84,8 @@ fn exchange(f: &[[u16; 16]; 16], k: usize, p: u16, columns: &mut [[u16; 16]; 16]
     }
 }
 
-// How many of the first k numbers are not v.
-fn others(row: [u16; 16], k: usize, v: u16) -> u16
-    requires { ⌜ k ≤ 16 ⌝ }
-{
-    let mut count = 0;
-    let mut j = 0;
-    while j < k {
-        if row[j] != v {
-            count += 1;
-        }
-        j += 1;
-    }
-    count
-}
-
-// The columns of the polynomial through the cells of the first d + 1 rows and columns. False where its degree in X and Y is above d: then
-// one of these cells is wrong, and the columns are of no use.
+// Meant: the columns of the polynomial through the cells of the first d + 1 rows and columns. False is meant to say that its degree
+// in X and Y is above d, so that one of these cells is wrong and the columns are of no use.
 pub fn from_cells(
     g: Grid,
     inverses: &[u16; 251],
@@ -116,7 +103,8 @@ pub fn from_cells(
     let mut f = *cells;
     divide_differences(&mut f, x, d, p, m, inverses);
     let highest = f[d];
-    if others(highest, d + 1, highest[0]) != 0 {
+    let same = [highest[0]; 16];
+    if word::word_changed(d + 1, highest, same) != 0 {
         return false;
     }
     change_to_powers(&mut f, x, d, p, m);
@@ -126,7 +114,7 @@ pub fn from_cells(
     true
 }
 
-// The lines whose answers are known, and their points, come first; how many they are.
+// Meant: the lines whose answers are known, and their points, come first; how many they are.
 fn gather(g: Grid, known: [u32; 16], f: &mut [[u16; 16]; 16], z: &mut [u16; 16]) -> usize
     requires { ⌜ Fit g × Rows (g .p) (now f) × Row (g .p) (now z) ⌝ }
     ensures { λ i. ⌜ Rows (g .p) (now (f .exit)) × Row (g .p) (now (z .exit)) × (i ≤ 16) ⌝ }
@@ -147,8 +135,8 @@ fn gather(g: Grid, known: [u32; 16], f: &mut [[u16; 16]; 16], z: &mut [u16; 16])
     i
 }
 
-// The columns of Y^0 to Y^(t - 1) through the first d + 1 lines whose answers are known. False where these are fewer, or where the next
-// one does not fit them.
+// Meant: the columns of Y^0 to Y^(t - 1) through the first d + 1 lines whose answers are known. False is meant to say that these are
+// fewer, or that the next one does not fit them. The columns from Y^t on stay.
 pub fn from_lines(
     g: Grid,
     inverses: &[u16; 251],
@@ -175,7 +163,7 @@ pub fn from_lines(
     }
     divide_differences(&mut f, z, last, p, m, inverses);
     if last > d {
-        if others(f[last], t, 0) != 0 {
+        if word::word_changed(t, f[last], [0; 16]) != 0 {
             return false;
         }
     }

@@ -18,16 +18,14 @@ fn put_group(message: &mut [u16; 136], columns: &[[u16; 16]; 16], k: usize)
     }
 }
 
-// The record of degree d whose coefficients of Y^t are row t of the columns.
-pub fn flatten(columns: &[[u16; 16]; 16], d: usize) -> [u16; 136]
-    requires { ⌜ d < 16 ⌝ }
-    ensures { λ r. ⌜ Flat (now (columns .entry)) (d + 1) r ⌝ }
+// Writes the record of degree d whose coefficients of Y^t are row t of the columns.
+pub fn flatten(message: &mut [u16; 136], columns: &[[u16; 16]; 16], d: usize)
+    requires { ⌜ (length (now message) ≡ 136) × (d < 16) ⌝ }
+    ensures { λ _. ⌜ Flat (now (columns .entry)) (d + 1) (now (message .exit)) ⌝ }
 {
-    let mut message = [0; 136];
     let mut k = 0;
     while k <= d {
-        put_group(&mut message, columns, k);
+        put_group(message, columns, k);
         k += 1;
     }
-    message
 }

@@ -120,11 +120,12 @@ pub fn solve(
     requires { ⌜ Fit g × Rows (g .p) (now left) × DoubtRows g (now doubts) × Rows (g .p) (now columns) × Inverses (g .p) (now inverses) ⌝ }
     ensures { λ r. ⌜ Solved g (now (left .entry)) (now (doubts .entry)) (now (left .exit)) (now (columns .exit)) r ⌝ }
 {
-    if draft::from_cells(g, inverses, left, columns) {
-        let cost = trial::complete(g, g.d + 1, columns, left, doubts);
-        if cost < remainder::radius(g) {
-            return cost;
-        }
+    if !draft::from_cells(g, inverses, left, columns) {
+        return solve_by_degrees(g, inverses, left, doubts, columns);
+    }
+    let cost = trial::complete(g, g.d + 1, columns, left, doubts);
+    if cost < remainder::radius(g) {
+        return cost;
     }
     solve_by_degrees(g, inverses, left, doubts, columns)
 }

@@ -24,11 +24,11 @@ loop-holds c = (omega arith, refl, refl, refl)
 mul-record : tie.Need-mul-record Inv-loop μ-loop
 mul-record c = search needs
 
-array-read-record : tie.Need-array-read-record Inv-loop μ-loop
-array-read-record c = search needs
+element-copy-out-record : tie.Need-element-copy-out-record Inv-loop μ-loop
+element-copy-out-record c = search needs
 
 cast-record : tie.Need-cast-record Inv-loop μ-loop
-cast-record c = omega (arith, c .before .before .pre .1 (c .before .loop .j) (omega arith))
+cast-record c = omega (arith, c .before .before .before .pre .1 (c .before .before .loop .j) (omega arith))
 
 slice-write-record : tie.Need-slice-write-record Inv-loop μ-loop
 slice-write-record c = search needs
@@ -41,8 +41,9 @@ loop-less c = search needs
 
 loop-again : tie.Need-loop-again Inv-loop μ-loop
 loop-again c =
-    let h : c .before .loop .j < length (c .before .before .args .«record» .now) = omega arith in
-    (search needs, search needs, search needs, rw (c .before .loop .inv .3) (tab-more _ _ _ h))
+    let l = c .before .before .loop in
+    let h : l .j < length (c .before .before .before .args .«record» .now) = omega arith in
+    (search needs, search needs, search needs, rw (l .inv .3) (tab-more _ _ _ h))
 
 same-length : tie.Need-same-length Inv-loop μ-loop
 same-length c = search needs
@@ -50,7 +51,8 @@ same-length c = search needs
 returns : tie.Need-returns Inv-loop μ-loop
 returns c =
     let e : c .before .loop .j ≡ length (c .before .before .args .«record» .now) = omega arith in
-    rw e at (c .before .loop .inv .3) ∙ tab-whole _ (at (c .before .before .args .t2)) (c .before .before .args .«record» .now) refl
+    let a = c .before .before .args in
+    rw e at (c .before .loop .inv .3) ∙ tab-whole _ (at (a .message .now)) (a .«record» .now) refl
 
 pub write-message-spec : {M : Type 1} → statement M
 write-message-spec =
@@ -60,7 +62,7 @@ write-message-spec =
     μ-loop
     loop-holds
     mul-record
-    array-read-record
+    element-copy-out-record
     cast-record
     slice-write-record
     add-j

@@ -7,35 +7,16 @@ use borrow.Author.Needs.{needs}
 use Rattle.reed_muller.proofs.decoder.decode.Statement.{statement}
 use Rattle.reed_muller.proofs.decoder.decode.Tie as tie
 
-solve-requires : tie.Need-solve-requires
-solve-requires c κs =
-    let start = c .before .before in
-    (start .pre .0, start .pre .1, start .pre .2, equal-rows 0 (positive (start .pre .0)), start .pre .3)
-
-radius-requires : tie.Need-radius-requires
-radius-requires c κs = search needs
-
-flatten-requires : tie.Need-flatten-requires
-flatten-requires c κs = search needs
-
-returns : tie.Need-returns
-returns c =
-    outcome-found (c .before .before .before .before .solve .ensures) (c .before .before .before .before .before .before .before .pre .0) (c .flatten .ensures)
-    (omega (arith, c .before .before .if1 .taken, c .before .before .before .radius .ensures))
-
-none-requires : tie.Need-none-requires
-none-requires c κs = search needs
-
-returns-2 : tie.Need-returns-2
-returns-2 c = outcome-none (c .before .before .before .solve .ensures) (omega (arith, c .before .if1 .left, c .before .before .radius .ensures)) (c .none .ensures)
-
 pub decode-spec : {M : Type 1} → statement M
 decode-spec =
     tie.close
     (tie.spec
-    solve-requires
-    radius-requires
-    flatten-requires
-    returns
-    none-requires
-    returns-2)
+    (λ c κs. let b = c .before .before .before .pre in (b .0, b .1, b .2, equal-rows 0 (positive (b .0)), b .3))
+    (λ c κs. search needs)
+    (λ c. let r = c .before in outcome-none (r .before .solve .ensures) (omega (arith, c .if1 .taken, r .radius .ensures)))
+    (λ c κs. search needs)
+    (λ c.
+    let e = c .before .before .before in
+    let s = e .before .before in
+    outcome-found (s .solve .ensures) (s .before .before .before .before .pre .0) (c .flatten .ensures)
+    (omega (arith, e .if1 .left, e .before .radius .ensures))))

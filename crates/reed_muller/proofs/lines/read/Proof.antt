@@ -13,23 +13,20 @@ decode-requires c κs =
 
 returns : tie.Need-returns
 returns c =
-    let start = c .before .before .before .before in
-    let D = c .before .before .decode .ensures in
-    answered-found (start .pre .0) (start .pre .3) (D .small) (c .before .if1 .taken) (D .strip)
-
-sub-t11 : tie.Need-sub-t11
-sub-t11 c = search needs
-
-cast-t12 : tie.Need-cast-t12
-cast-t12 c = search needs
-
-mul-t13 : tie.Need-mul-t13
-mul-t13 c =
-    let start = c .before .before .before .before .before in
-    omega (arith, line-full (start .args .t) (start .pre .0))
-
-returns-2 : tie.Need-returns-2
-returns-2 c = answered-none (c .before .before .before .before .before .pre .0) (c .before .before .if1 .left) (c .before .before .before .decode .ensures .strip)
+    let i = c .before in
+    let D = i .before .decode .ensures in
+    let b = i .before .before .before .pre in
+    answered-found (b .0) (b .3) (D .small) (i .if1 .taken) (D .strip)
 
 pub read-spec : {M : Type 1} → statement M
-read-spec = tie.close (tie.spec decode-requires returns sub-t11 cast-t12 mul-t13 returns-2)
+read-spec =
+    tie.close
+    (tie.spec
+    decode-requires
+    returns
+    (λ c. search needs)
+    (λ c. search needs)
+    (λ c. let start = c .before .before .before .before .before in omega (arith, line-full (start .args .t) (start .pre .0)))
+    (λ c.
+    let D = c .before .before .before .decode .ensures in
+    answered-none (c .before .before .before .before .before .pre .0) (c .before .before .if1 .left) (D .strip)))

@@ -1,5 +1,5 @@
 -- `reed_muller::message::flatten` meets its contract: the groups before k are written. Assumes nothing.
-use mathlib.Core.Path.{_≡_, refl}
+use mathlib.Core.Path.{_≡_}
 use Prim.Native.Nat.{_+_, _-_, _≤_}
 use native.Mathlib.Omega.{arith}
 use Rattle.reed_muller.specs.Groups.{Flat}
@@ -9,13 +9,13 @@ use Rattle.reed_muller.proofs.message.flatten.Statement.{statement}
 use Rattle.reed_muller.proofs.message.flatten.Tie as tie
 
 abbrev Inv-loop : tie.InvT-loop
-Inv-loop columns d message₀ k₀ message k = (k ≤ d + 1) × Flat columns k message
+Inv-loop message₀ columns d k₀ message k = (k ≤ d + 1) × Flat columns k message
 
 abbrev μ-loop : tie.MeasureT-loop
-μ-loop columns d message₀ k₀ message k = d + 1 - k
+μ-loop message₀ columns d k₀ message k = d + 1 - k
 
 loop-holds : tie.Need-loop-holds Inv-loop μ-loop
-loop-holds c = (omega arith, record { size = refl; is = λ t i h. absurd (omega arith) })
+loop-holds c = (omega arith, record { size = c .pre .0; is = λ t i h. absurd (omega arith) })
 
 put-group-requires : tie.Need-put-group-requires Inv-loop μ-loop
 put-group-requires c κs = (c .before .before .loop .inv .1 .size, omega arith)
