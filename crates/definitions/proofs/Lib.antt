@@ -9,3 +9,5 @@ pub mod Demands
 pub mod Own
 pub mod Finder
 pub mod Accepted
+pub mod Printed
+pub mod Tray
