@@ -8,7 +8,7 @@ use lib.ListN.{drop}
 use Rattle.definitions.specs.Calls.{refused}
 use Rattle.definitions.specs.Cost.{class}
 use Rattle.definitions.specs.Tray.{trayReading, trayRecord}
-use Rattle.definitions.specs.Printed.{decimal, signed, spaced, readText, refusedText, answerText, trayText}
+use Rattle.definitions.specs.Printed.{decimal, signed, spaced, readLine, recordLine, refusedLine, answerText, trayText}
 use Rattle.definitions.specs.Cases.{outcome, call, said, cases, moreCases, planA, mark₁, photoC, sure}
 
 pub cases-hold : map outcome (map call cases) ≡ map said cases
@@ -22,7 +22,8 @@ more-cases-hold = refl
 pub class-bounds : map class (0 ∷ 1 ∷ 3 ∷ 4 ∷ 15 ∷ 16 ∷ 256 ∷ []) ≡ 0 ∷ 1 ∷ 1 ∷ 2 ∷ 2 ∷ 3 ∷ 3 ∷ []
 class-bounds = refl
 
-pub tray-cases : map trayReading ((planA ++ photoC ++ sure 9) ∷ (planA ++ mark₁) ∷ (planA ++ photoC ++ sure 10) ∷ drop 1 planA ∷ [])
+pub tray-cases :
+    map trayReading ((planA ++ photoC ++ sure 9) ∷ (planA ++ mark₁) ∷ (planA ++ photoC ++ sure 10) ∷ drop 1 planA ∷ [])
     ≡ record { number = 0; cost = 400; margin = pos 200; changed = 2; class = 1 } ∷ refused 6 ∷ refused 6 ∷ refused 1 ∷ []
 unfolding outcome trayReading
 tray-cases = refl
@@ -36,9 +37,9 @@ caseC =
 abbrev refusal : ℕ → List ℕ
 refusal d = 82 ∷ 69 ∷ 70 ∷ 85 ∷ 83 ∷ 69 ∷ 68 ∷ 32 ∷ d ∷ 10 ∷ []
 
-pub text-cases : map trayText ((planA ++ photoC ++ sure 9) ∷ (planA ++ photoC ++ sure 8) ∷ (planA ++ photoC ++ sure 10) ∷ drop 1 planA ∷ [])
+pub text-cases : map (λ s. trayText (planA ++ photoC ++ s)) (sure 9 ∷ sure 8 ∷ sure 10 ∷ []) ++ (trayText (drop 1 planA) ∷ [])
     ≡ caseC ∷ refusal 54 ∷ refusal 54 ∷ refusal 49 ∷ []
-unfolding outcome trayReading trayRecord decimal signed spaced readText refusedText answerText trayText
+unfolding outcome trayReading trayRecord decimal signed spaced readLine recordLine refusedLine answerText trayText
 text-cases = refl
 
 -- 0, 9, 10, 65535, 4294967295

@@ -1,7 +1,7 @@
--- Decimal digits as a reader expects them: a number below 10 is its digit, any other the digits of a tenth of it and its last digit;
--- and how long the printed text is at most. Assumes nothing.
+-- Decimal digits as a reader expects them: a number below 10 is its digit, any other the digits of a tenth of it and its last
+-- digit. And how long a printed line is at most. Assumes nothing.
 use mathlib.Core.Path.{_≡_, refl, sym, _∙_}
-use mathlib.Core.List.{List, [], _∷_, _++_, append-assoc}
+use mathlib.Core.List.{List, [], _∷_, _++_, append-assoc, append-nil}
 use Prim.Native.Nat.{ℕ, zero, suc, _+_, _*_, _/_, _%_, _^_, _≤_, _<_}
 use native.Mathlib.Omega.{arith}
 use native.Mathlib.Decide.{decLt}
@@ -10,7 +10,7 @@ use lib.IntN.{ℤ, pos, negsuc, natAbs}
 use lib.ListN.{length, length-append}
 use Rattle.bounded.specs.Bounded.{at}
 use Rattle.definitions.specs.declared.Reading.{Reading}
-use Rattle.definitions.specs.Printed.{digit, digits, decimal, signed, spaced, readText, refusedText}
+use Rattle.definitions.specs.Printed.{digit, digits, decimal, signed, space, spaced, readLine, recordLine, refusedLine}
 
 digits-zero : (k : ℕ) → digits k 0 ≡ []
 digits-zero zero = refl
@@ -68,27 +68,27 @@ unfolding spaced
 spaced-append [] b = refl
 spaced-append (n ∷ a) b = rw (spaced-append a b, append-assoc (decimal n) (spaced a) (spaced b))
 
--- a reading whose numbers have 32 bits, of which the margin has a sign; the coefficients are bytes
-pub record Narrow (y : ℕ) (r : Reading) (F : List ℕ) : Type 0 where
-  pub season : y < 2 ^ 32
-  pub changed : r .changed < 2 ^ 32
-  pub class : r .class < 2 ^ 32
-  pub cost : r .cost < 2 ^ 32
-  pub margin : natAbs (r .margin) < 2 ^ 32
-  pub coefficient : (i : ℕ) → at F i < 256
+pub spaced-one : (n : ℕ) → spaced (n ∷ []) ≡ space ∷ decimal n
+unfolding spaced
+spaced-one n = rw append-nil
 
-pub read-length : (y : ℕ) (r : Reading) (F : List ℕ) → Narrow y r F → length (readText y r F) ≤ 68 + 4 * length F
-unfolding readText spaced
-read-length y r F h = simp length-append (omega (
+-- a line of numbers of 32 bits, of which the margin has a sign; a line of bytes; and a refusal
+pub read-length : (y : ℕ) (r : Reading) → y < 2 ^ 32 → r .changed < 2 ^ 32 → r .class < 2 ^ 32 → r .cost < 2 ^ 32 →
+    natAbs (r .margin) < 2 ^ 32 → length (readLine y r) ≤ 61
+unfolding readLine spaced
+read-length y r h₁ h₂ h₃ h₄ h₅ = simp length-append (omega (
   arith,
-  decimal-length 9 y (omega (arith, h .season)),
-  decimal-length 9 (r .changed) (omega (arith, h .changed)),
-  decimal-length 9 (r .class) (omega (arith, h .class)),
-  decimal-length 9 (r .cost) (omega (arith, h .cost)),
-  signed-length 9 (r .margin) (omega (arith, h .margin)),
-  spaced-length 2 F (λ i. omega (arith, h .coefficient i)),
+  decimal-length 9 y (omega arith),
+  decimal-length 9 (r .changed) (omega arith),
+  decimal-length 9 (r .class) (omega arith),
+  decimal-length 9 (r .cost) (omega arith),
+  signed-length 9 (r .margin) (omega arith),
 ))
 
-pub refused-length : (k : ℕ) → k < 2 ^ 32 → length (refusedText k) ≤ 19
-unfolding refusedText spaced
+pub record-length : (F : List ℕ) → ((i : ℕ) → at F i < 256) → length (recordLine F) ≤ 7 + 4 * length F
+unfolding recordLine
+record-length F h = simp length-append (omega (arith, spaced-length 2 F (λ i. omega (arith, h i))))
+
+pub refused-length : (k : ℕ) → k < 2 ^ 32 → length (refusedLine k) ≤ 19
+unfolding refusedLine spaced
 refused-length k h = simp length-append (omega (arith, decimal-length 9 k (omega arith)))

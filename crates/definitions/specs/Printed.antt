@@ -3,9 +3,10 @@
 --   decimal n       the digits of n, the most significant first; 0 has one digit, and no other number begins with 0
 --   signed z        the same of a signed number, with '-' in front where it is below 0
 --   spaced ns       the numbers ns, each after a space
---   readText y r F  two lines: READ, the season y and four numbers of the reading r; RECORD, the coefficients F
---   refusedText k   one line: REFUSED, the number k
---   trayText input  what is printed for an input
+--   readLine y r    READ, the season y and four numbers of the reading r
+--   recordLine F    RECORD, the coefficients F
+--   refusedLine k   REFUSED, the number k
+--   trayText input  what is printed for an input: the first two lines, or the third
 --
 -- What this file is for: the program's one answer is `trayText` of all that came in, whatever its length.
 use mathlib.Core.List.{List, [], _∷_, _++_}
@@ -56,17 +57,18 @@ recordWord = 82 ∷ 69 ∷ 67 ∷ 79 ∷ 82 ∷ 68 ∷ []
 abbrev pub refusedWord : List ℕ
 refusedWord = 82 ∷ 69 ∷ 70 ∷ 85 ∷ 83 ∷ 69 ∷ 68 ∷ []
 
-unfoldable pub readText : (y : ℕ) (r : Reading) (F : List ℕ) → List ℕ
-readText y r F =
-    readWord ++ spaced (y ∷ r .changed ∷ r .class ∷ r .cost ∷ []) ++ space ∷ signed (r .margin) ++ newline
-    ∷ recordWord ++ spaced F ++ newline ∷ []
+unfoldable pub readLine : (y : ℕ) (r : Reading) → List ℕ
+readLine y r = readWord ++ spaced (y ∷ r .changed ∷ r .class ∷ r .cost ∷ []) ++ space ∷ signed (r .margin) ++ newline ∷ []
 
-unfoldable pub refusedText : ℕ → List ℕ
-refusedText k = refusedWord ++ spaced (k ∷ []) ++ newline ∷ []
+unfoldable pub recordLine : List ℕ → List ℕ
+recordLine F = recordWord ++ spaced F ++ newline ∷ []
 
--- a reading of the season y, with its record F, or a refusal
+unfoldable pub refusedLine : ℕ → List ℕ
+refusedLine k = refusedWord ++ spaced (k ∷ []) ++ newline ∷ []
+
+-- a reading of the season y with its record F, or a refusal
 unfoldable pub answerText : (y : ℕ) (r : Reading) (F : List ℕ) → List ℕ
-answerText y r F = accepted (r .number) (readText y r F) (refusedText (r .number))
+answerText y r F = accepted (r .number) (readLine y r ++ recordLine F) (refusedLine (r .number))
 
 unfoldable pub trayText : List ℕ → List ℕ
 trayText input = answerText (season (planOf input)) (trayReading input) (trayRecord input)

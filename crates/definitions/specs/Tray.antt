@@ -2,7 +2,8 @@
 --
 --   planOf, symbolsOf, doubtsOf   the parts of the input
 --   trayReading, trayRecord       the reading of the mark, and the record that is printed
---   Holds input room came         of an input, of whatever length, the first bytes are in a room, as many as there are or as fit
+--   Holds input room came         a room holds the first bytes of an input of any length: `came` of them, all or as many as fit
+--   longest                       the length of the longest input that a sound plan takes, with 16 times 16 cells
 --
 -- What this file is for: fewer than 24 bytes are refusal 1, since the plan is short; a wrong count after a sound plan is 6, since
 -- the symbols or the doubts have not their length.
@@ -36,3 +37,6 @@ trayRecord input = readBuffer square (planOf input) (symbolsOf input) (doubtsOf 
 pub record Holds (input room : List ℕ) (came : ℕ) : Type 0 where
   pub count : came ≡ min (length input) (length room)
   pub bytes : take came room ≡ take came input
+
+abbrev pub longest : ℕ
+longest = 24 + 256 + 256
