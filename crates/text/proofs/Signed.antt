@@ -42,7 +42,7 @@ nonneg : (z : ℤ) → ltZ z (pos 0) ≡ false → T (nonNeg z)
 nonneg (pos n) e = tt
 nonneg (negsuc n) e = subst T e tt
 
-abs-small : (z : ℤ) → mag z < 2 ^ 31 → natAbs z < 2 ^ 32
+pub abs-small : (z : ℤ) → mag z < 2 ^ 31 → natAbs z < 2 ^ 32
 abs-small (pos n) h = omega arith
 abs-small (negsuc n) h = omega arith
 
@@ -73,7 +73,8 @@ module _ (z : ℤ) (h : SFits w32 z) where
   minus-kept = rw (toZ-ofZ minus-fits, kept)
 
   -- below 0
-  pub minus-cast : ltZ (in32 z) (pos 0) ≡ true → T (nonNeg (in64 (pos 0 -ℤ in64 (in32 z)))) × Fits w32 (natAbs (in64 (pos 0 -ℤ in64 (in32 z))))
+  pub minus-cast : ltZ (in32 z) (pos 0) ≡ true →
+      T (nonNeg (in64 (pos 0 -ℤ in64 (in32 z)))) × Fits w32 (natAbs (in64 (pos 0 -ℤ in64 (in32 z))))
   minus-cast e = rw minus-kept (minus-nonneg z (rw (toZ-ofZ h) at e), record { fits = rw (minus-abs z) (abs-small z (h .sfits)) })
 
   pub minus-is : natAbs (in64 (pos 0 -ℤ in64 (in32 z))) ≡ natAbs z

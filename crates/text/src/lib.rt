@@ -1,5 +1,5 @@
-// Text put into a lent buffer, piece after piece: each function puts its bytes from `at` on, changes no other byte, and returns the
-// place after them. The caller sees to it that they fit.
+// Text put into a lent buffer, piece after piece: each function puts its bytes from `at` on, changes no other byte, and returns
+// the place after them. The caller sees to it that they fit.
 ghost use mathlib.Core.Path.{_≡_};
 ghost use mathlib.Core.List.{[], _∷_};
 ghost use Prim.Native.Nat.{_+_, _≤_, _<_};

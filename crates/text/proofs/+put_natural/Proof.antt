@@ -1,4 +1,4 @@
--- `text::put_natural` meets its contract: the digits of a tenth and the last digit are the digits; the number falls. Assumes nothing.
+-- `text::put_natural` meets its contract: the digits of a tenth and the last digit are the digits; n falls. Assumes nothing.
 use mathlib.Core.Path.{ap}
 use Prim.Native.Nat.{ℕ, _+_, _/_, _≤_, _<_}
 use native.Mathlib.Omega.{arith}
@@ -54,9 +54,11 @@ pub +put-natural-spec : {M : Type 1} → statement M
     (λ c κs.
     let p = c .before .before .before .before in
     let s = p .before .before .before .before in
-    omega (arith, s .pre .1, p .put-natural .ensures .end, put-length (p .put-natural .ensures), longer (s .args .n) (s .args .at) (p .before .before .if1 .left)))
+    let l = longer (s .args .n) (s .args .at) (p .before .before .if1 .left) in
+    omega (arith, s .pre .1, p .put-natural .ensures .end, put-length (p .put-natural .ensures), l))
     (λ c. search needs)
     (λ c.
     let d = c .before .before .before in
     let p = d .before .before .before .before in
-    rw (decimal-more _ (p .before .before .if1 .left), ← d .digit-of2 .ensures) (put-then (p .put-natural .ensures) (c .before .before .put-byte2 .ensures)))
+    rw (decimal-more _ (p .before .before .if1 .left), ← d .digit-of2 .ensures)
+    (put-then (p .put-natural .ensures) (c .before .before .put-byte2 .ensures)))

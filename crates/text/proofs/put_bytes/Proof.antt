@@ -30,8 +30,11 @@ loop-again c =
     let a = c .before .before .before .args in
     let l = c .before .before .loop in
     let h : l .i < length (a .word .now) = omega arith in
-    let w : a .at + l .i < length (l .text) = omega (arith, put-length (l .inv .2)) in
-    (search needs, search needs, rw (← add-assoc (a .at) (l .i) 1, add-one (l .i), take-suc (a .word .now) (l .i) 0 h) (put-then (l .inv .2) (put-one _ _ _ w)))
+    let w : a .at + l .i < length (l .text) = omega (arith, put-length (l .inv .2)) in (
+      search needs,
+      search needs,
+      rw (← add-assoc (a .at) (l .i) 1, add-one (l .i), take-suc (a .word .now) (l .i) 0 h) (put-then (l .inv .2) (put-one _ _ _ w)),
+    )
 
 same-length : tie.Need-same-length Inv-loop μ-loop
 same-length c = omega (arith, put-length (c .before .loop .inv .2))

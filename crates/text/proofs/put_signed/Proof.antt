@@ -10,7 +10,8 @@ use Rattle.text.proofs.put_signed.Tie as tie
 
 put-byte-requires : tie.Need-put-byte-requires
 put-byte-requires c κs =
-    let s = c .before .before .before in omega (arith, s .pre, ap length (minus-text (s .args .z) (s .fits .z) (c .before .if1 .taken)))
+    let s = c .before .before .before in
+    omega (arith, s .pre, ap length (minus-text (s .args .z) (s .fits .z) (c .before .if1 .taken)))
 
 put-natural-requires : tie.Need-put-natural-requires
 put-natural-requires c κs =
@@ -36,7 +37,8 @@ returns-2 : tie.Need-returns-2
 returns-2 c =
     let m = c .before .before .before in
     let s = m .before .before .before .before in
-    rw (plain-text (s .args .z) (s .fits .z) (m .before .before .if1 .left), ← m .magnitude2 .ensures) (c .before .before .put-natural2 .ensures)
+    rw (plain-text (s .args .z) (s .fits .z) (m .before .before .if1 .left), ← m .magnitude2 .ensures)
+    (c .before .before .put-natural2 .ensures)
 
 pub put-signed-spec : {M : Type 1} → statement M
 put-signed-spec =

@@ -20,4 +20,5 @@ put-spaced-spec =
     (λ c. search needs)
     (λ c.
     let p = c .before .before .before .before .before .before in
-    rw (spaced-one (p .before .before .before .args .n)) (put-then (p .put-byte .ensures) (c .before .before .put-natural .ensures))))
+    rw (spaced-one (p .before .before .before .args .n))
+    (put-then (p .put-byte .ensures) (c .before .before .put-natural .ensures))))
