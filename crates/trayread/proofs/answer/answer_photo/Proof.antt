@@ -1,133 +1,91 @@
+-- `trayread::answer::answer_photo` meets its contract: the cells and the record of a sound plan fit. Assumes nothing.
+use mathlib.Core.Path.{_≡_, refl, sym, ap, _∙_}
+use mathlib.Core.List.{_∷_}
+use Prim.Native.Nat.{ℕ, zero, suc, _+_, _-_, _≤_, _<_}
+use native.Mathlib.Omega.{arith}
+use native.Mathlib.Nat.{mul-le-mul, add-sub-cancel-left}
+use native.Mathlib.Numerals.{add-one}
+use lib.ListN.{length, take, drop, replicate, length-replicate, length-drop}
+use lib.Seq.{take-all}
 use borrow.Author.Needs.{needs}
+use Rattle.definitions.specs.Plan.{degree}
+use Rattle.definitions.specs.Code.{square, start, cells}
+use Rattle.definitions.specs.Sound.{Sound}
+use Rattle.definitions.specs.Tray.{planOf, doubtsOf, bufferOf, trayReading, trayRecord}
+use Rattle.definitions.specs.Printed.{trayText}
+use Rattle.definitions.proofs.Sound.{sound}
+use Rattle.definitions.proofs.Tray.{count-text}
+use Rattle.polynomial.proofs.Record.{start-next, start-most}
 use Rattle.trayread.proofs.answer.answer_photo.Statement.{statement}
 use Rattle.trayread.proofs.answer.answer_photo.Tie as tie
-use Rattle.trayread.proofs.answer.answer_photo.Reads as reads
-use Rattle.trayread.proofs.answer.answer_photo.Lts as lts
-use Rattle.polynomial.proofs.bivariate.start.Reads as start-reads
-use Rattle.trayread.proofs.answer.answer_mark.Reads as answer-mark-reads
-use Rattle.trayread.proofs.lines.put_refused.Reads as put-refused-reads
 
--- src/answer.rt:59:9
-slice-aggregate-plan : tie.Need-slice-aggregate-plan
-slice-aggregate-plan c = ?
+-- the longest record
+room : (d : ℕ) → d < 16 → start (d + 1) ≤ 136
+room d l = rw (add-one d) (omega (arith, start-next d l, start-most d l))
 
--- src/answer.rt:60:13
-shared-slice-read-n : tie.Need-shared-slice-read-n
-shared-slice-read-n c = ?
+-- so many of the 136 zeros
+zeros : (n m : ℕ) → n ≤ m → take {A = ℕ} n (replicate m 0) ≡ replicate n 0
+zeros zero m l = refl
+zeros (suc n) zero l = absurd (omega arith)
+zeros (suc n) (suc m) l = ap (λ s. 0 ∷ s) (zeros n m (omega arith))
 
--- src/answer.rt:60:13
-cast-n : tie.Need-cast-n
-cast-n c = ?
+module _ (s : tie.Start) where
+  plan : Sound (planOf (s .args .input .now))
+  plan = sound (planOf (s .args .input .now)) (s .pre .0)
 
--- src/answer.rt:61:13
-shared-slice-read-k : tie.Need-shared-slice-read-k
-shared-slice-read-k c = ?
+  -- the plan's record fits, and there are so many zeros
+  size-most : start (degree (planOf (s .args .input .now)) + 1) ≤ 136
+  size-most = room (degree (planOf (s .args .input .now))) (omega (arith, plan .low, plan .most))
 
--- src/answer.rt:61:13
-cast-k : tie.Need-cast-k
-cast-k c = ?
+  cut : (n : ℕ) → n ≡ start (degree (planOf (s .args .input .now)) + 1) → take {A = ℕ} n (replicate 136 0) ≡ bufferOf (s .args .input .now)
+  cut n e = rw e (zeros (start (degree (planOf (s .args .input .now)) + 1)) 136 size-most)
 
--- src/answer.rt:61:13
-add-k : tie.Need-add-k
-add-k c = ?
-
--- src/answer.rt:62:17
-mul-cells : tie.Need-mul-cells
-mul-cells c = ?
-
--- src/answer.rt:63:15
-add-end : tie.Need-add-end
-add-end c = ?
-
--- src/answer.rt:64:23
-add-if1 : tie.Need-add-if1
-add-if1 c = ?
-
--- src/answer.rt:65:9
-put-refused-requires : tie.Need-put-refused-requires
-put-refused-requires c κs = ?
-
--- src/answer.rt:65:9
-same-length : tie.Need-same-length
-same-length c = ?
-
--- src/answer.rt:65:9
-returns : tie.Need-returns
-returns c = ?
-
--- src/answer.rt:68:9
-start-requires : tie.Need-start-requires
-start-requires c κs = ?
-
--- src/answer.rt:71:9
-sub-answer-mark : tie.Need-sub-answer-mark
-sub-answer-mark c = ?
-
--- src/answer.rt:71:9
-part-answer-mark-start : tie.Need-part-answer-mark-start
-part-answer-mark-start c = ?
-
--- src/answer.rt:71:9
-part-answer-mark-end : tie.Need-part-answer-mark-end
-part-answer-mark-end c = ?
-
--- src/answer.rt:72:9
-sub-answer-mark-2 : tie.Need-sub-answer-mark-2
-sub-answer-mark-2 c = ?
-
--- src/answer.rt:72:9
-part-answer-mark-start-2 : tie.Need-part-answer-mark-start-2
-part-answer-mark-start-2 c = ?
-
--- src/answer.rt:72:9
-part-answer-mark-end-2 : tie.Need-part-answer-mark-end-2
-part-answer-mark-end-2 c = ?
-
--- src/answer.rt:73:9
-array-borrow-prefix-record : tie.Need-array-borrow-prefix-record
-array-borrow-prefix-record c = ?
-
--- src/answer.rt:73:9
-slice-aggregate-answer-mark : tie.Need-slice-aggregate-answer-mark
-slice-aggregate-answer-mark c = ?
-
--- src/answer.rt:69:5
-answer-mark-requires : tie.Need-answer-mark-requires
-answer-mark-requires c κs = ?
-
--- src/answer.rt:55:1
-same-length-2 : tie.Need-same-length-2
-same-length-2 c = ?
-
--- src/answer.rt:55:1
 returns-2 : tie.Need-returns-2
-returns-2 c = ?
+unfolding trayText trayReading trayRecord
+returns-2 c =
+    let a = c .before .before .before in
+    let t = a .before .before .before .before .before in
+    let s = t .before .before .before .before .before .before .before in
+    let i = s .args .input .now in
+    let n = cells square (planOf i) in
+    let d : take (length i - (24 + n)) (drop (24 + n) i) ≡ doubtsOf i = take-all (length i - (24 + n)) (drop (24 + n) i) (simp length-drop (omega arith)) in
+    rw (add-sub-cancel-left 24 n, d, cut s (t .start .result) (t .start .ensures)) at (a .answer-mark .ensures)
 
 pub answer-photo-spec : {M : Type 1} → statement M
 answer-photo-spec =
     tie.close
     (tie.spec
-    slice-aggregate-plan
-    shared-slice-read-n
-    cast-n
-    shared-slice-read-k
-    cast-k
-    add-k
-    mul-cells
-    add-end
-    add-if1
-    put-refused-requires
-    same-length
-    returns
-    start-requires
-    sub-answer-mark
-    part-answer-mark-start
-    part-answer-mark-end
-    sub-answer-mark-2
-    part-answer-mark-start-2
-    part-answer-mark-end-2
-    array-borrow-prefix-record
-    slice-aggregate-answer-mark
-    answer-mark-requires
-    same-length-2
+    (λ c. sym (plan (c .before .before .before) .whole))
+    (λ c. omega (arith, plan (c .before .before .before .before) .whole))
+    (λ c. omega (arith, c .shared-slice-known2 .given 3))
+    (λ c. omega (arith, plan (c .before .before .before .before .before) .whole))
+    (λ c. omega (arith, c .shared-slice-known3 .given 4))
+    (λ c. omega (arith, c .shared-slice-known3 .given 4))
+    (λ c. let m = plan (c .before .before .before .before .before) .most in omega (arith, mul-le-mul m m))
+    (λ c. let m = plan (c .before .before .before .before .before) .most in omega (arith, mul-le-mul m m))
+    (λ c. let m = plan (c .before .before .before .before .before) .most in omega (arith, mul-le-mul m m))
+    (λ c κs. search needs)
+    (λ c. search needs)
+    (λ c.
+    let t = c .before .before .before .before in
+    let s = t .before .before .before .before .before .before in
+    rw (← count-text (s .args .input .now) (s .pre .0) (λ e. t .if1 .taken (omega (arith, e)))) (c .before .before .put-refused .ensures))
+    (λ c κs. let p = plan (c .before .before .before .before .before .before) in omega (arith, p .low, p .most))
+    (λ c. search needs)
+    (λ c. search needs)
+    (λ c. search needs)
+    (λ c. search needs)
+    (λ c. search needs)
+    (λ c. search needs)
+    (λ c. let t = c .before .before in omega (arith, t .start .ensures, size-most (t .before .before .before .before .before .before .before)))
+    (λ c.
+    let t = c .before .before .before in
+    let s = t .before .before .before .before .before .before .before in
+    rw (cut s (t .start .result) (t .start .ensures)) (t .start .ensures ∙ sym (length-replicate _ _)))
+    (λ c κs.
+    let t = c .before .before .before .before in
+    let s = t .before .before .before .before .before .before .before in
+    rw (cut s (t .start .result) (t .start .ensures), length-replicate)
+    (omega (arith, plan s .whole), omega (arith, s .pre .1, size-most s)))
+    (λ c. search needs)
     returns-2)
