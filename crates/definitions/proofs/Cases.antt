@@ -1,14 +1,15 @@
 -- Cases a to l of document 01 hold of the definitions, by one computed comparison; so do the further cases, the class at each of
--- its bounds, and case c as `trayread` reads it. Assumes nothing.
+-- its bounds, case c as `trayread` reads it, and what it prints. Assumes nothing.
 use mathlib.Core.Path.{_≡_, refl}
 use mathlib.Core.List.{List, [], _∷_, _++_, map}
 use Prim.Native.Nat.{ℕ}
-use lib.IntN.{pos}
+use lib.IntN.{pos, negsuc}
 use lib.ListN.{drop}
 use Rattle.definitions.specs.Calls.{refused}
 use Rattle.definitions.specs.Cost.{class}
 use Rattle.definitions.specs.Photograph.{sure}
-use Rattle.definitions.specs.Tray.{trayReading}
+use Rattle.definitions.specs.Tray.{trayReading, trayRecord}
+use Rattle.definitions.specs.Printed.{decimal, signed, spaced, readLine, recordLine, refusedLine, answerText, trayText}
 use Rattle.definitions.specs.Cases.{outcome, call, said, cases, moreCases, planA, mark₁, photoC}
 
 pub cases-hold : map outcome (map call cases) ≡ map said cases
@@ -22,7 +23,35 @@ more-cases-hold = refl
 pub class-bounds : map class (0 ∷ 1 ∷ 3 ∷ 4 ∷ 15 ∷ 16 ∷ 256 ∷ []) ≡ 0 ∷ 1 ∷ 1 ∷ 2 ∷ 2 ∷ 3 ∷ 3 ∷ []
 class-bounds = refl
 
-pub tray-cases : map trayReading ((planA ++ photoC ++ sure 9) ∷ (planA ++ mark₁) ∷ (planA ++ photoC ++ sure 10) ∷ drop 1 planA ∷ [])
+pub tray-cases :
+    map trayReading ((planA ++ photoC ++ sure 9) ∷ (planA ++ mark₁) ∷ (planA ++ photoC ++ sure 10) ∷ drop 1 planA ∷ [])
     ≡ record { number = 0; cost = 400; margin = pos 200; changed = 2; class = 1 } ∷ refused 6 ∷ refused 6 ∷ refused 1 ∷ []
 unfolding outcome trayReading
 tray-cases = refl
+
+-- READ 12 2 1 400 200, RECORD 3 1 2; REFUSED 6, for a byte less and for a byte more; REFUSED 1
+abbrev caseC : List ℕ
+caseC =
+    82 ∷ 69 ∷ 65 ∷ 68 ∷ 32 ∷ 49 ∷ 50 ∷ 32 ∷ 50 ∷ 32 ∷ 49 ∷ 32 ∷ 52 ∷ 48 ∷ 48 ∷ 32 ∷ 50 ∷ 48 ∷ 48 ∷ 10
+    ∷ 82 ∷ 69 ∷ 67 ∷ 79 ∷ 82 ∷ 68 ∷ 32 ∷ 51 ∷ 32 ∷ 49 ∷ 32 ∷ 50 ∷ 10 ∷ []
+
+abbrev refusal : ℕ → List ℕ
+refusal d = 82 ∷ 69 ∷ 70 ∷ 85 ∷ 83 ∷ 69 ∷ 68 ∷ 32 ∷ d ∷ 10 ∷ []
+
+pub text-cases : map (λ s. trayText (planA ++ photoC ++ s)) (sure 9 ∷ sure 8 ∷ sure 10 ∷ []) ++ (trayText (drop 1 planA) ∷ [])
+    ≡ caseC ∷ refusal 54 ∷ refusal 54 ∷ refusal 49 ∷ []
+unfolding outcome trayReading trayRecord decimal signed spaced readLine recordLine refusedLine answerText trayText
+text-cases = refl
+
+-- 0, 9, 10, 65535, 4294967295
+pub decimal-cases : map decimal (0 ∷ 9 ∷ 10 ∷ 65535 ∷ 4294967295 ∷ [])
+    ≡ (48 ∷ []) ∷ (57 ∷ []) ∷ (49 ∷ 48 ∷ []) ∷ (54 ∷ 53 ∷ 53 ∷ 51 ∷ 53 ∷ [])
+    ∷ (52 ∷ 50 ∷ 57 ∷ 52 ∷ 57 ∷ 54 ∷ 55 ∷ 50 ∷ 57 ∷ 53 ∷ []) ∷ []
+unfolding decimal
+decimal-cases = refl
+
+-- 0, 25600, -1, -49600
+pub signed-cases : map signed (pos 0 ∷ pos 25600 ∷ negsuc 0 ∷ negsuc 49599 ∷ [])
+    ≡ (48 ∷ []) ∷ (50 ∷ 53 ∷ 54 ∷ 48 ∷ 48 ∷ []) ∷ (45 ∷ 49 ∷ []) ∷ (45 ∷ 52 ∷ 57 ∷ 54 ∷ 48 ∷ 48 ∷ []) ∷ []
+unfolding decimal signed
+signed-cases = refl

@@ -11,3 +11,5 @@ pub mod Margin
 pub mod Published
 pub mod Finder
 pub mod Accepted
+pub mod Printed
+pub mod Tray

@@ -8,6 +8,7 @@ pub mod Search
 pub mod Calls
 pub mod Finder
 pub mod Tray
+pub mod Printed
 pub mod Cases
 pub mod Word
 pub mod Sound

@@ -3,5 +3,4 @@ pub mod Cost
 pub mod Level
 pub mod Unique
 pub mod Margin
-pub mod Magnitude
 pub mod Loaded

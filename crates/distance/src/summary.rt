@@ -1,7 +1,6 @@
 // What is told of a record beside its cost: the class of its changed count, and its margin; and the readings that calls return.
 ghost use mathlib.Core.Path.{_≡_};
 ghost use Prim.Native.Nat.{_*_, _-_, _≤_, _<_};
-ghost use lib.IntN.{natAbs};
 ghost use Rattle.definitions.specs.Calls.{refused as refusedWith};
 ghost use Rattle.definitions.specs.Cost.{margin as marginOf, class};
 ghost use Rattle.distance.specs.Summary.{summary};
@@ -32,16 +31,6 @@ pub fn margin(radius: u32, cost: u32) -> i32
     ensures { λ r. ⌜ r ≡ marginOf radius cost ⌝ }
 {
     (radius as i32) - (cost as i32)
-}
-
-// How far a margin is from 0, for a program that prints it.
-pub fn magnitude(margin: i32) -> u32
-    ensures { λ r. ⌜ r ≡ natAbs margin ⌝ }
-{
-    if margin < 0 {
-        return (0 - (margin as i64)) as u32;
-    }
-    margin as u32
 }
 
 // The reading of a record with this cost and changed count.

@@ -2,7 +2,7 @@
 // radius; and refusals 6 to 9. Each line says what was asked, the number that was answered, and then the buffer or the reading; the
 // file stdout has the numbers of document 01.
 use definitions::Reading;
-use distance::summary::magnitude;
+use text::magnitude;
 use traymark::measuring::traymark_measure_mark;
 use traymark::measuring::traymark_measure_strip;
 use traymark::writing::traymark_write_mark;

@@ -53,7 +53,7 @@ fn tell(plan: &[u8], symbols: &[u8], doubts: &[u8], record: &mut [u8]) {
     let reading = traymark_read_strip(plan, symbols, doubts, record);
     number(b"number ", reading.number);
     number(b", D ", reading.cost);
-    number(b", margin ", distance::summary::magnitude(reading.margin));
+    number(b", margin ", text::magnitude(reading.margin));
     number(b", changed ", reading.changed);
     number(b", class ", reading.class);
     io::write_all(1, b",");

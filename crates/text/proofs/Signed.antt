@@ -1,6 +1,7 @@
--- How far an i32 is from 0: what the casts and the subtraction ask, and what they give. Assumes nothing.
+-- How far an i32 is from 0: what the casts and the subtraction ask, and what they give; and its sign in print. Assumes nothing.
 use mathlib.Core.Path.{_≡_, refl, subst}
 use mathlib.Core.Bool.{true, false}
+use mathlib.Core.List.{_∷_}
 use Prim.Native.Nat.{ℕ, zero, suc, _-_, _<_, _^_}
 use native.Mathlib.Omega.{arith}
 use native.Mathlib.Nat.{lt-trans}
@@ -11,6 +12,7 @@ use borrow.Author.Tests.{lt-ltb, ltb-true}
 use mir.Syntax.{w32, w64}
 use mir.Val.{Fits, SFits, toZ, ofZ}
 use mir.Facts.{toZ-ofZ}
+use Rattle.definitions.specs.Printed.{decimal, minus, signed}
 
 -- a signed number as it is kept, in 32 bits and in 64
 abbrev in32 : ℤ → ℤ
@@ -40,9 +42,19 @@ nonneg : (z : ℤ) → ltZ z (pos 0) ≡ false → T (nonNeg z)
 nonneg (pos n) e = tt
 nonneg (negsuc n) e = subst T e tt
 
-abs-small : (z : ℤ) → mag z < 2 ^ 31 → natAbs z < 2 ^ 32
+pub abs-small : (z : ℤ) → mag z < 2 ^ 31 → natAbs z < 2 ^ 32
 abs-small (pos n) h = omega arith
 abs-small (negsuc n) h = omega arith
+
+signed-below : (z : ℤ) → ltZ z (pos 0) ≡ true → signed z ≡ minus ∷ decimal (natAbs z)
+unfolding signed
+signed-below (pos n) e = absurd (omega (arith, ltb-true n 0 e))
+signed-below (negsuc n) e = refl
+
+signed-rest : (z : ℤ) → ltZ z (pos 0) ≡ false → signed z ≡ decimal (natAbs z)
+unfolding signed
+signed-rest (pos n) e = refl
+signed-rest (negsuc n) e = absurd (subst T e tt)
 
 module _ (z : ℤ) (h : SFits w32 z) where
   fits64 : SFits w64 z
@@ -61,12 +73,19 @@ module _ (z : ℤ) (h : SFits w32 z) where
   minus-kept = rw (toZ-ofZ minus-fits, kept)
 
   -- below 0
-  pub minus-cast : ltZ (in32 z) (pos 0) ≡ true → T (nonNeg (in64 (pos 0 -ℤ in64 (in32 z)))) × Fits w32 (natAbs (in64 (pos 0 -ℤ in64 (in32 z))))
+  pub minus-cast : ltZ (in32 z) (pos 0) ≡ true →
+      T (nonNeg (in64 (pos 0 -ℤ in64 (in32 z)))) × Fits w32 (natAbs (in64 (pos 0 -ℤ in64 (in32 z))))
   minus-cast e = rw minus-kept (minus-nonneg z (rw (toZ-ofZ h) at e), record { fits = rw (minus-abs z) (abs-small z (h .sfits)) })
 
   pub minus-is : natAbs (in64 (pos 0 -ℤ in64 (in32 z))) ≡ natAbs z
   minus-is = rw (minus-kept, minus-abs z)
 
+  pub minus-text : ltZ (in32 z) (pos 0) ≡ true → signed z ≡ minus ∷ decimal (natAbs (in32 z))
+  minus-text e = rw (toZ-ofZ h) (signed-below z (rw (toZ-ofZ h) at e))
+
   -- not below 0
   pub plain-cast : ltZ (in32 z) (pos 0) ≡ false → T (nonNeg (in32 z)) × Fits w32 (natAbs (in32 z))
   plain-cast e = rw (toZ-ofZ h) (nonneg z (rw (toZ-ofZ h) at e), record { fits = abs-small z (h .sfits) })
+
+  pub plain-text : ltZ (in32 z) (pos 0) ≡ false → signed z ≡ decimal (natAbs (in32 z))
+  plain-text e = rw (toZ-ofZ h) (signed-rest z (rw (toZ-ofZ h) at e))

@@ -1,0 +1,76 @@
+-- What `trayread` prints where a plan or a count of bytes is refused; and that a room of one byte more than the longest input
+-- decides, for any input, what is printed. Assumes nothing.
+use mathlib.Core.Path.{_≡_, refl, sym, ap, _∙_}
+use mathlib.Core.List.{List}
+use Prim.Native.Nat.{ℕ, zero, suc, _+_, _*_, _≤_, _<_}
+use native.Mathlib.Omega.{arith}
+use native.Mathlib.Decide.{decLe}
+use native.Mathlib.Nat.{mul-le-mul}
+use lib.ListN.{length, take, length-take, length-drop}
+use lib.Seq.{take-all, take-take}
+use Rattle.definitions.specs.Refusals.{first}
+use Rattle.definitions.specs.Plan.{side, checkNumber}
+use Rattle.definitions.specs.Code.{square, cells}
+use Rattle.definitions.specs.Calls.{photoRows}
+use Rattle.definitions.specs.Tray.{planOf, symbolsOf, doubtsOf, bufferOf, trayReading, Holds, longest}
+use Rattle.definitions.specs.Printed.{refusedLine, answerText, trayText}
+use Rattle.definitions.proofs.Refusals.{equal, unequal}
+use Rattle.definitions.proofs.Sound.{sound}
+use Rattle.definitions.proofs.Nearest.{reads-refused}
+use Rattle.definitions.proofs.Accepted.{photo-refused, photo-at}
+
+module _ (input : List ℕ) where
+  abbrev n : ℕ
+  n = cells square (planOf input)
+
+  abbrev number : ℕ
+  number = first (photoRows square (planOf input) (symbolsOf input) (doubtsOf input) (bufferOf input))
+
+  photo-text : (k : ℕ) → k ≡ number → (k ≡ 0 → ⊥) → refusedLine k ≡ trayText input
+  unfolding trayText answerText trayReading
+  photo-text zero e h = absurd (h refl)
+  photo-text (suc k) e h = rw (← reads-refused square _ _ _ _ k (sym e) .reading)
+
+  -- the plan's own number, whatever follows
+  pub plan-text : (k : ℕ) → k ≡ checkNumber (planOf input) → (k ≡ 0 → ⊥) → refusedLine k ≡ trayText input
+  plan-text k e h = photo-text k (photo-refused square _ _ _ _ k e h) h
+
+  module _ (e : checkNumber (planOf input) ≡ 0) where
+    whole : 24 ≤ length input
+    whole = omega (arith, simp length-take at (sound (planOf input) e .whole))
+
+    -- another count of bytes after a sound plan: the symbols are short, or the doubts have another length
+    pub count-text : (length input ≡ 24 + 2 * cells square (planOf input) → ⊥) → refusedLine 6 ≡ trayText input
+    count-text h = go (decLe (24 + n) (length input))
+      where
+        go : Dec (24 + n ≤ length input) → refusedLine 6 ≡ trayText input
+        go (yes l) =
+            let a : length (symbolsOf input) ≡ n = simp (length-take, length-drop) (omega arith) in
+            let b : length (doubtsOf input) ≡ n → ⊥ = simp length-drop (λ k. h (omega arith)) in
+            photo-text 6 (photo-at square _ _ _ _ 1 refl e refl refl (equal _ _ a, unequal _ _ b)) (λ k. omega arith)
+        go (no l) =
+            let a : length (symbolsOf input) ≡ n → ⊥ = simp (length-take, length-drop) (λ k. omega (arith, whole)) in
+            photo-text 6 (photo-at square _ _ _ _ 0 refl e refl refl (unequal _ _ a)) (λ k. omega arith)
+
+    excess-text : longest < length input → refusedLine 6 ≡ trayText input
+    excess-text l = let m = sound (planOf input) e .most in count-text λ h. omega (arith, mul-le-mul m m)
+
+-- beyond the longest input only the plan counts
+long-text : (a b : List ℕ) → planOf a ≡ planOf b → longest < length a → longest < length b → trayText a ≡ trayText b
+long-text a b p l m = go (checkNumber (planOf b)) refl
+  where
+    go : (k : ℕ) → checkNumber (planOf b) ≡ k → trayText a ≡ trayText b
+    go zero e = sym (excess-text a (ap checkNumber p ∙ e) l) ∙ excess-text b e m
+    go (suc k) e =
+        sym (plan-text a (suc k) (sym (ap checkNumber p ∙ e)) (λ z. omega arith)) ∙ plan-text b (suc k) (sym e) (λ z. omega arith)
+
+-- so a room with one byte more decides what is printed
+pub room-text : (input room : List ℕ) (came : ℕ) → longest < length room → Holds input room came →
+    trayText (take came room) ≡ trayText input
+room-text input room came l h = rw (h .bytes) (go (decLe (length input) came))
+  where
+    go : Dec (length input ≤ came) → trayText (take came input) ≡ trayText input
+    go (yes m) = rw (take-all came input m)
+    go (no m) =
+        let c : longest < came = omega (arith, h .count) in
+        long-text (take came input) input (take-take 24 came input (omega arith)) (simp length-take (omega arith)) (omega arith)

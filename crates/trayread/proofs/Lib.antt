@@ -1,0 +1,2 @@
+-- What an answer is by its number.
+pub mod Number

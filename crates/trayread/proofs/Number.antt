@@ -1,0 +1,20 @@
+-- The text of an answer by the number of its reading: a refusal's line, or the two lines of a reading. Assumes nothing.
+use mathlib.Core.Path.{_≡_, refl}
+use mathlib.Core.List.{List, _++_}
+use Prim.Native.Nat.{ℕ, zero, suc}
+use Rattle.definitions.specs.declared.Reading.{Reading}
+use Rattle.definitions.specs.Refusals.{accepted}
+use Rattle.definitions.specs.Printed.{readLine, recordLine, refusedLine, answerText}
+
+other : (k : ℕ) (a b : List ℕ) → (k ≡ 0 → ⊥) → accepted k a b ≡ b
+other zero a b h = absurd (h refl)
+other (suc k) a b h = refl
+
+module _ (y : ℕ) (r : Reading) (F : List ℕ) where
+  pub refused-text : (r .number ≡ 0 → ⊥) → answerText y r F ≡ refusedLine (r .number)
+  unfolding answerText
+  refused-text h = other (r .number) (readLine y r ++ recordLine F) (refusedLine (r .number)) h
+
+  pub read-text : r .number ≡ 0 → answerText y r F ≡ readLine y r ++ recordLine F
+  unfolding answerText
+  read-text e = rw e

@@ -1,0 +1,91 @@
+-- `trayread::answer::answer_photo` meets its contract: the cells and the record of a sound plan fit. Assumes nothing.
+use mathlib.Core.Path.{_≡_, refl, sym, ap, _∙_}
+use mathlib.Core.List.{_∷_}
+use Prim.Native.Nat.{ℕ, zero, suc, _+_, _-_, _≤_, _<_}
+use native.Mathlib.Omega.{arith}
+use native.Mathlib.Nat.{mul-le-mul, add-sub-cancel-left}
+use native.Mathlib.Numerals.{add-one}
+use lib.ListN.{length, take, drop, replicate, length-replicate, length-drop}
+use lib.Seq.{take-all}
+use borrow.Author.Needs.{needs}
+use Rattle.definitions.specs.Plan.{degree}
+use Rattle.definitions.specs.Code.{square, start, cells}
+use Rattle.definitions.specs.Sound.{Sound}
+use Rattle.definitions.specs.Tray.{planOf, doubtsOf, bufferOf, trayReading, trayRecord}
+use Rattle.definitions.specs.Printed.{trayText}
+use Rattle.definitions.proofs.Sound.{sound}
+use Rattle.definitions.proofs.Tray.{count-text}
+use Rattle.polynomial.proofs.Record.{start-next, start-most}
+use Rattle.trayread.proofs.answer.answer_photo.Statement.{statement}
+use Rattle.trayread.proofs.answer.answer_photo.Tie as tie
+
+-- the longest record
+room : (d : ℕ) → d < 16 → start (d + 1) ≤ 136
+room d l = rw (add-one d) (omega (arith, start-next d l, start-most d l))
+
+-- so many of the 136 zeros
+zeros : (n m : ℕ) → n ≤ m → take {A = ℕ} n (replicate m 0) ≡ replicate n 0
+zeros zero m l = refl
+zeros (suc n) zero l = absurd (omega arith)
+zeros (suc n) (suc m) l = ap (λ s. 0 ∷ s) (zeros n m (omega arith))
+
+module _ (s : tie.Start) where
+  plan : Sound (planOf (s .args .input .now))
+  plan = sound (planOf (s .args .input .now)) (s .pre .0)
+
+  -- the plan's record fits, and there are so many zeros
+  size-most : start (degree (planOf (s .args .input .now)) + 1) ≤ 136
+  size-most = room (degree (planOf (s .args .input .now))) (omega (arith, plan .low, plan .most))
+
+  cut : (n : ℕ) → n ≡ start (degree (planOf (s .args .input .now)) + 1) → take {A = ℕ} n (replicate 136 0) ≡ bufferOf (s .args .input .now)
+  cut n e = rw e (zeros (start (degree (planOf (s .args .input .now)) + 1)) 136 size-most)
+
+returns-2 : tie.Need-returns-2
+unfolding trayText trayReading trayRecord
+returns-2 c =
+    let a = c .before .before .before in
+    let t = a .before .before .before .before .before in
+    let s = t .before .before .before .before .before .before .before in
+    let i = s .args .input .now in
+    let n = cells square (planOf i) in
+    let d : take (length i - (24 + n)) (drop (24 + n) i) ≡ doubtsOf i = take-all (length i - (24 + n)) (drop (24 + n) i) (simp length-drop (omega arith)) in
+    rw (add-sub-cancel-left 24 n, d, cut s (t .start .result) (t .start .ensures)) at (a .answer-mark .ensures)
+
+pub answer-photo-spec : {M : Type 1} → statement M
+answer-photo-spec =
+    tie.close
+    (tie.spec
+    (λ c. sym (plan (c .before .before .before) .whole))
+    (λ c. omega (arith, plan (c .before .before .before .before) .whole))
+    (λ c. omega (arith, c .shared-slice-known2 .given 3))
+    (λ c. omega (arith, plan (c .before .before .before .before .before) .whole))
+    (λ c. omega (arith, c .shared-slice-known3 .given 4))
+    (λ c. omega (arith, c .shared-slice-known3 .given 4))
+    (λ c. let m = plan (c .before .before .before .before .before) .most in omega (arith, mul-le-mul m m))
+    (λ c. let m = plan (c .before .before .before .before .before) .most in omega (arith, mul-le-mul m m))
+    (λ c. let m = plan (c .before .before .before .before .before) .most in omega (arith, mul-le-mul m m))
+    (λ c κs. search needs)
+    (λ c. search needs)
+    (λ c.
+    let t = c .before .before .before .before in
+    let s = t .before .before .before .before .before .before in
+    rw (← count-text (s .args .input .now) (s .pre .0) (λ e. t .if1 .taken (omega (arith, e)))) (c .before .before .put-refused .ensures))
+    (λ c κs. let p = plan (c .before .before .before .before .before .before) in omega (arith, p .low, p .most))
+    (λ c. search needs)
+    (λ c. search needs)
+    (λ c. search needs)
+    (λ c. search needs)
+    (λ c. search needs)
+    (λ c. search needs)
+    (λ c. let t = c .before .before in omega (arith, t .start .ensures, size-most (t .before .before .before .before .before .before .before)))
+    (λ c.
+    let t = c .before .before .before in
+    let s = t .before .before .before .before .before .before .before in
+    rw (cut s (t .start .result) (t .start .ensures)) (t .start .ensures ∙ sym (length-replicate _ _)))
+    (λ c κs.
+    let t = c .before .before .before .before in
+    let s = t .before .before .before .before .before .before .before in
+    rw (cut s (t .start .result) (t .start .ensures), length-replicate)
+    (omega (arith, plan s .whole), omega (arith, s .pre .1, size-most s)))
+    (λ c. search needs)
+    returns-2)

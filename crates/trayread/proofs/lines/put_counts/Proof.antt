@@ -1,0 +1,54 @@
+-- `trayread::lines::put_counts` meets its contract: the four numbers one after the other. Assumes nothing.
+use mathlib.Core.Path.{_≡_, ap}
+use mathlib.Core.List.{List, [], _∷_, _++_}
+use Prim.Native.Nat.{ℕ, _+_}
+use native.Mathlib.Omega.{arith}
+use lib.ListN.{length, length-append}
+use borrow.Author.Needs.{needs}
+use Rattle.definitions.specs.declared.Reading.{Reading}
+use Rattle.definitions.specs.Printed.{spaced}
+use Rattle.definitions.proofs.Printed.{spaced-append}
+use Rattle.text.proofs.Put.{put-then, put-length}
+use Rattle.trayread.proofs.lines.put_counts.Statement.{statement}
+use Rattle.trayread.proofs.lines.put_counts.Tie as tie
+
+four : (a b c d : ℕ) → spaced (a ∷ b ∷ c ∷ d ∷ []) ≡ spaced (a ∷ []) ++ spaced (b ∷ []) ++ spaced (c ∷ []) ++ spaced (d ∷ [])
+four a b c d =
+    rw (spaced-append (a ∷ b ∷ c ∷ []) (d ∷ []), spaced-append (a ∷ b ∷ []) (c ∷ []), spaced-append (a ∷ []) (b ∷ []))
+
+-- and as long together
+fits : (y : ℕ) (r : Reading) → length (spaced (y ∷ r .changed ∷ r .class ∷ r .cost ∷ []))
+    ≡ length (spaced (y ∷ [])) + length (spaced (r .changed ∷ [])) + length (spaced (r .class ∷ [])) + length (spaced (r .cost ∷ []))
+fits y r = rw four (simp length-append)
+
+pub put-counts-spec : {M : Type 1} → statement M
+put-counts-spec =
+    tie.close
+    (tie.spec
+    (λ c κs. let s = c .before .before in omega (arith, s .pre, fits (s .args .season) (s .args .reading)))
+    (λ c κs.
+    let a = c .before .before .before in
+    let s = a .before .before .before in
+    let p = a .put-spaced .ensures in
+    omega (arith, s .pre, p .end, put-length p, fits (s .args .season) (s .args .reading)))
+    (λ c κs.
+    let b = c .before .before .before in
+    let a = b .before .before .before .before in
+    let s = a .before .before .before in
+    let p = put-then (a .put-spaced .ensures) (b .put-spaced2 .ensures) in
+    omega (arith, s .pre, simp length-append at (p .end), put-length p, fits (s .args .season) (s .args .reading)))
+    (λ c κs.
+    let d = c .before .before .before in
+    let b = d .before .before .before .before in
+    let a = b .before .before .before .before in
+    let s = a .before .before .before in
+    let p = put-then (put-then (a .put-spaced .ensures) (b .put-spaced2 .ensures)) (d .put-spaced3 .ensures) in
+    omega (arith, s .pre, simp length-append at (p .end), put-length p, fits (s .args .season) (s .args .reading)))
+    (λ c. search needs)
+    (λ c.
+    let e = c .before .before in
+    let d = e .before .before .before .before in
+    let b = d .before .before .before .before in
+    let a = b .before .before .before .before in
+    rw (four _ _ _ _)
+    (put-then (put-then (put-then (a .put-spaced .ensures) (b .put-spaced2 .ensures)) (d .put-spaced3 .ensures)) (e .put-spaced4 .ensures))))

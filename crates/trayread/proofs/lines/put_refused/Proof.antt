@@ -1,0 +1,40 @@
+-- `trayread::lines::put_refused` meets its contract. Assumes nothing.
+use mathlib.Core.Path.{_≡_}
+use native.Mathlib.Omega.{arith}
+use lib.ListN.{length, length-append}
+use borrow.Author.Needs.{needs}
+use Rattle.definitions.specs.Printed.{refusedLine}
+use Rattle.definitions.proofs.Printed.{refused-length}
+use Rattle.text.proofs.Put.{put-then, put-length}
+use Rattle.trayread.proofs.lines.put_refused.Statement.{statement}
+use Rattle.trayread.proofs.lines.put_refused.Tie as tie
+
+put-spaced-requires : tie.Need-put-spaced-requires
+unfolding refusedLine
+put-spaced-requires c κs =
+    let w = c .before .before .before in
+    let s = w .before .before .before .before in
+    let l = simp length-append at (refused-length (s .args .number) (s .fits .number .fits)) in
+    omega (arith, l, s .pre, w .put-bytes .ensures .end, put-length (w .put-bytes .ensures))
+
+put-byte-requires : tie.Need-put-byte-requires
+unfolding refusedLine
+put-byte-requires c κs =
+    let n = c .before .before .before in
+    let w = n .before .before .before .before in
+    let s = w .before .before .before .before in
+    let p = put-then (w .put-bytes .ensures) (n .put-spaced .ensures) in
+    let l = simp length-append at (refused-length (s .args .number) (s .fits .number .fits)) in
+    omega (arith, l, s .pre, simp length-append at (p .end), put-length p)
+
+returns : tie.Need-returns
+unfolding refusedLine
+returns c =
+    let e = c .before .before in
+    let n = e .before .before .before .before in
+    put-then (put-then (n .before .before .before .before .put-bytes .ensures) (n .put-spaced .ensures)) (e .put-byte .ensures)
+
+pub put-refused-spec : {M : Type 1} → statement M
+put-refused-spec =
+    tie.close
+    (tie.spec (λ c. search needs) (λ c κs. search needs) put-spaced-requires put-byte-requires (λ c. search needs) returns)

@@ -1,0 +1,104 @@
+// The whole answer to an input, as text.
+use crate::lines;
+use polynomial::bivariate::start;
+use traymark::plans::traymark_check_plan;
+use traymark::reading::traymark_read_mark;
+ghost use mathlib.Core.Path.{_≡_};
+ghost use mathlib.Core.List.{List};
+ghost use Prim.Native.Nat.{ℕ, _+_, _*_, _≤_};
+ghost use lib.ListN.{length, take};
+ghost use Rattle.definitions.specs.Plan.{season as seasonOf, checkNumber};
+ghost use Rattle.definitions.specs.Code.{square};
+ghost use Rattle.definitions.specs.Calls.{readReading, readBuffer};
+ghost use Rattle.definitions.specs.Tray.{planOf, Holds};
+ghost use Rattle.definitions.specs.Printed.{answerText, trayText};
+ghost use Rattle.text.specs.Put.{Put};
+
+// One byte more than the longest input, 24 + 256 + 256, so that an excess is seen.
+pub const ROOM: usize = 537;
+
+// The longest answer: 61 bytes of READ, and of RECORD 7 and 4 for each of 136 coefficients.
+pub const TEXT: usize = 612;
+
+// Puts the answer at the start of `text` and returns its length. `space` is the room that the input was read into, and `came` how many
+// bytes came. What is printed is decided by the bytes in the room, and is right for the whole input, however long that is.
+pub fn answer(space: &[u8; ROOM], came: usize, text: &mut [u8; TEXT]) -> usize
+    ensures decided { λ r. ⌜ Put (now (text .entry)) 0 (trayText (take came (now (space .entry)))) (now (text .exit)) r ⌝ }
+    ensures whole { λ r. ⌜ ((input : List ℕ) → Holds input (now (space .entry)) came → trayText (take came (now (space .entry))) ≡ trayText input) ⌝ }
+{
+    answer_input(first(space, came), text)
+}
+
+// The first n bytes, or all where there are fewer.
+fn first<'a>(bytes: &'a [u8], n: usize) -> &'a [u8]
+    ensures { λ r. ⌜ now r ≡ take n (now (bytes .entry)) ⌝ }
+{
+    if bytes.len() < n {
+        return bytes;
+    }
+    &bytes[..n]
+}
+
+// A plan that is short, or unsound, gets its own number whatever follows.
+fn answer_input(input: &[u8], text: &mut [u8]) -> usize
+    requires { ⌜ 612 ≤ length (now text) ⌝ }
+    ensures { λ r. ⌜ Put (now (text .entry)) 0 (trayText (now (input .entry))) (now (text .exit)) r ⌝ }
+{
+    let number = traymark_check_plan(first(input, 24));
+    if number != 0 {
+        return lines::put_refused(text, number);
+    }
+    answer_photo(input, text)
+}
+
+// After a sound plan, another count of bytes is 6.
+fn answer_photo(input: &[u8], text: &mut [u8]) -> usize
+    requires { ⌜ (checkNumber (planOf (now input)) ≡ 0) × (612 ≤ length (now text)) ⌝ }
+    ensures { λ r. ⌜ Put (now (text .entry)) 0 (trayText (now (input .entry))) (now (text .exit)) r ⌝ }
+{
+    let plan = &input[..24];
+    let n = plan[3] as usize;
+    let k = plan[4] as usize + 1;
+    let cells = n * n;
+    let end = 24 + cells;
+    if input.len() != end + cells {
+        return lines::put_refused(text, 6);
+    }
+    let mut record = [0u8; 136];
+    let size = start(k);
+    answer_mark(
+        plan,
+        &input[24..end],
+        &input[end..],
+        &mut record[..size],
+        text,
+    )
+}
+
+// Reads the mark into the lent record.
+fn answer_mark(
+    plan: &[u8],
+    symbols: &[u8],
+    doubts: &[u8],
+    record: &mut [u8],
+    text: &mut [u8],
+) -> usize
+    requires { ⌜ (2 ≤ length (now plan)) × (68 + 4 * length (now «record») ≤ length (now text)) ⌝ }
+    ensures { λ r. ⌜ Put (now (text .entry)) 0 (answerText (seasonOf (now (plan .entry)))
+        (readReading square (now (plan .entry)) (now (symbols .entry)) (now (doubts .entry)) (now («record» .entry)))
+        (readBuffer square (now (plan .entry)) (now (symbols .entry)) (now (doubts .entry)) (now («record» .entry)))) (now (text .exit)) r ⌝ }
+{
+    let reading = traymark_read_mark(plan, symbols, doubts, record);
+    if reading.number != 0 {
+        return lines::put_refused(text, reading.number);
+    }
+    let at = lines::put_read(text, season(plan[0], plan[1]), reading);
+    lines::put_record(text, at, record)
+}
+
+// A season's two bytes, the high one first.
+fn season(high: u8, low: u8) -> u32
+    ensures { λ r. ⌜ r ≡ high * 256 + low ⌝ }
+{
+    high as u32 * 256 + low as u32
+}
