@@ -53,7 +53,7 @@ pub fn put_signed(text: &mut [u8], at: usize, z: i32) -> usize
     ensures { λ r. ⌜ Put (now (text .entry)) at (signed z) (now (text .exit)) r ⌝ }
 {
     if z < 0 {
-        let next = put_byte(text, at, b'-');
+        let next = put_bytes(text, at, b"-");
         return put_natural(text, next, magnitude(z));
     }
     put_natural(text, at, magnitude(z))

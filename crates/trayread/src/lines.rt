@@ -18,7 +18,7 @@ pub fn put_refused(text: &mut [u8], number: u32) -> usize
 {
     let at = put_bytes(text, 0, b"REFUSED");
     let at = put_spaced(text, at, number);
-    put_byte(text, at, b'\n')
+    put_bytes(text, at, b"\n")
 }
 
 // READ, four numbers of at most 10 digits, and one of at most 11 characters.
@@ -31,7 +31,7 @@ pub fn put_read(text: &mut [u8], season: u32, reading: Reading) -> usize
     let at = put_counts(text, at, season, reading);
     let at = put_byte(text, at, b' ');
     let at = put_signed(text, at, reading.margin);
-    put_byte(text, at, b'\n')
+    put_bytes(text, at, b"\n")
 }
 
 // The four numbers.
@@ -51,6 +51,6 @@ pub fn put_record(text: &mut [u8], at: usize, record: &[u8]) -> usize
     ensures { λ r. ⌜ Put (now (text .entry)) at (recordLine (now («record» .entry))) (now (text .exit)) r ⌝ }
 {
     let at = put_bytes(text, at, b"RECORD");
-    let at = put_all_spaced(text, at, record);
-    put_byte(text, at, b'\n')
+    let end = put_all_spaced(text, at, record);
+    put_bytes(text, end, b"\n")
 }

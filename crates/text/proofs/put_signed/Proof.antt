@@ -8,25 +8,25 @@ use Rattle.text.proofs.Signed.{minus-text, plain-text}
 use Rattle.text.proofs.put_signed.Statement.{statement}
 use Rattle.text.proofs.put_signed.Tie as tie
 
-put-byte-requires : tie.Need-put-byte-requires
-put-byte-requires c κs =
-    let s = c .before .before .before in
-    omega (arith, s .pre, ap length (minus-text (s .args .z) (s .fits .z) (c .before .if1 .taken)))
+put-bytes-requires : tie.Need-put-bytes-requires
+put-bytes-requires c κs =
+    let s = c .before .before .before .before in
+    omega (arith, s .pre, ap length (minus-text (s .args .z) (s .fits .z) (c .before .before .if1 .taken)))
 
 put-natural-requires : tie.Need-put-natural-requires
 put-natural-requires c κs =
     let p = c .before .before .before .before in
-    let s = p .before .before .before .before in
-    let e = minus-text (s .args .z) (s .fits .z) (p .before .before .if1 .taken) in
-    rw (c .magnitude .ensures) (omega (arith, s .pre, p .put-byte .ensures .end, put-length (p .put-byte .ensures), ap length e))
+    let s = p .before .before .before .before .before in
+    let e = minus-text (s .args .z) (s .fits .z) (p .before .before .before .if1 .taken) in
+    rw (c .magnitude .ensures) (omega (arith, s .pre, p .put-bytes .ensures .end, put-length (p .put-bytes .ensures), ap length e))
 
 returns : tie.Need-returns
 returns c =
     let m = c .before .before .before in
     let p = m .before .before .before .before in
-    let s = p .before .before .before .before in
-    rw (minus-text (s .args .z) (s .fits .z) (p .before .before .if1 .taken), ← m .magnitude .ensures)
-    (put-then (p .put-byte .ensures) (c .before .before .put-natural .ensures))
+    let s = p .before .before .before .before .before in
+    rw (minus-text (s .args .z) (s .fits .z) (p .before .before .before .if1 .taken), ← m .magnitude .ensures)
+    (put-then (p .put-bytes .ensures) (c .before .before .put-natural .ensures))
 
 put-natural-requires-2 : tie.Need-put-natural-requires-2
 put-natural-requires-2 c κs =
@@ -44,7 +44,8 @@ pub put-signed-spec : {M : Type 1} → statement M
 put-signed-spec =
     tie.close
     (tie.spec
-    put-byte-requires
+    (λ c. search needs)
+    put-bytes-requires
     (λ c κs. search needs)
     put-natural-requires
     (λ c. search needs)

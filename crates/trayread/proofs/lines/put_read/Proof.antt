@@ -50,10 +50,10 @@ put-signed-requires c κs =
     let p = put-then (put-then (w .put-bytes .ensures) (n .put-counts .ensures)) (b .put-byte .ensures) in
     rw (toZ-ofZ (margin-fits s)) (omega (arith, simp length-append at (line s), s .pre, simp length-append at (p .end), put-length p))
 
-put-byte-requires-2 : tie.Need-put-byte-requires-2
+put-bytes-requires-2 : tie.Need-put-bytes-requires-2
 unfolding readLine
-put-byte-requires-2 c κs =
-    let z = c .before .before .before in
+put-bytes-requires-2 c κs =
+    let z = c .before .before .before .before in
     let b = z .before .before .before .before .before in
     let n = b .before .before .before .before in
     let w = n .before .before .before .before in
@@ -66,13 +66,13 @@ returns : tie.Need-returns
 unfolding readLine
 returns c =
     let e = c .before .before in
-    let z = e .before .before .before .before in
+    let z = e .before .before .before .before .before in
     let b = z .before .before .before .before .before in
     let n = b .before .before .before .before in
     let w = n .before .before .before .before in
     let s = w .before .before .before .before in
     let q = rw (toZ-ofZ (margin-fits s)) at (z .put-signed .ensures) in
-    let p = put-then (put-then (put-then (w .put-bytes .ensures) (n .put-counts .ensures)) (put-then (b .put-byte .ensures) q)) (e .put-byte2 .ensures) in
+    let p = put-then (put-then (put-then (w .put-bytes .ensures) (n .put-counts .ensures)) (put-then (b .put-byte .ensures) q)) (e .put-bytes2 .ensures) in
     (p, omega (arith, simp length-append at (line s), simp length-append at (p .end)))
 
 pub put-read-spec : {M : Type 1} → statement M
@@ -84,6 +84,7 @@ put-read-spec =
     put-counts-requires
     put-byte-requires
     put-signed-requires
-    put-byte-requires-2
+    (λ c. search needs)
+    put-bytes-requires-2
     (λ c. search needs)
     returns)

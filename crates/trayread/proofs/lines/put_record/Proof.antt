@@ -17,10 +17,10 @@ put-all-spaced-requires c κs =
     let l = simp length-append at (record-length (s .args .«record» .now) (λ i. omega (arith, k .shared-slice-known .given i))) in
     omega (arith, l, s .pre, w .put-bytes .ensures .end, put-length (w .put-bytes .ensures))
 
-put-byte-requires : tie.Need-put-byte-requires
+put-bytes-requires-2 : tie.Need-put-bytes-requires-2
 unfolding recordLine
-put-byte-requires c κs =
-    let n = c .before .before .before in
+put-bytes-requires-2 c κs =
+    let n = c .before .before .before .before in
     let w = n .before .before .before .before in
     let k = w .before .before .before in
     let s = k .before .before in
@@ -32,10 +32,10 @@ returns : tie.Need-returns
 unfolding recordLine
 returns c =
     let e = c .before .before in
-    let n = e .before .before .before .before in
-    put-then (put-then (n .before .before .before .before .put-bytes .ensures) (n .put-all-spaced .ensures)) (e .put-byte .ensures)
+    let n = e .before .before .before .before .before in
+    put-then (put-then (n .before .before .before .before .put-bytes .ensures) (n .put-all-spaced .ensures)) (e .put-bytes2 .ensures)
 
 pub put-record-spec : {M : Type 1} → statement M
 put-record-spec =
     tie.close
-    (tie.spec (λ c. search needs) (λ c κs. search needs) put-all-spaced-requires put-byte-requires (λ c. search needs) returns)
+    (tie.spec (λ c. search needs) (λ c κs. search needs) put-all-spaced-requires (λ c. search needs) put-bytes-requires-2 (λ c. search needs) returns)

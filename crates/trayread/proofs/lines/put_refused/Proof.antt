@@ -17,10 +17,10 @@ put-spaced-requires c κs =
     let l = simp length-append at (refused-length (s .args .number) (s .fits .number .fits)) in
     omega (arith, l, s .pre, w .put-bytes .ensures .end, put-length (w .put-bytes .ensures))
 
-put-byte-requires : tie.Need-put-byte-requires
+put-bytes-requires-2 : tie.Need-put-bytes-requires-2
 unfolding refusedLine
-put-byte-requires c κs =
-    let n = c .before .before .before in
+put-bytes-requires-2 c κs =
+    let n = c .before .before .before .before in
     let w = n .before .before .before .before in
     let s = w .before .before .before .before in
     let p = put-then (w .put-bytes .ensures) (n .put-spaced .ensures) in
@@ -31,10 +31,10 @@ returns : tie.Need-returns
 unfolding refusedLine
 returns c =
     let e = c .before .before in
-    let n = e .before .before .before .before in
-    put-then (put-then (n .before .before .before .before .put-bytes .ensures) (n .put-spaced .ensures)) (e .put-byte .ensures)
+    let n = e .before .before .before .before .before in
+    put-then (put-then (n .before .before .before .before .put-bytes .ensures) (n .put-spaced .ensures)) (e .put-bytes2 .ensures)
 
 pub put-refused-spec : {M : Type 1} → statement M
 put-refused-spec =
     tie.close
-    (tie.spec (λ c. search needs) (λ c κs. search needs) put-spaced-requires put-byte-requires (λ c. search needs) returns)
+    (tie.spec (λ c. search needs) (λ c κs. search needs) put-spaced-requires (λ c. search needs) put-bytes-requires-2 (λ c. search needs) returns)
