@@ -14,6 +14,12 @@ last-small c =
     ⊎-elim (λ w. omega (arith, w .0 .taken, w .1, g .gather .ensures .2))
     (λ w. omega (arith, w .1, f .low, f .rows)) (c .before .if2 .came)
 
+exchange-requires : tie.Need-exchange-requires
+exchange-requires c κs = search needs
+
+returns : tie.Need-returns-3
+returns c = search needs
+
 pub from-lines-spec : {M : Type 1} → statement M
 from-lines-spec =
     tie.close
@@ -31,5 +37,5 @@ from-lines-spec =
     (λ c κs. search needs)
     (λ c. search needs)
     (λ c κs. search needs)
-    (λ c κs. search needs)
-    (λ c. search needs))
+    exchange-requires
+    returns)
