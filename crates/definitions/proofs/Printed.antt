@@ -1,6 +1,6 @@
 -- Decimal digits as a reader expects them: a number below 10 is its digit, any other the digits of a tenth of it and its last
 -- digit. And how long a printed line is at most. Assumes nothing.
-use mathlib.Core.Path.{_≡_, refl, sym, _∙_}
+use mathlib.Core.Path.{_≡_, refl, sym}
 use mathlib.Core.List.{List, [], _∷_, _++_, append-assoc, append-nil}
 use Prim.Native.Nat.{ℕ, zero, suc, _+_, _*_, _/_, _%_, _^_, _≤_, _<_}
 use native.Mathlib.Omega.{arith}

@@ -9,7 +9,7 @@ use native.Mathlib.Nat.{mul-le-mul}
 use lib.ListN.{length, take, length-take, length-drop}
 use lib.Seq.{take-all, take-take}
 use Rattle.definitions.specs.Refusals.{first}
-use Rattle.definitions.specs.Plan.{side, checkNumber}
+use Rattle.definitions.specs.Plan.{checkNumber}
 use Rattle.definitions.specs.Code.{square, cells}
 use Rattle.definitions.specs.Calls.{photoRows}
 use Rattle.definitions.specs.Tray.{planOf, symbolsOf, doubtsOf, bufferOf, trayReading, Holds, longest}

@@ -20,11 +20,12 @@ pub const ROOM: usize = 537;
 // The longest answer: 61 bytes of READ, and of RECORD 7 and 4 for each of 136 coefficients.
 pub const TEXT: usize = 612;
 
-// Puts the answer at the start of `text` and returns its length. `space` is the room that the input was read into, and `came` how many
-// bytes came. What is printed is decided by the bytes in the room, and is right for the whole input, however long that is.
+// Puts the answer at the start of `text` and returns its length. `space` is the room that the input was read into, and `came` is
+// how many bytes came. The bytes in the room decide the answer, and it is that of the whole input, however long that is.
 pub fn answer(space: &[u8; ROOM], came: usize, text: &mut [u8; TEXT]) -> usize
     ensures decided { λ r. ⌜ Put (now (text .entry)) 0 (trayText (take came (now (space .entry)))) (now (text .exit)) r ⌝ }
-    ensures whole { λ r. ⌜ ((input : List ℕ) → Holds input (now (space .entry)) came → trayText (take came (now (space .entry))) ≡ trayText input) ⌝ }
+    ensures whole { λ r. ⌜ ((input : List ℕ) → Holds input (now (space .entry)) came →
+        trayText (take came (now (space .entry))) ≡ trayText input) ⌝ }
 {
     answer_input(first(space, came), text)
 }
@@ -86,7 +87,8 @@ fn answer_mark(
     requires { ⌜ (2 ≤ length (now plan)) × (68 + 4 * length (now «record») ≤ length (now text)) ⌝ }
     ensures { λ r. ⌜ Put (now (text .entry)) 0 (answerText (seasonOf (now (plan .entry)))
         (readReading square (now (plan .entry)) (now (symbols .entry)) (now (doubts .entry)) (now («record» .entry)))
-        (readBuffer square (now (plan .entry)) (now (symbols .entry)) (now (doubts .entry)) (now («record» .entry)))) (now (text .exit)) r ⌝ }
+        (readBuffer square (now (plan .entry)) (now (symbols .entry)) (now (doubts .entry)) (now («record» .entry))))
+        (now (text .exit)) r ⌝ }
 {
     let reading = traymark_read_mark(plan, symbols, doubts, record);
     if reading.number != 0 {

@@ -37,7 +37,8 @@ pub fn put_read(text: &mut [u8], season: u32, reading: Reading) -> usize
 // The four numbers.
 fn put_counts(text: &mut [u8], at: usize, season: u32, reading: Reading) -> usize
     requires { ⌜ at + length (spaced (season ∷ reading .changed ∷ reading .class ∷ reading .cost ∷ [])) ≤ length (now text) ⌝ }
-    ensures { λ r. ⌜ Put (now (text .entry)) at (spaced (season ∷ reading .changed ∷ reading .class ∷ reading .cost ∷ [])) (now (text .exit)) r ⌝ }
+    ensures { λ r. ⌜ Put (now (text .entry)) at (spaced (season ∷ reading .changed ∷ reading .class ∷ reading .cost ∷ []))
+        (now (text .exit)) r ⌝ }
 {
     let at = put_spaced(text, at, season);
     let at = put_spaced(text, at, reading.changed);

@@ -24,7 +24,7 @@ within s i h =
 
 abbrev Inv-loop : tie.InvT-loop
 Inv-loop text₀ at bytes next₀ i₀ i-end text next i =
-    (i ≤ length bytes) × (i-end ≡ length bytes) × Put text₀ at (spaced (take i bytes)) text next
+    Put text₀ at (spaced (take i bytes)) text next × (i ≤ length bytes) × (i-end ≡ length bytes)
 
 abbrev μ-loop : tie.MeasureT-loop
 μ-loop text₀ at bytes next₀ i₀ i-end text next i = length bytes - i
@@ -34,15 +34,15 @@ unfolding spaced
 loop-holds c =
     let s = c .before .before .args in
     let l : s .at ≤ length (s .text .now) = omega arith in
-    (search needs, search needs, put-none _ _ l)
+    (put-none _ _ l, search needs, search needs)
 
 put-spaced-requires : tie.Need-put-spaced-requires Inv-loop μ-loop
 put-spaced-requires c κs =
     let l = c .before .before .before .before in
     let s = l .before .before .before in
-    let p = l .loop .inv .2 in
+    let p = l .loop .inv .0 in
     let h : l .loop .i < length (s .args .bytes .now) =
-    omega (arith, l .loop .inv .1, c .before .before .before .loop-test .taken) in
+    omega (arith, l .loop .inv .2, c .before .before .before .loop-test .taken) in
     rw (c .wide .ensures) (omega (arith, s .pre, p .end, put-length p, within (s .args .bytes .now) (l .loop .i) h))
 
 loop-again : tie.Need-loop-again Inv-loop μ-loop
@@ -50,15 +50,18 @@ loop-again c =
     let w = c .before .before .before in
     let l = w .before .before .before .before in
     let s = l .before .before .before .args .bytes .now in
-    let h : l .loop .i < length s = omega arith in
-    let p = put-then (l .loop .inv .2) (c .before .before .put-spaced .ensures) in
-    (search needs, search needs, rw (add-one (l .loop .i), take-suc s (l .loop .i) 0 h, spaced-append, ← w .wide .ensures) p)
+    let h : l .loop .i < length s = omega arith in (
+      rw (add-one (l .loop .i), take-suc s (l .loop .i) 0 h, spaced-append, ← w .wide .ensures)
+          (put-then (l .loop .inv .0) (c .before .before .put-spaced .ensures)),
+      search needs,
+      search needs,
+    )
 
 returns : tie.Need-returns Inv-loop μ-loop
 returns c =
     let s = c .before .before .before .before .args .bytes .now in
     let e : c .before .loop .i ≡ length s = omega arith in
-    rw (e, take-length) at (c .before .loop .inv .2)
+    rw (e, take-length) at (c .before .loop .inv .0)
 
 pub put-all-spaced-spec : {M : Type 1} → statement M
 put-all-spaced-spec =
@@ -73,5 +76,5 @@ put-all-spaced-spec =
     (λ c. search needs)
     (λ c. search needs)
     loop-again
-    (λ c. omega (arith, put-length (c .before .loop .inv .2)))
+    (λ c. omega (arith, put-length (c .before .loop .inv .0)))
     returns)

@@ -33,7 +33,8 @@ loop-again c =
     let w : a .at + l .i < length (l .text) = omega (arith, put-length (l .inv .2)) in (
       search needs,
       search needs,
-      rw (← add-assoc (a .at) (l .i) 1, add-one (l .i), take-suc (a .word .now) (l .i) 0 h) (put-then (l .inv .2) (put-one _ _ _ w)),
+      rw (← add-assoc (a .at) (l .i) 1, add-one (l .i), take-suc (a .word .now) (l .i) 0 h)
+          (put-then (l .inv .2) (put-one _ _ _ w)),
     )
 
 same-length : tie.Need-same-length Inv-loop μ-loop

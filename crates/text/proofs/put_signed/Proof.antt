@@ -18,7 +18,8 @@ put-natural-requires c κs =
     let p = c .before .before .before .before in
     let s = p .before .before .before .before .before in
     let e = minus-text (s .args .z) (s .fits .z) (p .before .before .before .if1 .taken) in
-    rw (c .magnitude .ensures) (omega (arith, s .pre, p .put-bytes .ensures .end, put-length (p .put-bytes .ensures), ap length e))
+    rw (c .magnitude .ensures)
+    (omega (arith, s .pre, p .put-bytes .ensures .end, put-length (p .put-bytes .ensures), ap length e))
 
 returns : tie.Need-returns
 returns c =

@@ -1,5 +1,5 @@
 -- `trayread::answer::answer_input` meets its contract. Assumes nothing.
-use mathlib.Core.Path.{_≡_, sym, ap, _∙_}
+use mathlib.Core.Path.{sym, ap, _∙_}
 use borrow.Author.Needs.{needs}
 use Rattle.definitions.specs.Plan.{checkNumber}
 use Rattle.definitions.proofs.Tray.{plan-text}

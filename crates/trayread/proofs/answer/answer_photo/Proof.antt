@@ -1,6 +1,6 @@
 -- `trayread::answer::answer_photo` meets its contract: the cells and the record of a sound plan fit. Assumes nothing.
 use mathlib.Core.Path.{_≡_, refl, sym, ap, _∙_}
-use mathlib.Core.List.{_∷_}
+use mathlib.Core.List.{List, _∷_}
 use Prim.Native.Nat.{ℕ, zero, suc, _+_, _-_, _≤_, _<_}
 use native.Mathlib.Omega.{arith}
 use native.Mathlib.Nat.{mul-le-mul, add-sub-cancel-left}
@@ -9,9 +9,9 @@ use lib.ListN.{length, take, drop, replicate, length-replicate, length-drop}
 use lib.Seq.{take-all}
 use borrow.Author.Needs.{needs}
 use Rattle.definitions.specs.Plan.{degree}
-use Rattle.definitions.specs.Code.{square, start, cells}
+use Rattle.definitions.specs.Code.{square, start, size, cells}
 use Rattle.definitions.specs.Sound.{Sound}
-use Rattle.definitions.specs.Tray.{planOf, doubtsOf, bufferOf, trayReading, trayRecord}
+use Rattle.definitions.specs.Tray.{planOf, bufferOf, trayReading, trayRecord}
 use Rattle.definitions.specs.Printed.{trayText}
 use Rattle.definitions.proofs.Sound.{sound}
 use Rattle.definitions.proofs.Tray.{count-text}
@@ -30,15 +30,25 @@ zeros (suc n) zero l = absurd (omega arith)
 zeros (suc n) (suc m) l = ap (λ s. 0 ∷ s) (zeros n m (omega arith))
 
 module _ (s : tie.Start) where
-  plan : Sound (planOf (s .args .input .now))
-  plan = sound (planOf (s .args .input .now)) (s .pre .0)
+  abbrev input : List ℕ
+  input = s .args .input .now
 
-  -- the plan's record fits, and there are so many zeros
-  size-most : start (degree (planOf (s .args .input .now)) + 1) ≤ 136
-  size-most = room (degree (planOf (s .args .input .now))) (omega (arith, plan .low, plan .most))
+  plan : Sound (planOf input)
+  plan = sound (planOf input) (s .pre .0)
 
-  cut : (n : ℕ) → n ≡ start (degree (planOf (s .args .input .now)) + 1) → take {A = ℕ} n (replicate 136 0) ≡ bufferOf (s .args .input .now)
-  cut n e = rw e (zeros (start (degree (planOf (s .args .input .now)) + 1)) 136 size-most)
+  -- the plan's record fits, and there are zeros for it
+  size-most : size square (planOf input) ≤ 136
+  size-most = room (degree (planOf input)) (omega (arith, plan .low, plan .most))
+
+  cut : (n : ℕ) → n ≡ size square (planOf input) → take {A = ℕ} n (replicate 136 0) ≡ bufferOf input
+  cut n e = rw e (zeros (size square (planOf input)) 136 size-most)
+
+returns : tie.Need-returns
+returns c =
+    let t = c .before .before .before .before in
+    let s = t .before .before .before .before .before .before in
+    let e = count-text (input s) (s .pre .0) (λ e. t .if1 .taken (omega (arith, e))) in
+    rw (← e) (c .before .before .put-refused .ensures)
 
 returns-2 : tie.Need-returns-2
 unfolding trayText trayReading trayRecord
@@ -46,10 +56,12 @@ returns-2 c =
     let a = c .before .before .before in
     let t = a .before .before .before .before .before in
     let s = t .before .before .before .before .before .before .before in
-    let i = s .args .input .now in
+    let i = input s in
     let n = cells square (planOf i) in
-    let d : take (length i - (24 + n)) (drop (24 + n) i) ≡ doubtsOf i = take-all (length i - (24 + n)) (drop (24 + n) i) (simp length-drop (omega arith)) in
-    rw (add-sub-cancel-left 24 n, d, cut s (t .start .result) (t .start .ensures)) at (a .answer-mark .ensures)
+    let l : length (drop (24 + n) i) ≤ length i - (24 + n) = simp length-drop (omega arith) in
+    let u = take-all (length i - (24 + n)) (drop (24 + n) i) l in
+    rw (add-sub-cancel-left 24 n, u, cut s (t .start .result) (t .start .ensures))
+    at (a .answer-mark .ensures)
 
 pub answer-photo-spec : {M : Type 1} → statement M
 answer-photo-spec =
@@ -66,10 +78,7 @@ answer-photo-spec =
     (λ c. let m = plan (c .before .before .before .before .before) .most in omega (arith, mul-le-mul m m))
     (λ c κs. search needs)
     (λ c. search needs)
-    (λ c.
-    let t = c .before .before .before .before in
-    let s = t .before .before .before .before .before .before in
-    rw (← count-text (s .args .input .now) (s .pre .0) (λ e. t .if1 .taken (omega (arith, e)))) (c .before .before .put-refused .ensures))
+    returns
     (λ c κs. let p = plan (c .before .before .before .before .before .before) in omega (arith, p .low, p .most))
     (λ c. search needs)
     (λ c. search needs)
@@ -77,7 +86,9 @@ answer-photo-spec =
     (λ c. search needs)
     (λ c. search needs)
     (λ c. search needs)
-    (λ c. let t = c .before .before in omega (arith, t .start .ensures, size-most (t .before .before .before .before .before .before .before)))
+    (λ c.
+    let t = c .before .before in
+    omega (arith, t .start .ensures, size-most (t .before .before .before .before .before .before .before)))
     (λ c.
     let t = c .before .before .before in
     let s = t .before .before .before .before .before .before .before in

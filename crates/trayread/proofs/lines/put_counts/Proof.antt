@@ -1,6 +1,6 @@
 -- `trayread::lines::put_counts` meets its contract: the four numbers one after the other. Assumes nothing.
-use mathlib.Core.Path.{_≡_, ap}
-use mathlib.Core.List.{List, [], _∷_, _++_}
+use mathlib.Core.Path.{_≡_}
+use mathlib.Core.List.{[], _∷_, _++_}
 use Prim.Native.Nat.{ℕ, _+_}
 use native.Mathlib.Omega.{arith}
 use lib.ListN.{length, length-append}
@@ -12,13 +12,15 @@ use Rattle.text.proofs.Put.{put-then, put-length}
 use Rattle.trayread.proofs.lines.put_counts.Statement.{statement}
 use Rattle.trayread.proofs.lines.put_counts.Tie as tie
 
+-- the numbers one by one
 four : (a b c d : ℕ) → spaced (a ∷ b ∷ c ∷ d ∷ []) ≡ spaced (a ∷ []) ++ spaced (b ∷ []) ++ spaced (c ∷ []) ++ spaced (d ∷ [])
 four a b c d =
     rw (spaced-append (a ∷ b ∷ c ∷ []) (d ∷ []), spaced-append (a ∷ b ∷ []) (c ∷ []), spaced-append (a ∷ []) (b ∷ []))
 
--- and as long together
+-- and so their lengths
 fits : (y : ℕ) (r : Reading) → length (spaced (y ∷ r .changed ∷ r .class ∷ r .cost ∷ []))
-    ≡ length (spaced (y ∷ [])) + length (spaced (r .changed ∷ [])) + length (spaced (r .class ∷ [])) + length (spaced (r .cost ∷ []))
+    ≡ length (spaced (y ∷ [])) + length (spaced (r .changed ∷ [])) + length (spaced (r .class ∷ []))
+    + length (spaced (r .cost ∷ []))
 fits y r = rw four (simp length-append)
 
 pub put-counts-spec : {M : Type 1} → statement M
@@ -50,5 +52,5 @@ put-counts-spec =
     let d = e .before .before .before .before in
     let b = d .before .before .before .before in
     let a = b .before .before .before .before in
-    rw (four _ _ _ _)
-    (put-then (put-then (put-then (a .put-spaced .ensures) (b .put-spaced2 .ensures)) (d .put-spaced3 .ensures)) (e .put-spaced4 .ensures))))
+    let p = put-then (put-then (a .put-spaced .ensures) (b .put-spaced2 .ensures)) (d .put-spaced3 .ensures) in
+    rw (four _ _ _ _) (put-then p (e .put-spaced4 .ensures))))

@@ -21,7 +21,8 @@ margin-fits s = record { sfits = s .good .1 .1 .0 .1 .1 .1 .1 .0 .1 }
 line : (s : tie.Start) → length (readLine (s .args .season) (s .args .reading)) ≤ 61
 line s =
     let g = s .good .1 .1 .0 .1 .1 .1 in
-    read-length (s .args .season) (s .args .reading) (s .fits .season .fits) (g .1 .1 .0 .1) (g .1 .1 .1 .0 .1) (g .0 .1) (abs-small (s .args .reading .margin) (margin-fits s .sfits))
+    let z = abs-small (s .args .reading .margin) (margin-fits s .sfits) in
+    read-length (s .args .season) (s .args .reading) (s .fits .season .fits) (g .1 .1 .0 .1) (g .1 .1 .1 .0 .1) (g .0 .1) z
 
 put-counts-requires : tie.Need-put-counts-requires
 unfolding readLine
@@ -48,7 +49,8 @@ put-signed-requires c κs =
     let w = n .before .before .before .before in
     let s = w .before .before .before .before in
     let p = put-then (put-then (w .put-bytes .ensures) (n .put-counts .ensures)) (b .put-byte .ensures) in
-    rw (toZ-ofZ (margin-fits s)) (omega (arith, simp length-append at (line s), s .pre, simp length-append at (p .end), put-length p))
+    rw (toZ-ofZ (margin-fits s))
+    (omega (arith, simp length-append at (line s), s .pre, simp length-append at (p .end), put-length p))
 
 put-bytes-requires-2 : tie.Need-put-bytes-requires-2
 unfolding readLine
@@ -72,7 +74,8 @@ returns c =
     let w = n .before .before .before .before in
     let s = w .before .before .before .before in
     let q = rw (toZ-ofZ (margin-fits s)) at (z .put-signed .ensures) in
-    let p = put-then (put-then (put-then (w .put-bytes .ensures) (n .put-counts .ensures)) (put-then (b .put-byte .ensures) q)) (e .put-bytes2 .ensures) in
+    let a = put-then (w .put-bytes .ensures) (n .put-counts .ensures) in
+    let p = put-then (put-then a (put-then (b .put-byte .ensures) q)) (e .put-bytes2 .ensures) in
     (p, omega (arith, simp length-append at (line s), simp length-append at (p .end)))
 
 pub put-read-spec : {M : Type 1} → statement M

@@ -33,9 +33,17 @@ unfolding recordLine
 returns c =
     let e = c .before .before in
     let n = e .before .before .before .before .before in
-    put-then (put-then (n .before .before .before .before .put-bytes .ensures) (n .put-all-spaced .ensures)) (e .put-bytes2 .ensures)
+    let w = n .before .before .before .before in
+    put-then (put-then (w .put-bytes .ensures) (n .put-all-spaced .ensures)) (e .put-bytes2 .ensures)
 
 pub put-record-spec : {M : Type 1} → statement M
 put-record-spec =
     tie.close
-    (tie.spec (λ c. search needs) (λ c κs. search needs) put-all-spaced-requires (λ c. search needs) put-bytes-requires-2 (λ c. search needs) returns)
+    (tie.spec
+    (λ c. search needs)
+    (λ c κs. search needs)
+    put-all-spaced-requires
+    (λ c. search needs)
+    put-bytes-requires-2
+    (λ c. search needs)
+    returns)

@@ -1,5 +1,4 @@
 -- `trayread::lines::put_refused` meets its contract. Assumes nothing.
-use mathlib.Core.Path.{_≡_}
 use native.Mathlib.Omega.{arith}
 use lib.ListN.{length, length-append}
 use borrow.Author.Needs.{needs}
@@ -37,4 +36,11 @@ returns c =
 pub put-refused-spec : {M : Type 1} → statement M
 put-refused-spec =
     tie.close
-    (tie.spec (λ c. search needs) (λ c κs. search needs) put-spaced-requires (λ c. search needs) put-bytes-requires-2 (λ c. search needs) returns)
+    (tie.spec
+    (λ c. search needs)
+    (λ c κs. search needs)
+    put-spaced-requires
+    (λ c. search needs)
+    put-bytes-requires-2
+    (λ c. search needs)
+    returns)
