@@ -3,7 +3,7 @@
 --   sound, checked    from the number to the facts, and back
 --   zeros, filled-no  the same of a stretch of bytes that are 0
 use mathlib.Core.Path.{_≡_, sym, ap}
-use mathlib.Core.Bool.{true, false}
+use mathlib.Core.Bool.{false}
 use mathlib.Core.List.{List}
 use Prim.Native.Nat.{ℕ, _+_, _-_, _≤_, _<_}
 use native.Mathlib.Omega.{arith}

@@ -1,4 +1,4 @@
--- A prime modulus has no divisors of zero (Euclid's lemma, by descent), how inverses are made from one another, and what the test of
+-- A prime modulus has no divisors of zero (Euclid's lemma, by descent); how inverses are made from one another; what the test of
 -- primality says. Assumes nothing.
 use mathlib.Core.Logic.{_≢_}
 use mathlib.Core.Path.{_≡_, refl, ap, _∙_}
@@ -12,7 +12,8 @@ use borrow.Author.Tests.{eqb-false, ne-eqb, le-leb, leb-true}
 use Rattle.bounded.proofs.Any.{any-none, none-any}
 use Rattle.field.specs.Congruence.{Cong}
 use Rattle.field.specs.Prime.{divided, isPrime, Prime, Inverse}
-use Rattle.field.proofs.Congruence.{same, ~sym, _⨾_, ~mul, ~mul-right, less, rest, remainder, below-eq, difference, mod-cong, cong-mod}
+use Rattle.field.proofs.Congruence.{same, ~sym, _⨾_, ~mul, ~mul-right, less, rest, remainder}
+use Rattle.field.proofs.Congruence.{below-eq, difference, mod-cong, cong-mod}
 
 -- no number from 2 below m divides p
 abbrev pub Alone : (p m : ℕ) → Type 0

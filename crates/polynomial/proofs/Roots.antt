@@ -1,4 +1,5 @@
--- A polynomial of degree at most k that is zero at more than k points is zero, and so is its leading coefficient. Assumes nothing.
+-- A polynomial of degree at most k that is zero at more than k points is zero, and so is its leading coefficient.
+-- Assumes nothing.
 use mathlib.Core.Logic.{_≢_}
 use Prim.Native.Nat.{ℕ, zero, suc, _+_, _*_, _≤_, _<_}
 use native.Mathlib.Omega.{arith}

@@ -21,7 +21,8 @@ pub fn decode(
     message: &mut [u16; 136],
     cost: &mut u32,
 ) -> [[u16; 16]; 16]
-    requires { ⌜ Fit g × Rows (g .p) symbols × DoubtRows g doubts × Inverses (g .p) (now inverses) × (length (now message) ≡ 136) ⌝ }
+    requires { ⌜ Fit g × Rows (g .p) symbols × DoubtRows g doubts × Inverses (g .p) (now inverses)
+        × (length (now message) ≡ 136) ⌝ }
     ensures { λ left. ⌜ Outcome g symbols doubts left (under g (now (cost .exit))) (now (message .exit)) (now (cost .exit)) ⌝ }
 {
     let mut left = symbols;

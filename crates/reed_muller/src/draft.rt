@@ -1,6 +1,6 @@
 // Drafts of a mark's columns: made by interpolation, without looking for errors. No function here decides a result, each only how
-// long reading takes, since a draft is tried like any record (`trial`), and what is measured decides. So the contracts say no more
-// than that the numbers are residues and that columns already found stay (`Redrawn`); "meant" is what they don't say.
+// long reading takes, since a draft is tried like any record (`trial`), and what is measured decides. So the contracts say no
+// more than that the numbers are residues and that columns already found stay (`Redrawn`); "meant" is what they don't say.
 use crate::grid::Grid;
 use crate::lines;
 use distance::word;
@@ -50,8 +50,8 @@ fn divide_differences(
     }
 }
 
-// Meant: their coefficients by powers, from Newton's. From the highest on each is freed of a multiple of the one above it, as just
-// made, so that the compiler doesn't work across rows.
+// Meant: their coefficients by powers, from Newton's. From the highest on each is freed of a multiple of the one above it, as
+// just made, so that the compiler doesn't work across rows.
 fn change_to_powers(f: &mut [[u16; 16]; 16], x: [u16; 16], d: usize, p: u16, m: u16)
     requires { ⌜ Reciprocal p m × Rows p (now f) × Row p x × (d < 16) ⌝ }
     ensures { λ _. ⌜ Rows p (now (f .exit)) ⌝ }
@@ -84,8 +84,8 @@ fn exchange(f: &[[u16; 16]; 16], k: usize, p: u16, columns: &mut [[u16; 16]; 16]
     }
 }
 
-// Meant: the columns of the polynomial through the cells of the first d + 1 rows and columns. False is meant to say that its degree
-// in X and Y is above d, so that one of these cells is wrong and the columns are of no use.
+// Meant: the columns of the polynomial through the cells of the first d + 1 rows and columns. False is meant to say that its
+// degree in X and Y is above d, so that one of these cells is wrong and the columns are of no use.
 pub fn from_cells(
     g: Grid,
     inverses: &[u16; 251],
@@ -135,8 +135,8 @@ fn gather(g: Grid, known: [u32; 16], f: &mut [[u16; 16]; 16], z: &mut [u16; 16])
     i
 }
 
-// Meant: the columns of Y^0 to Y^(t - 1) through the first d + 1 lines whose answers are known. False is meant to say that these are
-// fewer, or that the next one does not fit them. The columns from Y^t on stay.
+// Meant: the columns of Y^0 to Y^(t - 1) through the first d + 1 lines whose answers are known. False is meant to say that these
+// are fewer, or that the next one does not fit them. The columns from Y^t on stay.
 pub fn from_lines(
     g: Grid,
     inverses: &[u16; 251],

@@ -1,6 +1,6 @@
 -- `trayread::lines::put_record` meets its contract. Assumes nothing.
 use native.Mathlib.Omega.{arith}
-use lib.ListN.{length, length-append}
+use lib.ListN.{length-append}
 use borrow.Author.Needs.{needs}
 use Rattle.definitions.specs.Printed.{recordLine}
 use Rattle.definitions.proofs.Printed.{record-length}
