@@ -1,16 +1,16 @@
 -- Cases a to l of document 01 hold of the definitions, by one computed comparison; so do the further cases, the class at each of
--- its bounds, case c as `trayread` reads it, and what it prints. Assumes nothing.
+-- its bounds, the finder's numbers, case c as `trayread` reads it, and what it prints. Assumes nothing.
 use mathlib.Core.Path.{_≡_, refl}
 use mathlib.Core.List.{List, [], _∷_, _++_, map}
 use Prim.Native.Nat.{ℕ}
 use lib.IntN.{pos, negsuc}
-use lib.ListN.{drop}
-use Rattle.definitions.specs.Calls.{refused}
+use lib.ListN.{drop, set}
 use Rattle.definitions.specs.Cost.{class}
 use Rattle.definitions.specs.Photograph.{sure}
+use Rattle.definitions.specs.Finder.{findRows, findNumber}
 use Rattle.definitions.specs.Tray.{trayReading, trayRecord}
 use Rattle.definitions.specs.Printed.{decimal, signed, spaced, readLine, recordLine, refusedLine, answerText, trayText}
-use Rattle.definitions.specs.Cases.{outcome, call, said, cases, moreCases, planA, mark₁, photoC}
+use Rattle.definitions.specs.Cases.{outcome, only, call, said, cases, moreCases, planA, mark₁, photoC}
 
 pub cases-hold : map outcome (map call cases) ≡ map said cases
 unfolding outcome
@@ -23,9 +23,15 @@ more-cases-hold = refl
 pub class-bounds : map class (0 ∷ 1 ∷ 3 ∷ 4 ∷ 15 ∷ 16 ∷ 256 ∷ []) ≡ 0 ∷ 1 ∷ 1 ∷ 2 ∷ 2 ∷ 3 ∷ 3 ∷ []
 class-bounds = refl
 
+-- plans of the seasons 12 and 268: both are found, 269 is not; nothing in an empty file; a byte too few
+pub finder-cases : map (findNumber (planA ++ set planA 0 1)) (12 ∷ 268 ∷ 269 ∷ []) ++ findNumber [] 12 ∷ findNumber (drop 1 planA) 12 ∷ []
+    ≡ 0 ∷ 0 ∷ 12 ∷ 12 ∷ 11 ∷ []
+unfolding outcome findNumber findRows
+finder-cases = refl
+
 pub tray-cases :
     map trayReading ((planA ++ photoC ++ sure 9) ∷ (planA ++ mark₁) ∷ (planA ++ photoC ++ sure 10) ∷ drop 1 planA ∷ [])
-    ≡ record { number = 0; cost = 400; margin = pos 200; changed = 2; class = 1 } ∷ refused 6 ∷ refused 6 ∷ refused 1 ∷ []
+    ≡ record { number = 0; cost = 400; margin = pos 200; changed = 2; class = 1 } ∷ only 6 ∷ only 6 ∷ only 1 ∷ []
 unfolding outcome trayReading
 tray-cases = refl
 

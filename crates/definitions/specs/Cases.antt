@@ -17,7 +17,7 @@ use Rattle.definitions.specs.Code.{Code, strip, square, valueX, valueXY,
 use Rattle.definitions.specs.Cost.{margin}
 use Rattle.definitions.specs.Photograph.{sure}
 use Rattle.definitions.specs.Search.{search, firstOf}
-use Rattle.definitions.specs.Calls.{refused, photoRows, readingOf, writeRows, writeNumber, writeBuffer}
+use Rattle.definitions.specs.Calls.{photoRows, readingOf, writeRows, writeNumber, writeBuffer}
 use Rattle.definitions.specs.Calls.{measureRows, measureNumber, measureReading}
 use Rattle.definitions.specs.Calls.{within, nearest, readRows, readNumber, readReading, readBuffer}
 
@@ -35,13 +35,17 @@ infix 5 _⟹_
 pub data Case : Type 0 where
   _⟹_ : Call → Outcome → Case
 
+-- a number with zeros beside it, written out
+abbrev pub only : ℕ → Reading
+only k = record { number = k; cost = 0; margin = pos 0; changed = 0; class = 0 }
+
 -- whoever unfolds this computes with all that it names
 unfoldable pub outcome : Call → Outcome
 unfolding any tab first isPrime checkNumber planRows valueX valueXY mark margin search firstOf photoRows readingOf
     writeRows writeNumber writeBuffer measureRows measureNumber measureReading
     within nearest readRows readNumber readReading readBuffer
-outcome (check P) = refused (checkNumber P) leaving []
-outcome (write C P F B) = refused (writeNumber C P F B) leaving writeBuffer C P F B
+outcome (check P) = only (checkNumber P) leaving []
+outcome (write C P F B) = only (writeNumber C P F B) leaving writeBuffer C P F B
 outcome (measure C P s u F) = measureReading C P s u F leaving F
 outcome (read C P s u B) = readReading C P s u B leaving readBuffer C P s u B
 
@@ -93,37 +97,37 @@ nines n = replicate n 9
 
 abbrev pub cases : List Case
 cases =
-    (write square planA record₁ (nines 9) ⟹ refused 0 leaving mark₁)  -- a
+    (write square planA record₁ (nines 9) ⟹ only 0 leaving mark₁)  -- a
     ∷ (read square planA mark₁ (sure 9) (nines 3) ⟹ gives 0 600 0 0 leaving record₁)  -- b
     ∷ (read square planA photoC (sure 9) (nines 3) ⟹ gives 400 200 2 1 leaving record₁)  -- c
-    ∷ (read square planA photoD (sure 9) (nines 3) ⟹ refused 10 leaving nines 3)  -- d
+    ∷ (read square planA photoD (sure 9) (nines 3) ⟹ only 10 leaving nines 3)  -- d
     ∷ (read square planA photoD (1 ∷ 1 ∷ 1 ∷ sure 6) (nines 3) ⟹ gives 597 3 3 1 leaving record₁)  -- e
     ∷ (read square planA (hidden 5) (doubts 5) (nines 3) ⟹ gives 500 100 5 2 leaving record₁)  -- f
-    ∷ (read square planA (hidden 6) (doubts 6) (nines 3) ⟹ refused 10 leaving nines 3)  -- g
+    ∷ (read square planA (hidden 6) (doubts 6) (nines 3) ⟹ only 10 leaving nines 3)  -- g
     ∷ (read square planH (1 ∷ []) (99 ∷ []) (nines 1) ⟹ gives 99 1 0 0 leaving 1 ∷ [])  -- h
-    ∷ (read square planH (1 ∷ []) (100 ∷ []) (nines 1) ⟹ refused 10 leaving nines 1)  -- i
-    ∷ (read square planJ (1 ∷ sure 3) (sure 4) (nines 3) ⟹ refused 10 leaving nines 3)  -- j
+    ∷ (read square planH (1 ∷ []) (100 ∷ []) (nines 1) ⟹ only 10 leaving nines 1)  -- i
+    ∷ (read square planJ (1 ∷ sure 3) (sure 4) (nines 3) ⟹ only 10 leaving nines 3)  -- j
     ∷ (measure square planJ (1 ∷ sure 3) (sure 4) (0 ∷ 0 ∷ 0 ∷ []) ⟹ gives 200 0 1 1 leaving 0 ∷ 0 ∷ 0 ∷ [])
     ∷ (measure square planJ (1 ∷ sure 3) (sure 4) (1 ∷ 1 ∷ 0 ∷ []) ⟹ gives 200 0 1 1 leaving 1 ∷ 1 ∷ 0 ∷ [])
     ∷ (measure square planA photoD (sure 9) record₁ ⟹ gives 600 0 3 1 leaving record₁)  -- k
-    ∷ (check (plan 9 3 1 1 2 4) ⟹ refused 2 leaving [])  -- l
-    ∷ (check (plan 7 3 3 1 2 4) ⟹ refused 4 leaving [])
-    ∷ (check (plan 7 3 1 1 1 4) ⟹ refused 5 leaving [])
+    ∷ (check (plan 9 3 1 1 2 4) ⟹ only 2 leaving [])  -- l
+    ∷ (check (plan 7 3 3 1 2 4) ⟹ only 4 leaving [])
+    ∷ (check (plan 7 3 1 1 1 4) ⟹ only 5 leaving [])
     ∷ []
 
 -- not of the table: a strip written and read, a plan with several faults at once, a record of total degree 2 at the corners; each
 -- of the bytes 21 to 23 filled; symbol and doubt wrong at once, doubt and coefficient wrong at once
 abbrev pub moreCases : List Case
 moreCases =
-    (write strip planA (3 ∷ 1 ∷ []) (nines 3) ⟹ refused 0 leaving 4 ∷ 5 ∷ 0 ∷ [])
+    (write strip planA (3 ∷ 1 ∷ []) (nines 3) ⟹ only 0 leaving 4 ∷ 5 ∷ 0 ∷ [])
     ∷ (read strip planA (4 ∷ 5 ∷ 255 ∷ []) (0 ∷ 0 ∷ 100 ∷ []) (nines 2) ⟹ gives 100 100 1 1 leaving 3 ∷ 1 ∷ [])
-    ∷ (check (plan 9 0 3 1 1 4) ⟹ refused 2 leaving [])
-    ∷ (write square planA (3 ∷ 1 ∷ 7 ∷ []) (nines 8) ⟹ refused 6 leaving nines 8)
-    ∷ (write square planA (3 ∷ 1 ∷ 7 ∷ []) (nines 9) ⟹ refused 9 leaving nines 9)
-    ∷ (write square (plan 5 3 2 0 1 2) (1 ∷ 0 ∷ 0 ∷ 2 ∷ 3 ∷ 4 ∷ []) (nines 9) ⟹ refused 0 leaving 1 ∷ 0 ∷ 2 ∷ 3 ∷ 0 ∷ 0 ∷ 4 ∷ 4 ∷ 2 ∷ [])
-    ∷ (check (set planA 21 1) ⟹ refused 1 leaving [])
-    ∷ (check (set planA 22 1) ⟹ refused 1 leaving [])
-    ∷ (check (set planA 23 1) ⟹ refused 1 leaving [])
-    ∷ (read square planA (7 ∷ drop 1 mark₁) (101 ∷ sure 8) (nines 3) ⟹ refused 7 leaving nines 3)
-    ∷ (measure square planA mark₁ (101 ∷ sure 8) (3 ∷ 1 ∷ 7 ∷ []) ⟹ refused 8 leaving 3 ∷ 1 ∷ 7 ∷ [])
+    ∷ (check (plan 9 0 3 1 1 4) ⟹ only 2 leaving [])
+    ∷ (write square planA (3 ∷ 1 ∷ 7 ∷ []) (nines 8) ⟹ only 6 leaving nines 8)
+    ∷ (write square planA (3 ∷ 1 ∷ 7 ∷ []) (nines 9) ⟹ only 9 leaving nines 9)
+    ∷ (write square (plan 5 3 2 0 1 2) (1 ∷ 0 ∷ 0 ∷ 2 ∷ 3 ∷ 4 ∷ []) (nines 9) ⟹ only 0 leaving 1 ∷ 0 ∷ 2 ∷ 3 ∷ 0 ∷ 0 ∷ 4 ∷ 4 ∷ 2 ∷ [])
+    ∷ (check (set planA 21 1) ⟹ only 1 leaving [])
+    ∷ (check (set planA 22 1) ⟹ only 1 leaving [])
+    ∷ (check (set planA 23 1) ⟹ only 1 leaving [])
+    ∷ (read square planA (7 ∷ drop 1 mark₁) (101 ∷ sure 8) (nines 3) ⟹ only 7 leaving nines 3)
+    ∷ (measure square planA mark₁ (101 ∷ sure 8) (3 ∷ 1 ∷ 7 ∷ []) ⟹ only 8 leaving 3 ∷ 1 ∷ 7 ∷ [])
     ∷ []
