@@ -24,7 +24,8 @@ pub class-bounds : map class (0 ∷ 1 ∷ 3 ∷ 4 ∷ 15 ∷ 16 ∷ 256 ∷ []) 
 class-bounds = refl
 
 -- plans of the seasons 12 and 268: both are found, 269 is not; nothing in an empty file; a byte too few
-pub finder-cases : map (findNumber (planA ++ set planA 0 1)) (12 ∷ 268 ∷ 269 ∷ []) ++ findNumber [] 12 ∷ findNumber (drop 1 planA) 12 ∷ []
+pub finder-cases :
+    map (findNumber (planA ++ set planA 0 1)) (12 ∷ 268 ∷ 269 ∷ []) ++ findNumber [] 12 ∷ findNumber (drop 1 planA) 12 ∷ []
     ≡ 0 ∷ 0 ∷ 12 ∷ 12 ∷ 11 ∷ []
 unfolding outcome findNumber findRows
 finder-cases = refl
