@@ -29,10 +29,10 @@ pub fn tells_of_a_failed_write(program: &str, input: &Input) -> Result<bool> {
     Ok(said.starts_with("trayread: ") && said.ends_with('\n') && said.lines().count() == 1)
 }
 
-/// An argument gets the usage on standard error and nothing on standard output, while standard input is open and empty.
-pub fn tells_its_usage(program: &str, argument: &str) -> Result<bool> {
+/// Arguments get the usage on standard error and nothing on standard output, while standard input is open and empty.
+pub fn tells_its_usage(program: &str, arguments: &[&str]) -> Result<bool> {
     let mut command = Command::new(program);
-    command.arg(argument).stdin(Stdio::piped()).stdout(Stdio::piped()).stderr(Stdio::piped());
+    command.args(arguments).stdin(Stdio::piped()).stdout(Stdio::piped()).stderr(Stdio::piped());
     let mut child = command.spawn()?;
     let open = child.stdin.take();
     for _ in 0..1_000 {

@@ -50,8 +50,8 @@ fn behaves(program: &str, inputs: &[Input]) -> Result<(), String> {
         told("an answer in one write", conduct::in_one_write(program, input))?;
         told("a write that fails", conduct::tells_of_a_failed_write(program, input))?;
     }
-    for argument in ["--help", "-h", "input", ""] {
-        told(&format!("the argument {argument:?}"), conduct::tells_its_usage(program, argument))?;
+    for arguments in [&["--help"] as &[&str], &["-h"], &["input"], &[""], &["input", "output"]] {
+        told(&format!("the arguments {arguments:?}"), conduct::tells_its_usage(program, arguments))?;
     }
     Ok(())
 }

@@ -1,16 +1,18 @@
 -- Cases a to l of document 01 hold of the definitions, by one computed comparison; so do the further cases, the class at each of
--- its bounds, the finder's numbers, case c as `trayread` reads it, and what it prints. Assumes nothing.
+-- its bounds, the finder's numbers, a published distance, case c as `trayread` reads it, and what it prints. Assumes nothing.
 use mathlib.Core.Path.{_≡_, refl}
 use mathlib.Core.List.{List, [], _∷_, _++_, map}
 use Prim.Native.Nat.{ℕ}
 use lib.IntN.{pos, negsuc}
 use lib.ListN.{drop, set}
+use Rattle.bounded.specs.Bounded.{at}
 use Rattle.definitions.specs.Cost.{class}
 use Rattle.definitions.specs.Photograph.{sure}
 use Rattle.definitions.specs.Finder.{findRows, findNumber}
+use Rattle.definitions.specs.Published.{_over_, distance, weighted}
 use Rattle.definitions.specs.Tray.{trayReading, trayRecord}
 use Rattle.definitions.specs.Printed.{decimal, signed, spaced, readLine, recordLine, refusedLine, answerText, trayText}
-use Rattle.definitions.specs.Cases.{outcome, only, call, said, cases, moreCases, planA, mark₁, photoC}
+use Rattle.definitions.specs.Cases.{outcome, only, call, said, cases, moreCases, planA, mark₁, photoC, photoD}
 
 pub cases-hold : map outcome (map call cases) ≡ map said cases
 unfolding outcome
@@ -30,23 +32,33 @@ pub finder-cases :
 unfolding outcome findNumber findRows
 finder-cases = refl
 
+-- a wrong cell without doubt, and a right one with the doubt 50: 1 and a quarter
+pub published-case : distance 2 (weighted 100 (at (7 ∷ 8 ∷ [])) (at (0 ∷ 50 ∷ []))) (at (6 ∷ 8 ∷ [])) ≡ 50000 over 40000
+published-case = refl
+
 pub tray-cases :
     map trayReading ((planA ++ photoC ++ sure 9) ∷ (planA ++ mark₁) ∷ (planA ++ photoC ++ sure 10) ∷ drop 1 planA ∷ [])
     ≡ record { number = 0; cost = 400; margin = pos 200; changed = 2; class = 1 } ∷ only 6 ∷ only 6 ∷ only 1 ∷ []
 unfolding outcome trayReading
 tray-cases = refl
 
--- READ 12 2 1 400 200, RECORD 3 1 2; REFUSED 6, for a byte less and for a byte more; REFUSED 1
-abbrev caseC : List ℕ
-caseC =
-    82 ∷ 69 ∷ 65 ∷ 68 ∷ 32 ∷ 49 ∷ 50 ∷ 32 ∷ 50 ∷ 32 ∷ 49 ∷ 32 ∷ 52 ∷ 48 ∷ 48 ∷ 32 ∷ 50 ∷ 48 ∷ 48 ∷ 10
+-- READ, the season's digits, 2 1 400 200, RECORD 3 1 2; REFUSED and a number's digits
+abbrev caseC : List ℕ → List ℕ
+caseC season =
+    82 ∷ 69 ∷ 65 ∷ 68 ∷ 32 ∷ season ++ 32 ∷ 50 ∷ 32 ∷ 49 ∷ 32 ∷ 52 ∷ 48 ∷ 48 ∷ 32 ∷ 50 ∷ 48 ∷ 48 ∷ 10
     ∷ 82 ∷ 69 ∷ 67 ∷ 79 ∷ 82 ∷ 68 ∷ 32 ∷ 51 ∷ 32 ∷ 49 ∷ 32 ∷ 50 ∷ 10 ∷ []
 
-abbrev refusal : ℕ → List ℕ
-refusal d = 82 ∷ 69 ∷ 70 ∷ 85 ∷ 83 ∷ 69 ∷ 68 ∷ 32 ∷ d ∷ 10 ∷ []
+abbrev refusal : List ℕ → List ℕ
+refusal number = 82 ∷ 69 ∷ 70 ∷ 85 ∷ 83 ∷ 69 ∷ 68 ∷ 32 ∷ number ++ 10 ∷ []
 
-pub text-cases : map (λ s. trayText (planA ++ photoC ++ s)) (sure 9 ∷ sure 8 ∷ sure 10 ∷ []) ++ (trayText (drop 1 planA) ∷ [])
-    ≡ caseC ∷ refusal 54 ∷ refusal 54 ∷ refusal 49 ∷ []
+-- case c, in season 12 and in season 268; case d; a byte less than case c and a byte more; a plan a byte short
+pub text-cases :
+    map trayText (
+    (planA ++ photoC ++ sure 9) ∷ (set planA 0 1 ++ photoC ++ sure 9) ∷ (planA ++ photoD ++ sure 9)
+    ∷ (planA ++ photoC ++ sure 8) ∷ (planA ++ photoC ++ sure 10) ∷ drop 1 planA ∷ []
+    )
+    ≡ caseC (49 ∷ 50 ∷ []) ∷ caseC (50 ∷ 54 ∷ 56 ∷ []) ∷ refusal (49 ∷ 48 ∷ [])
+    ∷ refusal (54 ∷ []) ∷ refusal (54 ∷ []) ∷ refusal (49 ∷ []) ∷ []
 unfolding outcome trayReading trayRecord decimal signed spaced readLine recordLine refusedLine answerText trayText
 text-cases = refl
 

@@ -1,13 +1,13 @@
 -- What `trayread` prints where a plan or a count of bytes is refused; and that a room of one byte more than the longest input
 -- decides, for any input, what is printed. Assumes nothing.
 use mathlib.Core.Path.{_≡_, refl, sym, ap, _∙_}
-use mathlib.Core.List.{List}
+use mathlib.Core.List.{List, _++_}
 use Prim.Native.Nat.{ℕ, zero, suc, _+_, _*_, _≤_, _<_}
 use native.Mathlib.Omega.{arith}
 use native.Mathlib.Decide.{decLe}
 use native.Mathlib.Nat.{mul-le-mul}
-use lib.ListN.{length, take, length-take, length-drop}
-use lib.Seq.{take-all, take-take}
+use lib.ListN.{length, take, length-append, length-take, length-drop}
+use lib.Seq.{take-all, take-append-seam, take-take}
 use Rattle.definitions.specs.Refusals.{first}
 use Rattle.definitions.specs.Plan.{checkNumber}
 use Rattle.definitions.specs.Code.{square, cells}
@@ -63,6 +63,19 @@ long-text a b p l m = go (checkNumber (planOf b)) refl
     go zero e = sym (excess-text a (ap checkNumber p ∙ e) l) ∙ excess-text b e m
     go (suc k) e =
         sym (plan-text a (suc k) (sym (ap checkNumber p ∙ e)) (λ z. omega arith)) ∙ plan-text b (suc k) (sym e) (λ z. omega arith)
+
+-- every input has its rooms: one that it leaves space in, and one that it is too long for
+pub holds-whole : (input space : List ℕ) → Holds input (input ++ space) (length input)
+holds-whole input space = record {
+  count = simp length-append (omega arith);
+  bytes = take-append-seam input space ∙ sym (take-all (length input) input (omega arith));
+}
+
+pub holds-first : (room more : List ℕ) → Holds (room ++ more) room (length room)
+holds-first room more = record {
+  count = simp length-append (omega arith);
+  bytes = take-all (length room) room (omega arith) ∙ sym (take-append-seam room more);
+}
 
 -- so a room with one byte more decides what is printed
 pub room-text : (input room : List ℕ) (came : ℕ) → longest < length room → Holds input room came →

@@ -82,7 +82,7 @@ mark₁ = 6 ∷ 1 ∷ 5 ∷ 0 ∷ 2 ∷ 6 ∷ 2 ∷ 4 ∷ 1 ∷ []
 abbrev pub photoC : List ℕ
 photoC = 0 ∷ 1 ∷ 5 ∷ 0 ∷ 2 ∷ 6 ∷ 2 ∷ 4 ∷ 0 ∷ []
 
-abbrev photoD : List ℕ
+abbrev pub photoD : List ℕ
 photoD = 0 ∷ 0 ∷ 0 ∷ drop 3 mark₁
 
 -- the mark with its first k cells unread, and its doubts; a buffer of 9s, so that "unchanged" is seen
