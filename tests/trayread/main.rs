@@ -1,4 +1,4 @@
-//! Runs the program `trayread` over some hundred inputs, good and bad, and compares what it prints byte for byte; then
+//! Runs the program `trayread` over some 750 inputs, good and bad, and compares what it prints byte for byte; then
 //! looks at how it writes, what it says to arguments and what where it can't write.
 //!
 //! `program PATH`, where PATH is the program. A failure names the input; inputs are the same in every run.
@@ -50,7 +50,7 @@ fn behaves(program: &str, inputs: &[Input]) -> Result<(), String> {
         told("an answer in one write", conduct::in_one_write(program, input))?;
         told("a write that fails", conduct::tells_of_a_failed_write(program, input))?;
     }
-    for arguments in [&["--help"] as &[&str], &["-h"], &["input"], &[""], &["input", "output"]] {
+    for arguments in [&["--help"] as &[&str], &["-h"], &["input"], &[""], &["input", "output"], &["a", "b", "c"]] {
         told(&format!("the arguments {arguments:?}"), conduct::tells_its_usage(program, arguments))?;
     }
     Ok(())

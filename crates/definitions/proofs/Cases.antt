@@ -3,13 +3,14 @@
 use mathlib.Core.Path.{_≡_, refl}
 use mathlib.Core.List.{List, [], _∷_, _++_, map}
 use Prim.Native.Nat.{ℕ}
+use native.Mathlib.Omega.{arith}
 use lib.IntN.{pos, negsuc}
 use lib.ListN.{drop, set}
 use Rattle.bounded.specs.Bounded.{at}
 use Rattle.definitions.specs.Cost.{class}
 use Rattle.definitions.specs.Photograph.{sure}
 use Rattle.definitions.specs.Finder.{findRows, findNumber}
-use Rattle.definitions.specs.Published.{_over_, distance, weighted}
+use Rattle.definitions.specs.Published.{_over_, _is_times_, distance, weighted}
 use Rattle.definitions.specs.Tray.{trayReading, trayRecord}
 use Rattle.definitions.specs.Printed.{decimal, signed, spaced, readLine, recordLine, refusedLine, answerText, trayText}
 use Rattle.definitions.specs.Cases.{outcome, only, call, said, cases, moreCases, planA, mark₁, photoC, photoD}
@@ -35,6 +36,10 @@ finder-cases = refl
 -- a wrong cell without doubt, and a right one with the doubt 50: 1 and a quarter
 pub published-case : distance 2 (weighted 100 (at (7 ∷ 8 ∷ [])) (at (0 ∷ 50 ∷ []))) (at (6 ∷ 8 ∷ [])) ≡ 50000 over 40000
 published-case = refl
+
+-- nothing is a multiple of a fraction over 0
+pub never-over-zero : (D k a : ℕ) → ¬ (D is k times (a over 0))
+never-over-zero D k a h = omega (arith, h .0)
 
 pub tray-cases :
     map trayReading ((planA ++ photoC ++ sure 9) ∷ (planA ++ mark₁) ∷ (planA ++ photoC ++ sure 10) ∷ drop 1 planA ∷ [])

@@ -1,15 +1,12 @@
 -- Demand 3 follows where at most one record is within the radius; so it is left to the distance of the codes. Assumes nothing.
 use mathlib.Core.Path.{_≡_, refl, sym, ap, _∙_}
-use mathlib.Core.Logic.{_≢_}
-use mathlib.Core.Bool.{Bool, true, false}
-use mathlib.Core.List.{List, [], _∷_}
-use mathlib.Core.Option.{Option, some, none}
+use mathlib.Core.Bool.{true, false}
+use mathlib.Core.List.{List}
 use Prim.Native.Nat.{ℕ, zero, suc, _≤_, _<_}
 use native.Mathlib.Omega.{arith}
 use native.Mathlib.Decide.{decLt}
-use lib.Dec.{ltb}
 use lib.ListN.{length}
-use borrow.Author.Tests.{lt-ltb, le-ltb, ltb-false}
+use borrow.Author.Tests.{lt-ltb, le-ltb}
 use Rattle.definitions.specs.Refusals.{first, accepted}
 use Rattle.definitions.specs.Code.{Code, size}
 use Rattle.definitions.specs.Cost.{full, radius}
@@ -53,6 +50,16 @@ module _ (C : Code) (P s u B : List ℕ) (photo : Photograph C P s u) (buffer : 
   unfolding readingOf
   accepted-number F = refl
 
+  none : ((F : List ℕ) → IsRecord C P F → radius full C P ≤ costOf C P s u F) →
+      (readReading C P s u B ≡ calls.refused 10) × (readBuffer C P s u B ≡ B)
+  none z = let h = reads-none C P s u B clear (λ F r. far F (z F r)) in (sym (h .reading), sym (h .buffer))
+
+  ten : readNumber C P s u B ≡ 10 → (F : List ℕ) → IsRecord C P F → radius full C P ≤ costOf C P s u F
+  ten e F r = elim (decLt (costOf C P s u F) (radius full C P)) [
+    | yes m ↦ absurd (omega (arith, e, number, accepted-number F, ap (λ a. a .number) (found F r m .0)))
+    | no m ↦ omega arith
+  ]
+
   pub nearest : Nearest C P s u B
   nearest = record {
     alone = λ F G r q n l. elim (decLt (costOf C P s u G) (radius full C P)) [
@@ -60,9 +67,6 @@ module _ (C : Code) (P s u B : List ℕ) (photo : Photograph C P s u) (buffer : 
       | no m ↦ omega arith
     ];
     returned = found;
-    refuses = λ z. let h = reads-none C P s u B clear (λ F r. far F (z F r)) in (sym (h .reading), sym (h .buffer));
-    refused = λ e F r. elim (decLt (costOf C P s u F) (radius full C P)) [
-      | yes m ↦ absurd (omega (arith, e, number, accepted-number F, ap (λ a. a .number) (found F r m .0)))
-      | no m ↦ omega arith
-    ];
+    exactly = (ten, λ z. sym number ∙ ap (λ a. a .number) (none z .0));
+    refuses = none;
   }

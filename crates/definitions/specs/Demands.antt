@@ -20,7 +20,7 @@
 -- What this file is for: the sentences that a user relies on, each as one statement whose parts are named.
 use mathlib.Core.Path.{_≡_}
 use mathlib.Core.List.{List}
-use mathlib.Core.Logic.{_≢_}
+use mathlib.Core.Logic.{_≢_, _↔_}
 use Prim.Native.Nat.{ℕ, _+_, _*_, _≤_, _<_}
 use lib.IntN.{ℤ, pos, negℤ, _-ℤ_}
 use lib.Signed.{_≤ℤ_}
@@ -78,10 +78,11 @@ pub record Nearest (C : Code) (P s u B : List ℕ) : Type 0 where
   -- the reader returns the one under the limit, with its cost
   pub returned : (F : List ℕ) → IsRecord C P F → costOf C P s u F < radius full C P →
       (readReading C P s u B ≡ readingOf C P s u F) × (readBuffer C P s u B ≡ F)
-  -- it refuses with 10 exactly when no record costs under the limit; then the lent buffer is as it was
+  -- it refuses with 10 exactly when no record costs under the limit
+  pub exactly : (readNumber C P s u B ≡ 10) ↔ ((F : List ℕ) → IsRecord C P F → radius full C P ≤ costOf C P s u F)
+  -- and then the lent buffer is as it was
   pub refuses : ((F : List ℕ) → IsRecord C P F → radius full C P ≤ costOf C P s u F) →
       (readReading C P s u B ≡ calls.refused 10) × (readBuffer C P s u B ≡ B)
-  pub refused : readNumber C P s u B ≡ 10 → (F : List ℕ) → IsRecord C P F → radius full C P ≤ costOf C P s u F
 
 abbrev pub UnreadCosts : Code → (P s u F : List ℕ) → Type 0
 UnreadCosts C P s u F = (c : ℕ) → c < cells C P → at s c ≡ unread → cell full (at s c) (at u c) (value C P F c) ≡ 100
