@@ -6,18 +6,6 @@ use borrow.Author.Needs.{needs}
 use Rattle.plan.proofs.find.Statement.{statement}
 use Rattle.plan.proofs.find.Tie as tie
 
-locate-requires : tie.Need-locate-requires
-locate-requires c κs = search needs
-
-sub-result : tie.Need-sub-result
-sub-result c = search needs
-
-part-result-start : tie.Need-part-result-start
-part-result-start c = search needs
-
-part-result-end : tie.Need-part-result-end
-part-result-end c = search needs
-
 returns : tie.Need-returns
 returns c =
     record { decided = c .before .before .before .locate .ensures .decided; found = λ e. absurd (c .before .if1 .taken e); empty = λ e. refl }
@@ -25,12 +13,6 @@ returns c =
 add-result : tie.Need-add-result
 add-result c =
     let f = c .before .before .locate .ensures .found (c .if1 .left) in omega (arith, f .inside, f .start)
-
-sub-result-2 : tie.Need-sub-result-2
-sub-result-2 c = search needs
-
-part-result-start-2 : tie.Need-part-result-start-2
-part-result-start-2 c = search needs
 
 part-result-end-2 : tie.Need-part-result-end-2
 part-result-end-2 c =
@@ -56,13 +38,9 @@ pub find-spec : {M : Type 1} → statement M
 find-spec =
     tie.close
     (tie.spec
-    locate-requires
-    sub-result
-    part-result-start
-    part-result-end
+    (λ c κs. search needs) (λ c. search needs) (λ c. search needs) (λ c. search needs)
     returns
     add-result
-    sub-result-2
-    part-result-start-2
+    (λ c. search needs) (λ c. search needs)
     part-result-end-2
     returns-2)

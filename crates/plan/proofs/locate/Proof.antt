@@ -28,21 +28,6 @@ returns c =
 loop-holds : tie.Need-loop-holds Inv-loop μ-loop
 loop-holds c = (search needs, any-start _, search needs)
 
-mul-at : tie.Need-mul-at Inv-loop μ-loop
-mul-at c = search needs
-
-shared-slice-read-season-of : tie.Need-shared-slice-read-season-of Inv-loop μ-loop
-shared-slice-read-season-of c = search needs
-
-add-season-of : tie.Need-add-season-of Inv-loop μ-loop
-add-season-of c = search needs
-
-shared-slice-read-season-of-2 : tie.Need-shared-slice-read-season-of-2 Inv-loop μ-loop
-shared-slice-read-season-of-2 c = search needs
-
-season-of-requires : tie.Need-season-of-requires Inv-loop μ-loop
-season-of-requires c κs = search needs
-
 returns-2 : tie.Need-returns-2 Inv-loop μ-loop
 unfolding findRows
 returns-2 c =
@@ -55,12 +40,6 @@ returns-2 c =
       found = λ z. record { k = b .loop .k; inside = l; start = refl; same = e };
       nowhere = λ z. absurd (z refl);
     }
-
-add-k : tie.Need-add-k Inv-loop μ-loop
-add-k c = search needs
-
-loop-less : tie.Need-loop-less Inv-loop μ-loop
-loop-less c = search needs
 
 loop-again : tie.Need-loop-again Inv-loop μ-loop
 loop-again c =
@@ -88,13 +67,8 @@ locate-spec =
     μ-loop
     returns
     loop-holds
-    mul-at
-    shared-slice-read-season-of
-    add-season-of
-    shared-slice-read-season-of-2
-    season-of-requires
+    (λ c. search needs) (λ c. search needs) (λ c. search needs) (λ c. search needs) (λ c κs. search needs)
     returns-2
-    add-k
-    loop-less
+    (λ c. search needs) (λ c. search needs)
     loop-again
     returns-3)

@@ -37,9 +37,6 @@ loop-again c =
           (put-then (l .inv .2) (put-one _ _ _ w)),
     )
 
-same-length : tie.Need-same-length Inv-loop μ-loop
-same-length c = omega (arith, put-length (c .before .loop .inv .2))
-
 returns : tie.Need-returns Inv-loop μ-loop
 returns c =
     let e : c .before .loop .i ≡ length (c .before .before .args .word .now) = omega arith in
@@ -52,12 +49,10 @@ put-bytes-spec =
     Inv-loop
     μ-loop
     loop-holds
-    (λ c. search needs)
-    (λ c. search needs)
+    (λ c. search needs) (λ c. search needs)
     slice-write-text
-    (λ c. search needs)
-    (λ c. search needs)
+    (λ c. search needs) (λ c. search needs)
     loop-again
     (λ c. search needs)
-    same-length
+    (λ c. omega (arith, put-length (c .before .loop .inv .2)))
     returns)

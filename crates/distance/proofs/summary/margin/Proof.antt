@@ -4,17 +4,13 @@ use Rattle.distance.proofs.Margin.{margin-fits, margin-is}
 use Rattle.distance.proofs.summary.margin.Statement.{statement}
 use Rattle.distance.proofs.summary.margin.Tie as tie
 
-cast-result : tie.Need-cast-result
-cast-result c = search needs
-
-cast-result-2 : tie.Need-cast-result-2
-cast-result-2 c = search needs
-
-sub-result : tie.Need-sub-result
-sub-result c = margin-fits (c .args .radius) (c .args .cost) (c .pre .0) (c .pre .1)
-
 returns : tie.Need-returns
 returns c = margin-is (c .args .radius) (c .args .cost) (c .pre .0) (c .pre .1)
 
 pub margin-spec : {M : Type 1} → statement M
-margin-spec = tie.close (tie.spec cast-result cast-result-2 sub-result returns)
+margin-spec =
+    tie.close
+    (tie.spec
+    (λ c. search needs) (λ c. search needs)
+    (λ c. margin-fits (c .args .radius) (c .args .cost) (c .pre .0) (c .pre .1))
+    returns)

@@ -13,18 +13,6 @@ row-most f r h i = mul-le-mul {n₁ = f} {m₁ = r} {n₂ = 65536} {m₂ = 16} (
 radius-most : (f r k : ℕ) → f < 65536 → r ≤ 16 → k ≤ 16 → f * r * k ≤ 16777216
 radius-most f r k h i l = mul-le-mul {n₁ = f * r} {m₁ = k} {n₂ = 1048576} {m₂ = 16} (row-most f r h i) l
 
-cast-result : tie.Need-cast-result
-cast-result c = search needs
-
-mul-result : tie.Need-mul-result
-mul-result c = omega (arith, row-most (c .args .full) (c .args .rows) (c .pre .0) (c .pre .1))
-
-sub-result : tie.Need-sub-result
-sub-result c = search needs
-
-cast-result-2 : tie.Need-cast-result-2
-cast-result-2 c = search needs
-
 mul-result-2 : tie.Need-mul-result-2
 mul-result-2 c = omega (arith, radius-most (c .args .full) (c .args .rows) (c .args .n - c .args .d) (c .pre .0) (c .pre .1) (omega arith))
 
@@ -33,4 +21,10 @@ returns c = (refl, omega (arith, radius-most (c .args .full) (c .args .rows) (c 
 
 pub radius-spec : {M : Type 1} → statement M
 radius-spec =
-    tie.close (tie.spec cast-result mul-result sub-result cast-result-2 mul-result-2 returns)
+    tie.close
+    (tie.spec
+    (λ c. search needs)
+    (λ c. omega (arith, row-most (c .args .full) (c .args .rows) (c .pre .0) (c .pre .1)))
+    (λ c. search needs) (λ c. search needs)
+    mul-result-2
+    returns)

@@ -4,14 +4,8 @@ use borrow.Author.Needs.{needs}
 use Rattle.distance.proofs.summary.reading.Statement.{statement}
 use Rattle.distance.proofs.summary.reading.Tie as tie
 
-margin-requires : tie.Need-margin-requires
-margin-requires c κs = search needs
-
-class-of-requires : tie.Need-class-of-requires
-class-of-requires c κs = search needs
-
 returns : tie.Need-returns
 returns c = rw (read-back (c .before .margin .result) (c .before .margin .ok), c .before .margin .ensures, c .class-of .ensures)
 
 pub reading-spec : {M : Type 1} → statement M
-reading-spec = tie.close (tie.spec margin-requires class-of-requires returns)
+reading-spec = tie.close (tie.spec (λ c κs. search needs) (λ c κs. search needs) returns)

@@ -9,14 +9,8 @@ use Rattle.distance.proofs.word.cell_cost.Tie as tie
 returns : tie.Need-returns
 returns c = rw (eq-eqb _ _ (c .if1 .taken)) (refl, omega arith)
 
-mul-result : tie.Need-mul-result
-mul-result c = search needs
-
-sub-result : tie.Need-sub-result
-sub-result c = search needs
-
 returns-2 : tie.Need-returns-2
 returns-2 c = rw (ne-eqb _ _ (c .if1 .left)) (refl, omega arith)
 
 pub cell-cost-spec : {M : Type 1} → statement M
-cell-cost-spec = tie.close (tie.spec returns mul-result sub-result returns-2)
+cell-cost-spec = tie.close (tie.spec returns (λ c. search needs) (λ c. search needs) returns-2)

@@ -19,30 +19,6 @@ abbrev μ-loop : tie.MeasureT-loop
 loop-holds : tie.Need-loop-holds Inv-loop μ-loop
 loop-holds c = (omega arith, refl, omega arith)
 
-mul-cell-changed : tie.Need-mul-cell-changed Inv-loop μ-loop
-mul-cell-changed c = search needs
-
-array-read-cell-changed : tie.Need-array-read-cell-changed Inv-loop μ-loop
-array-read-cell-changed c = search needs
-
-mul-cell-changed-2 : tie.Need-mul-cell-changed-2 Inv-loop μ-loop
-mul-cell-changed-2 c = search needs
-
-array-read-cell-changed-2 : tie.Need-array-read-cell-changed-2 Inv-loop μ-loop
-array-read-cell-changed-2 c = search needs
-
-cell-changed-requires : tie.Need-cell-changed-requires Inv-loop μ-loop
-cell-changed-requires c κs = search needs
-
-add-count : tie.Need-add-count Inv-loop μ-loop
-add-count c = omega (arith, c .cell-changed .ensures .1)
-
-add-i : tie.Need-add-i Inv-loop μ-loop
-add-i c = search needs
-
-loop-less : tie.Need-loop-less Inv-loop μ-loop
-loop-less c = search needs
-
 loop-again : tie.Need-loop-again Inv-loop μ-loop
 loop-again c =
     let b = c .before .before .before .args in
@@ -60,13 +36,8 @@ word-changed-spec =
     Inv-loop
     μ-loop
     loop-holds
-    mul-cell-changed
-    array-read-cell-changed
-    mul-cell-changed-2
-    array-read-cell-changed-2
-    cell-changed-requires
-    add-count
-    add-i
-    loop-less
+    (λ c. search needs) (λ c. search needs) (λ c. search needs) (λ c. search needs) (λ c κs. search needs)
+    (λ c. omega (arith, c .cell-changed .ensures .1))
+    (λ c. search needs) (λ c. search needs)
     loop-again
     returns)

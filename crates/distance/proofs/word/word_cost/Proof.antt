@@ -19,36 +19,6 @@ abbrev μ-loop : tie.MeasureT-loop
 loop-holds : tie.Need-loop-holds Inv-loop μ-loop
 loop-holds c = (omega arith, refl, omega arith)
 
-mul-cell-cost : tie.Need-mul-cell-cost Inv-loop μ-loop
-mul-cell-cost c = search needs
-
-array-read-cell-cost : tie.Need-array-read-cell-cost Inv-loop μ-loop
-array-read-cell-cost c = search needs
-
-mul-cell-cost-2 : tie.Need-mul-cell-cost-2 Inv-loop μ-loop
-mul-cell-cost-2 c = search needs
-
-array-read-cell-cost-2 : tie.Need-array-read-cell-cost-2 Inv-loop μ-loop
-array-read-cell-cost-2 c = search needs
-
-mul-cell-cost-3 : tie.Need-mul-cell-cost-3 Inv-loop μ-loop
-mul-cell-cost-3 c = search needs
-
-array-read-cell-cost-3 : tie.Need-array-read-cell-cost-3 Inv-loop μ-loop
-array-read-cell-cost-3 c = search needs
-
-cell-cost-requires : tie.Need-cell-cost-requires Inv-loop μ-loop
-cell-cost-requires c κs = (c .before .before .pre .1 (c .before .loop .i) (omega arith), c .before .before .pre .2)
-
-add-sum : tie.Need-add-sum Inv-loop μ-loop
-add-sum c = omega (arith, c .cell-cost .ensures .1)
-
-add-i : tie.Need-add-i Inv-loop μ-loop
-add-i c = search needs
-
-loop-less : tie.Need-loop-less Inv-loop μ-loop
-loop-less c = search needs
-
 loop-again : tie.Need-loop-again Inv-loop μ-loop
 loop-again c =
     let b = c .before .before .before .args in
@@ -66,15 +36,9 @@ word-cost-spec =
     Inv-loop
     μ-loop
     loop-holds
-    mul-cell-cost
-    array-read-cell-cost
-    mul-cell-cost-2
-    array-read-cell-cost-2
-    mul-cell-cost-3
-    array-read-cell-cost-3
-    cell-cost-requires
-    add-sum
-    add-i
-    loop-less
+    (λ c. search needs) (λ c. search needs) (λ c. search needs) (λ c. search needs) (λ c. search needs) (λ c. search needs)
+    (λ c κs. (c .before .before .pre .1 (c .before .loop .i) (omega arith), c .before .before .pre .2))
+    (λ c. omega (arith, c .cell-cost .ensures .1))
+    (λ c. search needs) (λ c. search needs)
     loop-again
     returns)

@@ -79,52 +79,13 @@ Inv-loop p m out₀ a₀ out a = (2 ≤ a) × (a ≤ p) × Made p a out
 abbrev μ-loop : tie.MeasureT-loop
 μ-loop p m out₀ a₀ out a = p - a
 
-table-requires : tie.Need-table-requires Inv-loop μ-loop
-table-requires c κs = search needs
-
 returns : tie.Need-returns Inv-loop μ-loop
 returns c =
     let e : c .before .before .args .p ≡ 251 = omega arith in
     rw e (c .before .table .ensures)
 
-sub-out : tie.Need-sub-out Inv-loop μ-loop
-sub-out c = search needs
-
-sub-out-2 : tie.Need-sub-out-2 Inv-loop μ-loop
-sub-out-2 c = search needs
-
-cast-out : tie.Need-cast-out Inv-loop μ-loop
-cast-out c = search needs
-
-mul-out : tie.Need-mul-out Inv-loop μ-loop
-mul-out c = search needs
-
-array-write-out : tie.Need-array-write-out Inv-loop μ-loop
-array-write-out c = search needs
-
 loop-holds : tie.Need-loop-holds Inv-loop μ-loop
 loop-holds c = let b = c .before .before .pre in (omega arith, b .0 .least, made-start (b .0 .least) (b .1) (c .before .table .ensures))
-
-add-loop : tie.Need-add-loop Inv-loop μ-loop
-add-loop c = search needs
-
-div-reduce : tie.Need-div-reduce Inv-loop μ-loop
-div-reduce c = search needs
-
-sub-reduce : tie.Need-sub-reduce Inv-loop μ-loop
-sub-reduce c = div-le-self _ _
-
-rem-reduce : tie.Need-rem-reduce Inv-loop μ-loop
-rem-reduce c = search needs
-
-cast-reduce : tie.Need-cast-reduce Inv-loop μ-loop
-cast-reduce c = omega (arith, mod-lt (c .before .before .before .before .args .p) {m = c .before .loop .a} (omega arith))
-
-mul-reduce : tie.Need-mul-reduce Inv-loop μ-loop
-mul-reduce c = omega (arith, mod-lt (c .before .before .before .before .args .p) {m = c .before .loop .a} (omega arith))
-
-array-read-reduce : tie.Need-array-read-reduce Inv-loop μ-loop
-array-read-reduce c = omega (arith, mod-lt (c .before .before .before .before .args .p) {m = c .before .loop .a} (omega arith))
 
 mul-reduce-2 : tie.Need-mul-reduce-2 Inv-loop μ-loop
 mul-reduce-2 c =
@@ -132,39 +93,6 @@ mul-reduce-2 c =
     let l = c .before .loop in
     let i = before (b .pre .0) (l .inv .0) (omega arith) (l .inv .2) in
     omega (arith, product-fits {x = b .args .p - b .args .p / l .a} (b .pre .1) (omega arith) (i .below))
-
-reduce-requires : tie.Need-reduce-requires Inv-loop μ-loop
-reduce-requires c κs = search needs
-
-cast-out-2 : tie.Need-cast-out-2 Inv-loop μ-loop
-cast-out-2 c = search needs
-
-mul-out-2 : tie.Need-mul-out-2 Inv-loop μ-loop
-mul-out-2 c = search needs
-
-array-write-out-2 : tie.Need-array-write-out-2 Inv-loop μ-loop
-array-write-out-2 c = search needs
-
-sub-out-3 : tie.Need-sub-out-3 Inv-loop μ-loop
-sub-out-3 c = search needs
-
-sub-out-4 : tie.Need-sub-out-4 Inv-loop μ-loop
-sub-out-4 c = search needs
-
-cast-out-3 : tie.Need-cast-out-3 Inv-loop μ-loop
-cast-out-3 c = search needs
-
-mul-out-3 : tie.Need-mul-out-3 Inv-loop μ-loop
-mul-out-3 c = search needs
-
-array-write-out-3 : tie.Need-array-write-out-3 Inv-loop μ-loop
-array-write-out-3 c = search needs
-
-add-a : tie.Need-add-a Inv-loop μ-loop
-add-a c = search needs
-
-loop-less : tie.Need-loop-less Inv-loop μ-loop
-loop-less c = search needs
 
 loop-again : tie.Need-loop-again Inv-loop μ-loop
 loop-again c =
@@ -186,32 +114,18 @@ inverses-spec =
     (tie.spec
     Inv-loop
     μ-loop
-    table-requires
+    (λ c κs. search needs)
     returns
-    sub-out
-    sub-out-2
-    cast-out
-    mul-out
-    array-write-out
+    (λ c. search needs) (λ c. search needs) (λ c. search needs) (λ c. search needs) (λ c. search needs)
     loop-holds
-    add-loop
-    div-reduce
-    sub-reduce
-    rem-reduce
-    cast-reduce
-    mul-reduce
-    array-read-reduce
+    (λ c. search needs) (λ c. search needs)
+    (λ c. div-le-self _ _)
+    (λ c. search needs)
+    (λ c. omega (arith, mod-lt (c .before .before .before .before .args .p) {m = c .before .loop .a} (omega arith)))
+    (λ c. omega (arith, mod-lt (c .before .before .before .before .args .p) {m = c .before .loop .a} (omega arith)))
+    (λ c. omega (arith, mod-lt (c .before .before .before .before .args .p) {m = c .before .loop .a} (omega arith)))
     mul-reduce-2
-    reduce-requires
-    cast-out-2
-    mul-out-2
-    array-write-out-2
-    sub-out-3
-    sub-out-4
-    cast-out-3
-    mul-out-3
-    array-write-out-3
-    add-a
-    loop-less
+    (λ c κs. search needs) (λ c. search needs) (λ c. search needs) (λ c. search needs) (λ c. search needs) (λ c. search needs)
+    (λ c. search needs) (λ c. search needs) (λ c. search needs) (λ c. search needs) (λ c. search needs)
     loop-again
     returns-2)

@@ -20,18 +20,6 @@ abbrev μ-loop : tie.MeasureT-loop
 loop-holds : tie.Need-loop-holds Inv-loop μ-loop
 loop-holds c = (omega arith, upto-start (c .pre .1 .size))
 
-mul-reduce : tie.Need-mul-reduce Inv-loop μ-loop
-mul-reduce c = search needs
-
-array-read-reduce : tie.Need-array-read-reduce Inv-loop μ-loop
-array-read-reduce c = search needs
-
-mul-reduce-2 : tie.Need-mul-reduce-2 Inv-loop μ-loop
-mul-reduce-2 c = search needs
-
-array-read-reduce-2 : tie.Need-array-read-reduce-2 Inv-loop μ-loop
-array-read-reduce-2 c = search needs
-
 mul-reduce-3 : tie.Need-mul-reduce-3 Inv-loop μ-loop
 mul-reduce-3 c =
     let b = c .before .before .pre in
@@ -41,21 +29,6 @@ add-reduce : tie.Need-add-reduce Inv-loop μ-loop
 add-reduce c =
     let b = c .before .before .pre in
     omega (arith, product-fits (b .0 .most) (b .3) (b .2 .small (c .before .loop .j)), b .1 .small (c .before .loop .j), b .0 .most)
-
-reduce-requires : tie.Need-reduce-requires Inv-loop μ-loop
-reduce-requires c κs = c .before .before .pre .0
-
-mul-out : tie.Need-mul-out Inv-loop μ-loop
-mul-out c = search needs
-
-array-write-out : tie.Need-array-write-out Inv-loop μ-loop
-array-write-out c = search needs
-
-add-j : tie.Need-add-j Inv-loop μ-loop
-add-j c = search needs
-
-loop-less : tie.Need-loop-less Inv-loop μ-loop
-loop-less c = search needs
 
 loop-again : tie.Need-loop-again Inv-loop μ-loop
 loop-again c = (omega arith, upto-step (c .reduce .result) (omega arith) (c .reduce .ensures .0) (c .before .before .loop .inv .1))
@@ -70,16 +43,10 @@ add-multiple-spec =
     Inv-loop
     μ-loop
     loop-holds
-    mul-reduce
-    array-read-reduce
-    mul-reduce-2
-    array-read-reduce-2
+    (λ c. search needs) (λ c. search needs) (λ c. search needs) (λ c. search needs)
     mul-reduce-3
     add-reduce
-    reduce-requires
-    mul-out
-    array-write-out
-    add-j
-    loop-less
+    (λ c κs. c .before .before .pre .0)
+    (λ c. search needs) (λ c. search needs) (λ c. search needs) (λ c. search needs)
     loop-again
     returns)

@@ -30,18 +30,6 @@ below-b c = let l = c .before .loop in rw (l .inv .2 .todo (l .j) (omega arith) 
 loop-holds : tie.Need-loop-holds Inv-loop μ-loop
 loop-holds c = (omega arith, passed-start (c .pre .1 .size), passed-start (c .pre .2 .size))
 
-mul-v : tie.Need-mul-v Inv-loop μ-loop
-mul-v c = search needs
-
-element-copy-out-v : tie.Need-element-copy-out-v Inv-loop μ-loop
-element-copy-out-v c = search needs
-
-mul-reduce : tie.Need-mul-reduce Inv-loop μ-loop
-mul-reduce c = search needs
-
-element-copy-out-reduce : tie.Need-element-copy-out-reduce Inv-loop μ-loop
-element-copy-out-reduce c = search needs
-
 mul-reduce-2 : tie.Need-mul-reduce-2 Inv-loop μ-loop
 mul-reduce-2 c =
     let b = c .before .before .before .before .pre in
@@ -52,40 +40,10 @@ add-reduce c =
     let b = c .before .before .before .before .pre in
     omega (arith, product-fits (b .0 .most) (b .4) (below-b (c .before .before)), below-a (c .before .before), b .0 .most)
 
-reduce-requires : tie.Need-reduce-requires Inv-loop μ-loop
-reduce-requires c κs = c .before .before .before .before .pre .0
-
-mul-a : tie.Need-mul-a Inv-loop μ-loop
-mul-a c = search needs
-
-element-write-a : tie.Need-element-write-a Inv-loop μ-loop
-element-write-a c = search needs
-
-mul-reduce-3 : tie.Need-mul-reduce-3 Inv-loop μ-loop
-mul-reduce-3 c = search needs
-
-array-read-reduce : tie.Need-array-read-reduce Inv-loop μ-loop
-array-read-reduce c = search needs
-
 mul-reduce-4 : tie.Need-mul-reduce-4 Inv-loop μ-loop
 mul-reduce-4 c =
     let b = c .before .before .before .before .before .pre in
     omega (arith, product-fits (b .0 .most) (le-of-lt (below-b (c .before .before .before))) (b .3 .small (c .before .before .before .before .loop .j)))
-
-reduce-requires-2 : tie.Need-reduce-requires-2 Inv-loop μ-loop
-reduce-requires-2 c κs = c .before .before .before .before .before .pre .0
-
-mul-b : tie.Need-mul-b Inv-loop μ-loop
-mul-b c = search needs
-
-element-write-b : tie.Need-element-write-b Inv-loop μ-loop
-element-write-b c = search needs
-
-add-j : tie.Need-add-j Inv-loop μ-loop
-add-j c = search needs
-
-loop-less : tie.Need-loop-less Inv-loop μ-loop
-loop-less c = search needs
 
 loop-again : tie.Need-loop-again Inv-loop μ-loop
 loop-again c =
@@ -107,22 +65,13 @@ advance-spec =
     Inv-loop
     μ-loop
     loop-holds
-    mul-v
-    element-copy-out-v
-    mul-reduce
-    element-copy-out-reduce
+    (λ c. search needs) (λ c. search needs) (λ c. search needs) (λ c. search needs)
     mul-reduce-2
     add-reduce
-    reduce-requires
-    mul-a
-    element-write-a
-    mul-reduce-3
-    array-read-reduce
+    (λ c κs. c .before .before .before .before .pre .0)
+    (λ c. search needs) (λ c. search needs) (λ c. search needs) (λ c. search needs)
     mul-reduce-4
-    reduce-requires-2
-    mul-b
-    element-write-b
-    add-j
-    loop-less
+    (λ c κs. c .before .before .before .before .before .pre .0)
+    (λ c. search needs) (λ c. search needs) (λ c. search needs) (λ c. search needs)
     loop-again
     returns)

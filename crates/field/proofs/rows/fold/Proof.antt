@@ -8,29 +8,17 @@ use borrow.Author.Needs.{needs}
 use Rattle.field.proofs.rows.fold.Statement.{statement}
 use Rattle.field.proofs.rows.fold.Tie as tie
 
-cast-reduce : tie.Need-cast-reduce
-cast-reduce c = search needs
-
-reduce-requires : tie.Need-reduce-requires
-reduce-requires c κs = search needs
-
 mul-reduce : tie.Need-mul-reduce
 mul-reduce c =
     let b = c .before in
     let l : b .args .c < b .args .p = rw (b .pre .2) (mod-lt 256 (omega (arith, b .pre .0 .least))) in
     omega (arith, product-fits {x = c .reduce .result} (b .pre .0 .most) (omega arith) l)
 
-cast-reduce-2 : tie.Need-cast-reduce-2
-cast-reduce-2 c = search needs
-
 add-reduce : tie.Need-add-reduce
 add-reduce c =
     let b = c .before in
     let l : b .args .c < b .args .p = rw (b .pre .2) (mod-lt 256 (omega (arith, b .pre .0 .least))) in
     omega (arith, product-fits {x = c .reduce .result} (b .pre .0 .most) (omega arith) l)
-
-reduce-requires-2 : tie.Need-reduce-requires-2
-reduce-requires-2 c κs = search needs
 
 returns : tie.Need-returns
 returns c =
@@ -41,10 +29,9 @@ pub fold-spec : {M : Type 1} → statement M
 fold-spec =
     tie.close
     (tie.spec
-    cast-reduce
-    reduce-requires
+    (λ c. search needs) (λ c κs. search needs)
     mul-reduce
-    cast-reduce-2
+    (λ c. search needs)
     add-reduce
-    reduce-requires-2
+    (λ c κs. search needs)
     returns)

@@ -16,32 +16,8 @@ Inv-loop p m t c out₀ j₀ out j = (j ≤ 16) × Upto 16 0 (λ k v. v ≡ at t
 abbrev μ-loop : tie.MeasureT-loop
 μ-loop p m t c out₀ j₀ out j = 16 - j
 
-rem-c : tie.Need-rem-c Inv-loop μ-loop
-rem-c c = omega (arith, c .pre .0 .least)
-
 loop-holds : tie.Need-loop-holds Inv-loop μ-loop
 loop-holds c = (omega arith, upto-start refl)
-
-mul-fold : tie.Need-mul-fold Inv-loop μ-loop
-mul-fold c = search needs
-
-array-read-fold : tie.Need-array-read-fold Inv-loop μ-loop
-array-read-fold c = search needs
-
-fold-requires : tie.Need-fold-requires Inv-loop μ-loop
-fold-requires c κs = let b = c .before .before in (b .pre .0, b .pre .1 (c .before .loop .j) (omega arith), refl)
-
-mul-out : tie.Need-mul-out Inv-loop μ-loop
-mul-out c = search needs
-
-array-write-out : tie.Need-array-write-out Inv-loop μ-loop
-array-write-out c = search needs
-
-add-j : tie.Need-add-j Inv-loop μ-loop
-add-j c = search needs
-
-loop-less : tie.Need-loop-less Inv-loop μ-loop
-loop-less c = search needs
 
 loop-again : tie.Need-loop-again Inv-loop μ-loop
 loop-again c = (omega arith, upto-step (c .fold .result) (omega arith) (c .fold .ensures) (c .before .before .loop .inv .1))
@@ -55,14 +31,10 @@ fold-row-spec =
     (tie.spec
     Inv-loop
     μ-loop
-    rem-c
+    (λ c. omega (arith, c .pre .0 .least))
     loop-holds
-    mul-fold
-    array-read-fold
-    fold-requires
-    mul-out
-    array-write-out
-    add-j
-    loop-less
+    (λ c. search needs) (λ c. search needs)
+    (λ c κs. let b = c .before .before in (b .pre .0, b .pre .1 (c .before .loop .j) (omega arith), refl))
+    (λ c. search needs) (λ c. search needs) (λ c. search needs) (λ c. search needs)
     loop-again
     returns)

@@ -6,12 +6,6 @@ use borrow.Author.Needs.{needs}
 use Rattle.field.proofs.rows.reciprocal.Statement.{statement}
 use Rattle.field.proofs.rows.reciprocal.Tie as tie
 
-div-result : tie.Need-div-result
-div-result c = search needs
-
-cast-result : tie.Need-cast-result
-cast-result c = omega (arith, div-add-mod 65536 (c .args .p), mul-le-mul-left (65536 / c .args .p) (c .pre .0))
-
 returns : tie.Need-returns
 returns c =
     let whole = div-add-mod 65536 (c .args .p) in
@@ -19,4 +13,9 @@ returns c =
     record { least = c .pre .0; most = c .pre .1; low = omega (arith, whole); high = omega (arith, whole, rest) }
 
 pub reciprocal-spec : {M : Type 1} → statement M
-reciprocal-spec = tie.close (tie.spec div-result cast-result returns)
+reciprocal-spec =
+    tie.close
+    (tie.spec
+    (λ c. search needs)
+    (λ c. omega (arith, div-add-mod 65536 (c .args .p), mul-le-mul-left (65536 / c .args .p) (c .pre .0)))
+    returns)

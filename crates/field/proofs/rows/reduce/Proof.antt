@@ -6,18 +6,6 @@ use Rattle.field.proofs.Reciprocal.{quotient-low, quotient-high, remain
 use Rattle.field.proofs.rows.reduce.Statement.{statement}
 use Rattle.field.proofs.rows.reduce.Tie as tie
 
-mul-q : tie.Need-mul-q
-mul-q c = omega (arith, mul-le-mul {n₁ = c .args .t} {m₁ = c .args .m} {n₂ = 65535} {m₂ = 65535} (omega arith) (omega arith))
-
-cast-q : tie.Need-cast-q
-cast-q c = omega (arith, mul-le-mul {n₁ = c .args .t} {m₁ = c .args .m} {n₂ = 65535} {m₂ = 65535} (omega arith) (omega arith))
-
-mul-r : tie.Need-mul-r
-mul-r c = omega (arith, quotient-low (c .args .t) (c .args .p) (c .args .m) (c .pre))
-
-sub-r : tie.Need-sub-r
-sub-r c = omega (arith, quotient-low (c .args .t) (c .args .p) (c .args .m) (c .pre))
-
 returns : tie.Need-returns
 returns c =
     let a = c .before .args in
@@ -32,4 +20,12 @@ returns-2 c =
     (remainder-is (a .t) (a .p) (a .t * a .m / 65536) _ (c .if1 .left) (omega (arith, low)), c .if1 .left)
 
 pub reduce-spec : {M : Type 1} → statement M
-reduce-spec = tie.close (tie.spec mul-q cast-q mul-r sub-r returns returns-2)
+reduce-spec =
+    tie.close
+    (tie.spec
+    (λ c. omega (arith, mul-le-mul {n₁ = c .args .t} {m₁ = c .args .m} {n₂ = 65535} {m₂ = 65535} (omega arith) (omega arith)))
+    (λ c. omega (arith, mul-le-mul {n₁ = c .args .t} {m₁ = c .args .m} {n₂ = 65535} {m₂ = 65535} (omega arith) (omega arith)))
+    (λ c. omega (arith, quotient-low (c .args .t) (c .args .p) (c .args .m) (c .pre)))
+    (λ c. omega (arith, quotient-low (c .args .t) (c .args .p) (c .args .m) (c .pre)))
+    returns
+    returns-2)

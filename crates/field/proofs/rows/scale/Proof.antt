@@ -20,31 +20,10 @@ abbrev μ-loop : tie.MeasureT-loop
 loop-holds : tie.Need-loop-holds Inv-loop μ-loop
 loop-holds c = (omega arith, upto-start (c .pre .1 .size))
 
-mul-reduce : tie.Need-mul-reduce Inv-loop μ-loop
-mul-reduce c = search needs
-
-array-read-reduce : tie.Need-array-read-reduce Inv-loop μ-loop
-array-read-reduce c = search needs
-
 mul-reduce-2 : tie.Need-mul-reduce-2 Inv-loop μ-loop
 mul-reduce-2 c =
     let b = c .before .before .pre in
     omega (arith, product-fits (b .0 .most) (b .2) (b .1 .small (c .before .loop .j)))
-
-reduce-requires : tie.Need-reduce-requires Inv-loop μ-loop
-reduce-requires c κs = c .before .before .pre .0
-
-mul-out : tie.Need-mul-out Inv-loop μ-loop
-mul-out c = search needs
-
-array-write-out : tie.Need-array-write-out Inv-loop μ-loop
-array-write-out c = search needs
-
-add-j : tie.Need-add-j Inv-loop μ-loop
-add-j c = search needs
-
-loop-less : tie.Need-loop-less Inv-loop μ-loop
-loop-less c = search needs
 
 loop-again : tie.Need-loop-again Inv-loop μ-loop
 loop-again c = (omega arith, upto-step (c .reduce .result) (omega arith) (c .reduce .ensures .0) (c .before .before .loop .inv .1))
@@ -59,13 +38,9 @@ scale-spec =
     Inv-loop
     μ-loop
     loop-holds
-    mul-reduce
-    array-read-reduce
+    (λ c. search needs) (λ c. search needs)
     mul-reduce-2
-    reduce-requires
-    mul-out
-    array-write-out
-    add-j
-    loop-less
+    (λ c κs. c .before .before .pre .0)
+    (λ c. search needs) (λ c. search needs) (λ c. search needs) (λ c. search needs)
     loop-again
     returns)

@@ -19,30 +19,6 @@ abbrev μ-loop : tie.MeasureT-loop
 loop-holds : tie.Need-loop-holds Inv-loop μ-loop
 loop-holds c = (omega arith, upto-start (c .pre .0 .size))
 
-mul-less : tie.Need-mul-less Inv-loop μ-loop
-mul-less c = search needs
-
-array-read-less : tie.Need-array-read-less Inv-loop μ-loop
-array-read-less c = search needs
-
-add-less : tie.Need-add-less Inv-loop μ-loop
-add-less c = omega (arith, c .before .before .pre .0 .small (c .before .loop .j))
-
-less-requires : tie.Need-less-requires Inv-loop μ-loop
-less-requires c κs = omega (arith, c .before .before .pre .0 .small (c .before .loop .j))
-
-mul-out : tie.Need-mul-out Inv-loop μ-loop
-mul-out c = search needs
-
-array-write-out : tie.Need-array-write-out Inv-loop μ-loop
-array-write-out c = search needs
-
-add-j : tie.Need-add-j Inv-loop μ-loop
-add-j c = search needs
-
-loop-less : tie.Need-loop-less Inv-loop μ-loop
-loop-less c = search needs
-
 loop-again : tie.Need-loop-again Inv-loop μ-loop
 loop-again c = (omega arith, upto-step (c .less .result) (omega arith) (c .less .ensures .0) (c .before .before .loop .inv .1))
 
@@ -56,13 +32,9 @@ shift-spec =
     Inv-loop
     μ-loop
     loop-holds
-    mul-less
-    array-read-less
-    add-less
-    less-requires
-    mul-out
-    array-write-out
-    add-j
-    loop-less
+    (λ c. search needs) (λ c. search needs)
+    (λ c. omega (arith, c .before .before .pre .0 .small (c .before .loop .j)))
+    (λ c κs. omega (arith, c .before .before .pre .0 .small (c .before .loop .j)))
+    (λ c. search needs) (λ c. search needs) (λ c. search needs) (λ c. search needs)
     loop-again
     returns)

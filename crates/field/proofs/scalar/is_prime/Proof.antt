@@ -25,19 +25,10 @@ mul-loop c =
     let b = c .loop .inv .2 in
     omega (arith, mul-le-mul b b)
 
-rem-if2 : tie.Need-rem-if2 Inv-loop μ-loop
-rem-if2 c = search needs
-
 returns-2 : tie.Need-returns-2 Inv-loop μ-loop
 returns-2 c =
     let d = c .before .before .loop .d in
     sym (not-prime _ λ r. r .alone d (omega arith) (omega (arith, mul-le-mul-left d (c .before .before .loop .inv .1))) (omega arith))
-
-add-d : tie.Need-add-d Inv-loop μ-loop
-add-d c = search needs
-
-loop-less : tie.Need-loop-less Inv-loop μ-loop
-loop-less c = omega (arith, root-small (c .before .before .loop .d) (omega arith))
 
 loop-again : tie.Need-loop-again Inv-loop μ-loop
 loop-again c =
@@ -56,9 +47,9 @@ is-prime-spec =
     returns
     loop-holds
     mul-loop
-    rem-if2
+    (λ c. search needs)
     returns-2
-    add-d
-    loop-less
+    (λ c. search needs)
+    (λ c. omega (arith, root-small (c .before .before .loop .d) (omega arith)))
     loop-again
     returns-3)

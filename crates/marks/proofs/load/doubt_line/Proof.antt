@@ -6,24 +6,6 @@ use borrow.Author.Needs.{needs}
 use Rattle.marks.proofs.load.doubt_line.Statement.{statement}
 use Rattle.marks.proofs.load.doubt_line.Tie as tie
 
-mul-at : tie.Need-mul-at
-mul-at c = let b = c .before .pre in omega (arith, product-small (b .0) (b .1))
-
-add-doubts : tie.Need-add-doubts
-add-doubts c = let b = c .before .pre in omega (arith, b .0, product-small (b .0) (b .1))
-
-sub-doubts : tie.Need-sub-doubts
-sub-doubts c = search needs
-
-part-doubts-start : tie.Need-part-doubts-start
-part-doubts-start c = search needs
-
-part-doubts-end : tie.Need-part-doubts-end
-part-doubts-end c = let b = c .before .pre in omega (arith, b .2, row-in _ _ (b .1))
-
-doubts-requires : tie.Need-doubts-requires
-doubts-requires c κs = search needs
-
 returns : tie.Need-returns
 returns c =
     let b = c .before .before .before in
@@ -33,10 +15,9 @@ pub doubt-line-spec : {M : Type 1} → statement M
 doubt-line-spec =
     tie.close
     (tie.spec
-    mul-at
-    add-doubts
-    sub-doubts
-    part-doubts-start
-    part-doubts-end
-    doubts-requires
+    (λ c. let b = c .before .pre in omega (arith, product-small (b .0) (b .1)))
+    (λ c. let b = c .before .pre in omega (arith, b .0, product-small (b .0) (b .1)))
+    (λ c. search needs) (λ c. search needs)
+    (λ c. let b = c .before .pre in omega (arith, b .2, row-in _ _ (b .1)))
+    (λ c κs. search needs)
     returns)

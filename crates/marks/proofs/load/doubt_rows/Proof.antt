@@ -23,21 +23,6 @@ abbrev μ-loop : tie.MeasureT-loop
 loop-holds : tie.Need-loop-holds Inv-loop μ-loop
 loop-holds c = (omega arith, passed-zeros)
 
-doubt-line-requires : tie.Need-doubt-line-requires Inv-loop μ-loop
-doubt-line-requires c κs = search needs
-
-mul-rows : tie.Need-mul-rows Inv-loop μ-loop
-mul-rows c = search needs
-
-array-set-from-rows : tie.Need-array-set-from-rows Inv-loop μ-loop
-array-set-from-rows c = search needs
-
-add-r : tie.Need-add-r Inv-loop μ-loop
-add-r c = search needs
-
-loop-less : tie.Need-loop-less Inv-loop μ-loop
-loop-less c = search needs
-
 loop-again : tie.Need-loop-again Inv-loop μ-loop
 loop-again c = (omega arith, passed-step _ (omega (arith, c .before .before .before .before .pre .0)) (c .doubt-line .ensures) (c .before .before .loop .inv .1))
 
@@ -54,10 +39,6 @@ doubt-rows-spec =
     Inv-loop
     μ-loop
     loop-holds
-    doubt-line-requires
-    mul-rows
-    array-set-from-rows
-    add-r
-    loop-less
+    (λ c κs. search needs) (λ c. search needs) (λ c. search needs) (λ c. search needs) (λ c. search needs)
     loop-again
     returns)

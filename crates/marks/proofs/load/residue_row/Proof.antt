@@ -22,27 +22,6 @@ abbrev μ-loop : tie.MeasureT-loop
 loop-holds : tie.Need-loop-holds Inv-loop μ-loop
 loop-holds c = (omega arith, refl, record { size = refl; done = λ j l. absurd (omega arith); todo = λ j _ l. getD-replicate 16 j 0 0 l })
 
-shared-slice-read-symbol-residue : tie.Need-shared-slice-read-symbol-residue Inv-loop μ-loop
-shared-slice-read-symbol-residue c = search needs
-
-cast-symbol-residue : tie.Need-cast-symbol-residue Inv-loop μ-loop
-cast-symbol-residue c = omega (arith, c .shared-slice-known2 .given (c .before .before .loop .i))
-
-symbol-residue-requires : tie.Need-symbol-residue-requires Inv-loop μ-loop
-symbol-residue-requires c κs = search needs
-
-mul-out : tie.Need-mul-out Inv-loop μ-loop
-mul-out c = search needs
-
-array-write-out : tie.Need-array-write-out Inv-loop μ-loop
-array-write-out c = search needs
-
-add-i : tie.Need-add-i Inv-loop μ-loop
-add-i c = search needs
-
-loop-less : tie.Need-loop-less Inv-loop μ-loop
-loop-less c = search needs
-
 loop-again : tie.Need-loop-again Inv-loop μ-loop
 loop-again c =
     let l = c .before .before .before .loop in
@@ -61,12 +40,8 @@ residue-row-spec =
     Inv-loop
     μ-loop
     loop-holds
-    shared-slice-read-symbol-residue
-    cast-symbol-residue
-    symbol-residue-requires
-    mul-out
-    array-write-out
-    add-i
-    loop-less
+    (λ c. search needs)
+    (λ c. omega (arith, c .shared-slice-known2 .given (c .before .before .loop .i)))
+    (λ c κs. search needs) (λ c. search needs) (λ c. search needs) (λ c. search needs) (λ c. search needs)
     loop-again
     returns)

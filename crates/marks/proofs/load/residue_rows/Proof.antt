@@ -24,36 +24,6 @@ abbrev μ-loop : tie.MeasureT-loop
 loop-holds : tie.Need-loop-holds Inv-loop μ-loop
 loop-holds c = (omega arith, passed-zeros)
 
-mul-at : tie.Need-mul-at Inv-loop μ-loop
-mul-at c = let b = c .before .before .before .pre in omega (arith, product-small (b .0) (c .loop-test .taken))
-
-add-residue-row : tie.Need-add-residue-row Inv-loop μ-loop
-add-residue-row c = let b = c .before .before .before .pre in omega (arith, b .0, product-small (b .0) (c .loop-test .taken))
-
-sub-residue-row : tie.Need-sub-residue-row Inv-loop μ-loop
-sub-residue-row c = search needs
-
-part-residue-row-start : tie.Need-part-residue-row-start Inv-loop μ-loop
-part-residue-row-start c = search needs
-
-part-residue-row-end : tie.Need-part-residue-row-end Inv-loop μ-loop
-part-residue-row-end c = omega (arith, c .before .before .before .pre .1, row-in _ _ (c .loop-test .taken))
-
-residue-row-requires : tie.Need-residue-row-requires Inv-loop μ-loop
-residue-row-requires c κs = search needs
-
-mul-rows : tie.Need-mul-rows Inv-loop μ-loop
-mul-rows c = search needs
-
-array-set-from-rows : tie.Need-array-set-from-rows Inv-loop μ-loop
-array-set-from-rows c = search needs
-
-add-r : tie.Need-add-r Inv-loop μ-loop
-add-r c = search needs
-
-loop-less : tie.Need-loop-less Inv-loop μ-loop
-loop-less c = search needs
-
 loop-again : tie.Need-loop-again Inv-loop μ-loop
 loop-again c =
     let here = c .before .before in
@@ -76,15 +46,10 @@ residue-rows-spec =
     Inv-loop
     μ-loop
     loop-holds
-    mul-at
-    add-residue-row
-    sub-residue-row
-    part-residue-row-start
-    part-residue-row-end
-    residue-row-requires
-    mul-rows
-    array-set-from-rows
-    add-r
-    loop-less
+    (λ c. let b = c .before .before .before .pre in omega (arith, product-small (b .0) (c .loop-test .taken)))
+    (λ c. let b = c .before .before .before .pre in omega (arith, b .0, product-small (b .0) (c .loop-test .taken)))
+    (λ c. search needs) (λ c. search needs)
+    (λ c. omega (arith, c .before .before .before .pre .1, row-in _ _ (c .loop-test .taken)))
+    (λ c κs. search needs) (λ c. search needs) (λ c. search needs) (λ c. search needs) (λ c. search needs)
     loop-again
     returns)

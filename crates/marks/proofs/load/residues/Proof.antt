@@ -20,27 +20,6 @@ abbrev μ-loop : tie.MeasureT-loop
 loop-holds : tie.Need-loop-holds Inv-loop μ-loop
 loop-holds c = (omega arith, upto-start refl)
 
-mul-symbol-residue : tie.Need-mul-symbol-residue Inv-loop μ-loop
-mul-symbol-residue c = search needs
-
-array-read-symbol-residue : tie.Need-array-read-symbol-residue Inv-loop μ-loop
-array-read-symbol-residue c = search needs
-
-symbol-residue-requires : tie.Need-symbol-residue-requires Inv-loop μ-loop
-symbol-residue-requires c κs = search needs
-
-mul-out : tie.Need-mul-out Inv-loop μ-loop
-mul-out c = search needs
-
-array-write-out : tie.Need-array-write-out Inv-loop μ-loop
-array-write-out c = search needs
-
-add-i : tie.Need-add-i Inv-loop μ-loop
-add-i c = search needs
-
-loop-less : tie.Need-loop-less Inv-loop μ-loop
-loop-less c = search needs
-
 loop-again : tie.Need-loop-again Inv-loop μ-loop
 loop-again c = (omega arith, upto-step _ (omega arith) (c .symbol-residue .ensures) (c .before .before .loop .inv .1))
 
@@ -54,12 +33,7 @@ residues-spec =
     Inv-loop
     μ-loop
     loop-holds
-    mul-symbol-residue
-    array-read-symbol-residue
-    symbol-residue-requires
-    mul-out
-    array-write-out
-    add-i
-    loop-less
+    (λ c. search needs) (λ c. search needs) (λ c κs. search needs) (λ c. search needs) (λ c. search needs) (λ c. search needs)
+    (λ c. search needs)
     loop-again
     returns)

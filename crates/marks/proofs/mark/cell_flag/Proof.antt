@@ -4,9 +4,6 @@ use borrow.Author.Tests.{eq-eqb, ne-eqb}
 use Rattle.marks.proofs.mark.cell_flag.Statement.{statement}
 use Rattle.marks.proofs.mark.cell_flag.Tie as tie
 
-cast-if1 : tie.Need-cast-if1
-cast-if1 c = search needs
-
 returns : tie.Need-returns
 returns c = simp (eq-eqb _ _ (c .if1 .taken))
 
@@ -14,4 +11,4 @@ returns-2 : tie.Need-returns-2
 returns-2 c = simp (ne-eqb _ _ (c .if1 .left))
 
 pub cell-flag-spec : {M : Type 1} → statement M
-cell-flag-spec = tie.close (tie.spec cast-if1 returns returns-2)
+cell-flag-spec = tie.close (tie.spec (λ c. search needs) returns returns-2)

@@ -18,39 +18,6 @@ abbrev μ-loop : tie.MeasureT-loop
 loop-holds : tie.Need-loop-holds Inv-loop μ-loop
 loop-holds c = (omega arith, refl, omega arith)
 
-mul-at : tie.Need-mul-at Inv-loop μ-loop
-mul-at c = let b = c .before .before .before .pre in omega (arith, product-small (b .0) (c .loop-test .taken))
-
-add-changed-in-row : tie.Need-add-changed-in-row Inv-loop μ-loop
-add-changed-in-row c = let b = c .before .before .before .pre in omega (arith, b .0, product-small (b .0) (c .loop-test .taken))
-
-sub-changed-in-row : tie.Need-sub-changed-in-row Inv-loop μ-loop
-sub-changed-in-row c = search needs
-
-part-changed-in-row-start : tie.Need-part-changed-in-row-start Inv-loop μ-loop
-part-changed-in-row-start c = search needs
-
-part-changed-in-row-end : tie.Need-part-changed-in-row-end Inv-loop μ-loop
-part-changed-in-row-end c = omega (arith, c .before .before .before .pre .1, row-in _ _ (c .loop-test .taken))
-
-mul-changed-in-row : tie.Need-mul-changed-in-row Inv-loop μ-loop
-mul-changed-in-row c = search needs
-
-element-copy-out-changed-in-row : tie.Need-element-copy-out-changed-in-row Inv-loop μ-loop
-element-copy-out-changed-in-row c = search needs
-
-changed-in-row-requires : tie.Need-changed-in-row-requires Inv-loop μ-loop
-changed-in-row-requires c κs = search needs
-
-add-sum : tie.Need-add-sum Inv-loop μ-loop
-add-sum c = search needs
-
-add-r : tie.Need-add-r Inv-loop μ-loop
-add-r c = search needs
-
-loop-less : tie.Need-loop-less Inv-loop μ-loop
-loop-less c = search needs
-
 loop-again : tie.Need-loop-again Inv-loop μ-loop
 loop-again c =
     let here = c .before .before .before in
@@ -73,16 +40,10 @@ changed-cells-spec =
     Inv-loop
     μ-loop
     loop-holds
-    mul-at
-    add-changed-in-row
-    sub-changed-in-row
-    part-changed-in-row-start
-    part-changed-in-row-end
-    mul-changed-in-row
-    element-copy-out-changed-in-row
-    changed-in-row-requires
-    add-sum
-    add-r
-    loop-less
+    (λ c. let b = c .before .before .before .pre in omega (arith, product-small (b .0) (c .loop-test .taken)))
+    (λ c. let b = c .before .before .before .pre in omega (arith, b .0, product-small (b .0) (c .loop-test .taken)))
+    (λ c. search needs) (λ c. search needs)
+    (λ c. omega (arith, c .before .before .before .pre .1, row-in _ _ (c .loop-test .taken)))
+    (λ c. search needs) (λ c. search needs) (λ c κs. search needs) (λ c. search needs) (λ c. search needs) (λ c. search needs)
     loop-again
     returns)

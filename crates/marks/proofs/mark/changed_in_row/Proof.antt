@@ -22,33 +22,6 @@ abbrev μ-loop : tie.MeasureT-loop
 loop-holds : tie.Need-loop-holds Inv-loop μ-loop
 loop-holds c = (omega arith, refl, refl, omega arith)
 
-shared-slice-read-cell-flag : tie.Need-shared-slice-read-cell-flag Inv-loop μ-loop
-shared-slice-read-cell-flag c = search needs
-
-cast-cell-flag : tie.Need-cast-cell-flag Inv-loop μ-loop
-cast-cell-flag c = omega (arith, c .shared-slice-known2 .given (c .before .before .loop .i))
-
-mul-cell-flag : tie.Need-mul-cell-flag Inv-loop μ-loop
-mul-cell-flag c = search needs
-
-array-read-cell-flag : tie.Need-array-read-cell-flag Inv-loop μ-loop
-array-read-cell-flag c = search needs
-
-cell-flag-requires : tie.Need-cell-flag-requires Inv-loop μ-loop
-cell-flag-requires c κs = search needs
-
-cell-changed-requires : tie.Need-cell-changed-requires Inv-loop μ-loop
-cell-changed-requires c κs = search needs
-
-add-sum : tie.Need-add-sum Inv-loop μ-loop
-add-sum c = search needs
-
-add-i : tie.Need-add-i Inv-loop μ-loop
-add-i c = search needs
-
-loop-less : tie.Need-loop-less Inv-loop μ-loop
-loop-less c = search needs
-
 loop-again : tie.Need-loop-again Inv-loop μ-loop
 loop-again c =
     let l = c .before .before .before .before .loop in
@@ -70,14 +43,9 @@ changed-in-row-spec =
     Inv-loop
     μ-loop
     loop-holds
-    shared-slice-read-cell-flag
-    cast-cell-flag
-    mul-cell-flag
-    array-read-cell-flag
-    cell-flag-requires
-    cell-changed-requires
-    add-sum
-    add-i
-    loop-less
+    (λ c. search needs)
+    (λ c. omega (arith, c .shared-slice-known2 .given (c .before .before .loop .i)))
+    (λ c. search needs) (λ c. search needs) (λ c κs. search needs) (λ c κs. search needs) (λ c. search needs)
+    (λ c. search needs) (λ c. search needs)
     loop-again
     returns)

@@ -21,32 +21,11 @@ loop-holds : tie.Need-loop-holds Inv-loop μ-loop
 unfolding tab
 loop-holds c = (omega arith, refl, refl, refl)
 
-mul-record : tie.Need-mul-record Inv-loop μ-loop
-mul-record c = search needs
-
-element-copy-out-record : tie.Need-element-copy-out-record Inv-loop μ-loop
-element-copy-out-record c = search needs
-
-cast-record : tie.Need-cast-record Inv-loop μ-loop
-cast-record c = omega (arith, c .before .before .before .pre .1 (c .before .before .loop .j) (omega arith))
-
-slice-write-record : tie.Need-slice-write-record Inv-loop μ-loop
-slice-write-record c = search needs
-
-add-j : tie.Need-add-j Inv-loop μ-loop
-add-j c = search needs
-
-loop-less : tie.Need-loop-less Inv-loop μ-loop
-loop-less c = search needs
-
 loop-again : tie.Need-loop-again Inv-loop μ-loop
 loop-again c =
     let l = c .before .before .loop in
     let h : l .j < length (c .before .before .before .args .«record» .now) = omega arith in
     (search needs, search needs, search needs, rw (l .inv .3) (tab-more _ _ _ h))
-
-same-length : tie.Need-same-length Inv-loop μ-loop
-same-length c = search needs
 
 returns : tie.Need-returns Inv-loop μ-loop
 returns c =
@@ -61,12 +40,9 @@ write-message-spec =
     Inv-loop
     μ-loop
     loop-holds
-    mul-record
-    element-copy-out-record
-    cast-record
-    slice-write-record
-    add-j
-    loop-less
+    (λ c. search needs) (λ c. search needs)
+    (λ c. omega (arith, c .before .before .before .pre .1 (c .before .before .loop .j) (omega arith)))
+    (λ c. search needs) (λ c. search needs) (λ c. search needs)
     loop-again
-    same-length
+    (λ c. search needs)
     returns)

@@ -6,42 +6,6 @@ use borrow.Author.Needs.{needs}
 use Rattle.marks.proofs.reading.read_strip.Statement.{statement}
 use Rattle.marks.proofs.reading.read_strip.Tie as tie
 
-shared-slice-read-p : tie.Need-shared-slice-read-p
-shared-slice-read-p c = search needs
-
-cast-p : tie.Need-cast-p
-cast-p c = search needs
-
-shared-slice-read-n : tie.Need-shared-slice-read-n
-shared-slice-read-n c = search needs
-
-cast-n : tie.Need-cast-n
-cast-n c = search needs
-
-shared-slice-read-d : tie.Need-shared-slice-read-d
-shared-slice-read-d c = search needs
-
-cast-d : tie.Need-cast-d
-cast-d c = search needs
-
-points-requires : tie.Need-points-requires
-points-requires c κs = search needs
-
-row-requires : tie.Need-row-requires
-row-requires c κs = search needs
-
-residues-requires : tie.Need-residues-requires
-residues-requires c κs = search needs
-
-doubts-requires : tie.Need-doubts-requires
-doubts-requires c κs = search needs
-
-reciprocal-requires : tie.Need-reciprocal-requires
-reciprocal-requires c κs = search needs
-
-inverses-requires : tie.Need-inverses-requires
-inverses-requires c κs = search needs
-
 decode-requires : tie.Need-decode-requires
 decode-requires c κs =
     let d = c .before .before .before in
@@ -50,9 +14,6 @@ decode-requires c κs =
     let x = w .before in
     let t = x .before .before .before .before .before .before .before .before .pre in
     (strip-received t (x .points .ensures) (w .row .ensures) (n .residues .ensures) (d .doubts .ensures) _ (c .before .before .reciprocal .ensures), c .before .inverses .ensures)
-
-refused-requires : tie.Need-refused-requires
-refused-requires c κs = search needs
 
 returns : tie.Need-returns
 returns c =
@@ -98,9 +59,6 @@ reading-requires c κs =
     let t = x .before .before .before .before .before .before .before .before .pre in
     (c .radius .ensures .1, strip-under t (x .points .ensures) (w .row .ensures) (n .residues .ensures) (d .doubts .ensures) (a .decode .ensures) (negated _ (e .if1 .left)))
 
-same-length : tie.Need-same-length
-same-length c = search needs
-
 returns-2 : tie.Need-returns-2
 returns-2 c =
     let u = c .before .before in
@@ -119,24 +77,15 @@ pub read-strip-spec : {M : Type 1} → statement M
 read-strip-spec =
     tie.close
     (tie.spec
-    shared-slice-read-p
-    cast-p
-    shared-slice-read-n
-    cast-n
-    shared-slice-read-d
-    cast-d
-    points-requires
-    row-requires
-    residues-requires
-    doubts-requires
-    reciprocal-requires
-    inverses-requires
+    (λ c. search needs) (λ c. search needs) (λ c. search needs) (λ c. search needs) (λ c. search needs) (λ c. search needs)
+    (λ c κs. search needs) (λ c κs. search needs) (λ c κs. search needs) (λ c κs. search needs) (λ c κs. search needs)
+    (λ c κs. search needs)
     decode-requires
-    refused-requires
+    (λ c κs. search needs)
     returns
     write-row-requires
     word-changed-requires
     radius-requires
     reading-requires
-    same-length
+    (λ c. search needs)
     returns-2)

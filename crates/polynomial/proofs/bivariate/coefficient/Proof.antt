@@ -7,9 +7,6 @@ use borrow.Author.Needs.{needs}
 use Rattle.polynomial.proofs.bivariate.coefficient.Statement.{statement}
 use Rattle.polynomial.proofs.bivariate.coefficient.Tie as tie
 
-add-k : tie.Need-add-k
-add-k c = search needs
-
 start-requires : tie.Need-start-requires
 start-requires c κs = search needs
 
@@ -35,4 +32,11 @@ returns-2 c = rw (lt-leb _ _ (c .if1 .left))
 pub coefficient-spec : {M : Type 1} → statement M
 coefficient-spec =
     tie.close
-    (tie.spec add-k start-requires add-at shared-slice-read-result cast-result returns returns-2)
+    (tie.spec
+    (λ c. search needs)
+    start-requires
+    add-at
+    shared-slice-read-result
+    cast-result
+    returns
+    returns-2)

@@ -25,26 +25,11 @@ abbrev μ-loop : tie.MeasureT-loop
 loop-holds : tie.Need-loop-holds Inv-loop μ-loop
 loop-holds c = (omega arith, equal-rows 0 (omega (arith, c .before .pre .0 .least)), λ x P. upto-start refl)
 
-coefficient-of-y-requires : tie.Need-coefficient-of-y-requires Inv-loop μ-loop
-coefficient-of-y-requires c κs = search needs
-
 values-requires : tie.Need-values-requires Inv-loop μ-loop
 values-requires c κs =
     let b = c .before .before .before .before in
     let t = c .before .before .loop .t in
     (b .pre .0, b .pre .1, coefficients-row (b .args .d) t (b .args .message .now) (omega (arith, b .pre .0 .least)) (b .pre .3) (omega arith) (c .coefficient-of-y .ensures) (b .pre .2), omega arith)
-
-mul-out : tie.Need-mul-out Inv-loop μ-loop
-mul-out c = search needs
-
-array-set-from-out : tie.Need-array-set-from-out Inv-loop μ-loop
-array-set-from-out c = search needs
-
-add-t : tie.Need-add-t Inv-loop μ-loop
-add-t c = search needs
-
-loop-less : tie.Need-loop-less Inv-loop μ-loop
-loop-less c = search needs
 
 loop-again : tie.Need-loop-again Inv-loop μ-loop
 loop-again c =
@@ -70,11 +55,8 @@ columns-spec =
     Inv-loop
     μ-loop
     loop-holds
-    coefficient-of-y-requires
+    (λ c κs. search needs)
     values-requires
-    mul-out
-    array-set-from-out
-    add-t
-    loop-less
+    (λ c. search needs) (λ c. search needs) (λ c. search needs) (λ c. search needs)
     loop-again
     returns)

@@ -30,35 +30,11 @@ abbrev μ-loop : tie.MeasureT-loop
 loop-holds : tie.Need-loop-holds Inv-loop μ-loop
 loop-holds c = let b = c .args in (omega arith, terms-none (b .powers .now) (coefficients (b .columns .now) (b .r)))
 
-mul-add-product : tie.Need-mul-add-product Inv-loop μ-loop
-mul-add-product c = search needs
-
-mul-add-product-2 : tie.Need-mul-add-product-2 Inv-loop μ-loop
-mul-add-product-2 c = search needs
-
-index-1-add-product : tie.Need-index-1-add-product Inv-loop μ-loop
-index-1-add-product c = search needs
-
-index-2-add-product : tie.Need-index-2-add-product Inv-loop μ-loop
-index-2-add-product c = search needs
-
-mul-add-product-3 : tie.Need-mul-add-product-3 Inv-loop μ-loop
-mul-add-product-3 c = search needs
-
-index-1-add-product-2 : tie.Need-index-1-add-product-2 Inv-loop μ-loop
-index-1-add-product-2 c = search needs
-
 add-product-requires : tie.Need-add-product-requires Inv-loop μ-loop
 add-product-requires c κs =
     let b = c .before .before .before .before .before in
     let l = c .before .before .before .before .loop in
     term-fits (b .pre .0 .most) (b .pre .2) (residues (b .args .r) (b .pre .1)) (l .t) (omega arith) (l .inv .1)
-
-add-t : tie.Need-add-t Inv-loop μ-loop
-add-t c = search needs
-
-loop-less : tie.Need-loop-less Inv-loop μ-loop
-loop-less c = search needs
 
 loop-again : tie.Need-loop-again Inv-loop μ-loop
 loop-again c =
@@ -91,15 +67,9 @@ row-values-spec =
     Inv-loop
     μ-loop
     loop-holds
-    mul-add-product
-    mul-add-product-2
-    index-1-add-product
-    index-2-add-product
-    mul-add-product-3
-    index-1-add-product-2
+    (λ c. search needs) (λ c. search needs) (λ c. search needs) (λ c. search needs) (λ c. search needs) (λ c. search needs)
     add-product-requires
-    add-t
-    loop-less
+    (λ c. search needs) (λ c. search needs)
     loop-again
     fold-row-requires
     returns)

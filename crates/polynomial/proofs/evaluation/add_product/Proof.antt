@@ -24,38 +24,14 @@ abbrev μ-loop : tie.MeasureT-loop
 loop-holds : tie.Need-loop-holds Inv-loop μ-loop
 loop-holds c = (omega arith, record { size = c .pre .0 .size; done = λ j k. absurd (omega arith); todo = λ j _ _. refl })
 
-mul-sum : tie.Need-mul-sum Inv-loop μ-loop
-mul-sum c = search needs
-
-element-copy-out-sum : tie.Need-element-copy-out-sum Inv-loop μ-loop
-element-copy-out-sum c = search needs
-
-cast-sum : tie.Need-cast-sum Inv-loop μ-loop
-cast-sum c = omega (arith, c .before .before .before .pre .2 .small (c .before .before .loop .j))
-
 mul-sum-2 : tie.Need-mul-sum-2 Inv-loop μ-loop
 mul-sum-2 c = let b = c .before .before .before .pre in omega (arith, product-small (b .1) (b .2 .small (c .before .before .loop .j)))
-
-mul-sum-3 : tie.Need-mul-sum-3 Inv-loop μ-loop
-mul-sum-3 c = search needs
-
-element-copy-out-sum-2 : tie.Need-element-copy-out-sum-2 Inv-loop μ-loop
-element-copy-out-sum-2 c = search needs
 
 add-sum : tie.Need-add-sum Inv-loop μ-loop
 add-sum c =
     let b = c .before .before .before .before .pre in
     let l = c .before .before .before .loop in
     omega (arith, l .inv .1 .todo (l .j) (omega arith) (omega arith), b .0 .small (l .j), product-small (b .1) (b .2 .small (l .j)))
-
-element-write-sum : tie.Need-element-write-sum Inv-loop μ-loop
-element-write-sum c = search needs
-
-add-j : tie.Need-add-j Inv-loop μ-loop
-add-j c = search needs
-
-loop-less : tie.Need-loop-less Inv-loop μ-loop
-loop-less c = search needs
 
 loop-again : tie.Need-loop-again Inv-loop μ-loop
 loop-again c =
@@ -74,15 +50,11 @@ add-product-spec =
     Inv-loop
     μ-loop
     loop-holds
-    mul-sum
-    element-copy-out-sum
-    cast-sum
+    (λ c. search needs) (λ c. search needs)
+    (λ c. omega (arith, c .before .before .before .pre .2 .small (c .before .before .loop .j)))
     mul-sum-2
-    mul-sum-3
-    element-copy-out-sum-2
+    (λ c. search needs) (λ c. search needs)
     add-sum
-    element-write-sum
-    add-j
-    loop-less
+    (λ c. search needs) (λ c. search needs) (λ c. search needs)
     loop-again
     returns)

@@ -22,12 +22,6 @@ loop-holds c = (omega arith, powers-start (c .args .x) (c .pre .0 .least))
 multiply-requires : tie.Need-multiply-requires Inv-loop μ-loop
 multiply-requires c κs = let b = c .before .before in (b .pre .0, result-row _ (omega (arith, b .pre .0 .least)) (c .before .loop .inv .1), b .pre .1)
 
-add-i : tie.Need-add-i Inv-loop μ-loop
-add-i c = search needs
-
-loop-less : tie.Need-loop-less Inv-loop μ-loop
-loop-less c = search needs
-
 loop-again : tie.Need-loop-again Inv-loop μ-loop
 loop-again c =
     let l = c .before .before .loop in
@@ -49,7 +43,6 @@ power-spec =
     μ-loop
     loop-holds
     multiply-requires
-    add-i
-    loop-less
+    (λ c. search needs) (λ c. search needs)
     loop-again
     returns)

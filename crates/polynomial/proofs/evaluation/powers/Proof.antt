@@ -24,20 +24,8 @@ abbrev μ-loop : tie.MeasureT-loop
 loop-holds : tie.Need-loop-holds Inv-loop μ-loop
 loop-holds c = (omega arith, equal-rows 1 (c .pre .0 .least), powers-start (c .args .x) (c .pre .0 .least), upto-start refl)
 
-mul-rows : tie.Need-mul-rows Inv-loop μ-loop
-mul-rows c = search needs
-
-array-set-from-rows : tie.Need-array-set-from-rows Inv-loop μ-loop
-array-set-from-rows c = search needs
-
 multiply-requires : tie.Need-multiply-requires Inv-loop μ-loop
 multiply-requires c κs = let b = c .before .before in (b .pre .0, result-row _ (omega (arith, b .pre .0 .least)) (c .before .loop .inv .2), b .pre .1)
-
-add-t : tie.Need-add-t Inv-loop μ-loop
-add-t c = search needs
-
-loop-less : tie.Need-loop-less Inv-loop μ-loop
-loop-less c = search needs
 
 loop-again : tie.Need-loop-again Inv-loop μ-loop
 loop-again c =
@@ -60,10 +48,8 @@ powers-spec =
     Inv-loop
     μ-loop
     loop-holds
-    mul-rows
-    array-set-from-rows
+    (λ c. search needs) (λ c. search needs)
     multiply-requires
-    add-t
-    loop-less
+    (λ c. search needs) (λ c. search needs)
     loop-again
     returns)

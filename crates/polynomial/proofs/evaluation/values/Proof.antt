@@ -19,29 +19,11 @@ abbrev μ-loop : tie.MeasureT-loop
 loop-holds : tie.Need-loop-holds Inv-loop μ-loop
 loop-holds c = (omega arith, terms-none (c .args .powers .now) (at (c .args .t3)))
 
-mul-add-product : tie.Need-mul-add-product Inv-loop μ-loop
-mul-add-product c = search needs
-
-array-read-add-product : tie.Need-array-read-add-product Inv-loop μ-loop
-array-read-add-product c = search needs
-
-mul-add-product-2 : tie.Need-mul-add-product-2 Inv-loop μ-loop
-mul-add-product-2 c = search needs
-
-index-1-add-product : tie.Need-index-1-add-product Inv-loop μ-loop
-index-1-add-product c = search needs
-
 add-product-requires : tie.Need-add-product-requires Inv-loop μ-loop
 add-product-requires c κs =
     let b = c .before .before .before .before .pre in
     let l = c .before .before .before .loop in
     term-fits (b .0 .most) (b .1) (λ t _. b .2 .small t) (l .i) (omega arith) (l .inv .1)
-
-add-i : tie.Need-add-i Inv-loop μ-loop
-add-i c = search needs
-
-loop-less : tie.Need-loop-less Inv-loop μ-loop
-loop-less c = search needs
 
 loop-again : tie.Need-loop-again Inv-loop μ-loop
 loop-again c =
@@ -70,13 +52,9 @@ values-spec =
     Inv-loop
     μ-loop
     loop-holds
-    mul-add-product
-    array-read-add-product
-    mul-add-product-2
-    index-1-add-product
+    (λ c. search needs) (λ c. search needs) (λ c. search needs) (λ c. search needs)
     add-product-requires
-    add-i
-    loop-less
+    (λ c. search needs) (λ c. search needs)
     loop-again
     fold-row-requires
     returns)

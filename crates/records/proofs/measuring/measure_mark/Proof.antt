@@ -7,30 +7,6 @@ use borrow.Author.Needs.{needs}
 use Rattle.records.proofs.measuring.measure_mark.Statement.{statement}
 use Rattle.records.proofs.measuring.measure_mark.Tie as tie
 
-shared-slice-read-p : tie.Need-shared-slice-read-p
-shared-slice-read-p c = search needs
-
-cast-p : tie.Need-cast-p
-cast-p c = search needs
-
-shared-slice-read-n : tie.Need-shared-slice-read-n
-shared-slice-read-n c = search needs
-
-cast-n : tie.Need-cast-n
-cast-n c = search needs
-
-shared-slice-read-d : tie.Need-shared-slice-read-d
-shared-slice-read-d c = search needs
-
-cast-d : tie.Need-cast-d
-cast-d c = search needs
-
-reciprocal-requires : tie.Need-reciprocal-requires
-reciprocal-requires c κs = search needs
-
-points-requires : tie.Need-points-requires
-points-requires c κs = search needs
-
 powers-requires : tie.Need-powers-requires
 powers-requires c κs =
     let s = c .before .before .before .before .before .before .before .before .before .pre .0 in
@@ -49,12 +25,6 @@ measure-rows-requires c κs =
     let m = c .before .before .before .before .before .before .reciprocal .ensures in
     (m, c .before .before .columns .ensures .0, c .before .before .before .before .powers .ensures .0, b .0 .most, omega (arith, b .0 .low, b .0 .most), b .1 .symbols, b .1 .doubts, b .1 .doubt)
 
-radius-requires : tie.Need-radius-requires
-radius-requires c κs = search needs
-
-reading-requires : tie.Need-reading-requires
-reading-requires c κs = search needs
-
 returns : tie.Need-returns
 returns c =
     let b = c .before .before .before .before .before .before .before .before .before .before .before .before .before .before .before .before .before .pre in
@@ -67,17 +37,10 @@ pub measure-mark-spec : {M : Type 1} → statement M
 measure-mark-spec =
     tie.close
     (tie.spec
-    shared-slice-read-p
-    cast-p
-    shared-slice-read-n
-    cast-n
-    shared-slice-read-d
-    cast-d
-    reciprocal-requires
-    points-requires
+    (λ c. search needs) (λ c. search needs) (λ c. search needs) (λ c. search needs) (λ c. search needs) (λ c. search needs)
+    (λ c κs. search needs) (λ c κs. search needs)
     powers-requires
     columns-requires
     measure-rows-requires
-    radius-requires
-    reading-requires
+    (λ c κs. search needs) (λ c κs. search needs)
     returns)

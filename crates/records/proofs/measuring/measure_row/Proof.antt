@@ -21,47 +21,8 @@ abbrev μ-loop : tie.MeasureT-loop
 loop-holds : tie.Need-loop-holds Inv-loop μ-loop
 loop-holds c = (omega arith, record { sum = refl; count = refl }, omega arith, omega arith)
 
-shared-slice-read-symbol : tie.Need-shared-slice-read-symbol Inv-loop μ-loop
-shared-slice-read-symbol c = search needs
-
-cast-symbol : tie.Need-cast-symbol Inv-loop μ-loop
-cast-symbol c = omega (arith, c .shared-slice-known3 .given (c .before .before .loop .j))
-
-shared-slice-read-cell-cost : tie.Need-shared-slice-read-cell-cost Inv-loop μ-loop
-shared-slice-read-cell-cost c = search needs
-
-cast-cell-cost : tie.Need-cast-cell-cost Inv-loop μ-loop
-cast-cell-cost c = omega (arith, c .shared-slice-known4 .given (c .before .before .before .loop .j))
-
-mul-cell-cost : tie.Need-mul-cell-cost Inv-loop μ-loop
-mul-cell-cost c = search needs
-
-array-read-cell-cost : tie.Need-array-read-cell-cost Inv-loop μ-loop
-array-read-cell-cost c = search needs
-
 cell-cost-requires : tie.Need-cell-cost-requires Inv-loop μ-loop
 cell-cost-requires c κs = (c .before .before .before .before .before .before .pre .1 (c .before .before .before .loop .j) (omega arith), omega arith)
-
-add-cost : tie.Need-add-cost Inv-loop μ-loop
-add-cost c = search needs
-
-mul-cell-changed : tie.Need-mul-cell-changed Inv-loop μ-loop
-mul-cell-changed c = search needs
-
-array-read-cell-changed : tie.Need-array-read-cell-changed Inv-loop μ-loop
-array-read-cell-changed c = search needs
-
-cell-changed-requires : tie.Need-cell-changed-requires Inv-loop μ-loop
-cell-changed-requires c κs = search needs
-
-add-changed : tie.Need-add-changed Inv-loop μ-loop
-add-changed c = search needs
-
-add-j : tie.Need-add-j Inv-loop μ-loop
-add-j c = search needs
-
-loop-less : tie.Need-loop-less Inv-loop μ-loop
-loop-less c = search needs
 
 loop-again : tie.Need-loop-again Inv-loop μ-loop
 loop-again c =
@@ -93,19 +54,13 @@ measure-row-spec =
     Inv-loop
     μ-loop
     loop-holds
-    shared-slice-read-symbol
-    cast-symbol
-    shared-slice-read-cell-cost
-    cast-cell-cost
-    mul-cell-cost
-    array-read-cell-cost
+    (λ c. search needs)
+    (λ c. omega (arith, c .shared-slice-known3 .given (c .before .before .loop .j)))
+    (λ c. search needs)
+    (λ c. omega (arith, c .shared-slice-known4 .given (c .before .before .before .loop .j)))
+    (λ c. search needs) (λ c. search needs)
     cell-cost-requires
-    add-cost
-    mul-cell-changed
-    array-read-cell-changed
-    cell-changed-requires
-    add-changed
-    add-j
-    loop-less
+    (λ c. search needs) (λ c. search needs) (λ c. search needs) (λ c κs. search needs) (λ c. search needs) (λ c. search needs)
+    (λ c. search needs)
     loop-again
     returns)

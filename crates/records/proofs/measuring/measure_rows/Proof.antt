@@ -25,33 +25,6 @@ abbrev μ-loop : tie.MeasureT-loop
 loop-holds : tie.Need-loop-holds Inv-loop μ-loop
 loop-holds c = (omega arith, omega arith, omega arith, λ x y F C P. rw zero-mul (record { sum = refl; count = refl }))
 
-row-values-requires : tie.Need-row-values-requires Inv-loop μ-loop
-row-values-requires c κs = let b = c .before .before .before .before in (b .pre .0, b .pre .1, b .pre .2, omega arith, b .pre .4)
-
-mul-at : tie.Need-mul-at Inv-loop μ-loop
-mul-at c = omega (arith, row-in _ _ (c .before .loop-test .taken))
-
-add-end : tie.Need-add-end Inv-loop μ-loop
-add-end c = omega (arith, row-in _ _ (c .before .loop-test .taken))
-
-sub-measure-row : tie.Need-sub-measure-row Inv-loop μ-loop
-sub-measure-row c = search needs
-
-part-measure-row-start : tie.Need-part-measure-row-start Inv-loop μ-loop
-part-measure-row-start c = search needs
-
-part-measure-row-end : tie.Need-part-measure-row-end Inv-loop μ-loop
-part-measure-row-end c = omega (arith, row-in _ _ (c .before .loop-test .taken))
-
-sub-measure-row-2 : tie.Need-sub-measure-row-2 Inv-loop μ-loop
-sub-measure-row-2 c = search needs
-
-part-measure-row-start-2 : tie.Need-part-measure-row-start-2 Inv-loop μ-loop
-part-measure-row-start-2 c = search needs
-
-part-measure-row-end-2 : tie.Need-part-measure-row-end-2 Inv-loop μ-loop
-part-measure-row-end-2 c = omega (arith, row-in _ _ (c .before .before .loop-test .taken))
-
 measure-row-requires : tie.Need-measure-row-requires Inv-loop μ-loop
 measure-row-requires c κs =
     let b = c .before .before .before .before .before .before .before in
@@ -69,12 +42,6 @@ add-cost c = omega (arith, c .before .measure-row .ensures .1, c .before .before
 
 add-changed : tie.Need-add-changed Inv-loop μ-loop
 add-changed c = omega (arith, c .before .before .measure-row .ensures .2, c .before .before .before .before .before .before .before .loop .inv .2, c .before .before .before .before .before .before .before .before .before .before .pre .3)
-
-add-r : tie.Need-add-r Inv-loop μ-loop
-add-r c = search needs
-
-loop-less : tie.Need-loop-less Inv-loop μ-loop
-loop-less c = search needs
 
 loop-again : tie.Need-loop-again Inv-loop μ-loop
 loop-again c =
@@ -104,19 +71,16 @@ measure-rows-spec =
     Inv-loop
     μ-loop
     loop-holds
-    row-values-requires
-    mul-at
-    add-end
-    sub-measure-row
-    part-measure-row-start
-    part-measure-row-end
-    sub-measure-row-2
-    part-measure-row-start-2
-    part-measure-row-end-2
+    (λ c κs. let b = c .before .before .before .before in (b .pre .0, b .pre .1, b .pre .2, omega arith, b .pre .4))
+    (λ c. omega (arith, row-in _ _ (c .before .loop-test .taken)))
+    (λ c. omega (arith, row-in _ _ (c .before .loop-test .taken)))
+    (λ c. search needs) (λ c. search needs)
+    (λ c. omega (arith, row-in _ _ (c .before .loop-test .taken)))
+    (λ c. search needs) (λ c. search needs)
+    (λ c. omega (arith, row-in _ _ (c .before .before .loop-test .taken)))
     measure-row-requires
     add-cost
     add-changed
-    add-r
-    loop-less
+    (λ c. search needs) (λ c. search needs)
     loop-again
     returns)

@@ -7,52 +7,16 @@ use borrow.Author.Needs.{needs}
 use Rattle.records.proofs.measuring.measure_strip.Statement.{statement}
 use Rattle.records.proofs.measuring.measure_strip.Tie as tie
 
-shared-slice-read-p : tie.Need-shared-slice-read-p
-shared-slice-read-p c = search needs
-
-cast-p : tie.Need-cast-p
-cast-p c = search needs
-
-shared-slice-read-n : tie.Need-shared-slice-read-n
-shared-slice-read-n c = search needs
-
-cast-n : tie.Need-cast-n
-cast-n c = search needs
-
-shared-slice-read-d : tie.Need-shared-slice-read-d
-shared-slice-read-d c = search needs
-
-cast-d : tie.Need-cast-d
-cast-d c = search needs
-
-reciprocal-requires : tie.Need-reciprocal-requires
-reciprocal-requires c κs = search needs
-
-points-requires : tie.Need-points-requires
-points-requires c κs = search needs
-
 powers-requires : tie.Need-powers-requires
 powers-requires c κs =
     let s = c .before .before .before .before .before .before .before .before .before .pre .0 in
     (c .before .reciprocal .ensures, points-residues s (c .points .ensures), omega (arith, s .low, s .most))
-
-row-requires : tie.Need-row-requires
-row-requires c κs = search needs
 
 values-requires : tie.Need-values-requires
 values-requires c κs =
     let b = c .before .before .before .before .before .before .before .before .before .before .before .before .pre in
     let m = c .before .before .before .before .reciprocal .ensures in
     (m, c .before .before .powers .ensures .0, strip-row (b .0) (b .2) (c .row .ensures), omega (arith, b .0 .low, b .0 .most))
-
-measure-row-requires : tie.Need-measure-row-requires
-measure-row-requires c κs = search needs
-
-radius-requires : tie.Need-radius-requires
-radius-requires c κs = search needs
-
-reading-requires : tie.Need-reading-requires
-reading-requires c κs = search needs
 
 returns : tie.Need-returns
 returns c =
@@ -66,18 +30,10 @@ pub measure-strip-spec : {M : Type 1} → statement M
 measure-strip-spec =
     tie.close
     (tie.spec
-    shared-slice-read-p
-    cast-p
-    shared-slice-read-n
-    cast-n
-    shared-slice-read-d
-    cast-d
-    reciprocal-requires
-    points-requires
+    (λ c. search needs) (λ c. search needs) (λ c. search needs) (λ c. search needs) (λ c. search needs) (λ c. search needs)
+    (λ c κs. search needs) (λ c κs. search needs)
     powers-requires
-    row-requires
+    (λ c κs. search needs)
     values-requires
-    measure-row-requires
-    radius-requires
-    reading-requires
+    (λ c κs. search needs) (λ c κs. search needs) (λ c κs. search needs)
     returns)

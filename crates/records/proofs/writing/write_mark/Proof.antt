@@ -8,30 +8,6 @@ use borrow.Author.Needs.{needs}
 use Rattle.records.proofs.writing.write_mark.Statement.{statement}
 use Rattle.records.proofs.writing.write_mark.Tie as tie
 
-shared-slice-read-p : tie.Need-shared-slice-read-p
-shared-slice-read-p c = search needs
-
-cast-p : tie.Need-cast-p
-cast-p c = search needs
-
-shared-slice-read-n : tie.Need-shared-slice-read-n
-shared-slice-read-n c = search needs
-
-cast-n : tie.Need-cast-n
-cast-n c = search needs
-
-shared-slice-read-d : tie.Need-shared-slice-read-d
-shared-slice-read-d c = search needs
-
-cast-d : tie.Need-cast-d
-cast-d c = search needs
-
-reciprocal-requires : tie.Need-reciprocal-requires
-reciprocal-requires c κs = search needs
-
-points-requires : tie.Need-points-requires
-points-requires c κs = search needs
-
 powers-requires : tie.Need-powers-requires
 powers-requires c κs =
     let s = c .before .before .before .before .before .before .before .before .pre .sound in
@@ -49,9 +25,6 @@ write-rows-requires c κs =
     let m = c .before .before .before .before .before .before .before .reciprocal .ensures in
     (m, c .before .before .before .columns .ensures .0, c .before .before .before .before .before .powers .ensures .0, b .sound .most, omega (arith, b .sound .low, b .sound .most), b .room)
 
-same-length : tie.Need-same-length
-same-length c = search needs
-
 returns : tie.Need-returns
 unfolding mark
 returns c =
@@ -64,16 +37,10 @@ pub write-mark-spec : {M : Type 1} → statement M
 write-mark-spec =
     tie.close
     (tie.spec
-    shared-slice-read-p
-    cast-p
-    shared-slice-read-n
-    cast-n
-    shared-slice-read-d
-    cast-d
-    reciprocal-requires
-    points-requires
+    (λ c. search needs) (λ c. search needs) (λ c. search needs) (λ c. search needs) (λ c. search needs) (λ c. search needs)
+    (λ c κs. search needs) (λ c κs. search needs)
     powers-requires
     columns-requires
     write-rows-requires
-    same-length
+    (λ c. search needs)
     returns)

@@ -21,31 +21,10 @@ loop-holds : tie.Need-loop-holds Inv-loop μ-loop
 unfolding tab
 loop-holds c = (omega arith, refl, refl, refl)
 
-mul-part : tie.Need-mul-part Inv-loop μ-loop
-mul-part c = search needs
-
-array-read-part : tie.Need-array-read-part Inv-loop μ-loop
-array-read-part c = search needs
-
-cast-part : tie.Need-cast-part Inv-loop μ-loop
-cast-part c = omega (arith, c .before .before .pre .1 (c .before .loop .j))
-
-slice-write-part : tie.Need-slice-write-part Inv-loop μ-loop
-slice-write-part c = search needs
-
-add-j : tie.Need-add-j Inv-loop μ-loop
-add-j c = search needs
-
-loop-less : tie.Need-loop-less Inv-loop μ-loop
-loop-less c = search needs
-
 loop-again : tie.Need-loop-again Inv-loop μ-loop
 loop-again c =
     let h : c .before .loop .j < length (c .before .before .args .part .now) = omega arith in
     (search needs, search needs, search needs, rw (c .before .loop .inv .3) (tab-more _ _ _ h))
-
-same-length : tie.Need-same-length Inv-loop μ-loop
-same-length c = search needs
 
 returns : tie.Need-returns Inv-loop μ-loop
 returns c =
@@ -59,12 +38,9 @@ write-row-spec =
     Inv-loop
     μ-loop
     loop-holds
-    mul-part
-    array-read-part
-    cast-part
-    slice-write-part
-    add-j
-    loop-less
+    (λ c. search needs) (λ c. search needs)
+    (λ c. omega (arith, c .before .before .pre .1 (c .before .loop .j)))
+    (λ c. search needs) (λ c. search needs) (λ c. search needs)
     loop-again
-    same-length
+    (λ c. search needs)
     returns)

@@ -27,34 +27,10 @@ loop-holds : tie.Need-loop-holds Inv-loop μ-loop
 unfolding tab
 loop-holds c = (omega arith, refl, λ x y F C P. rw zero-mul)
 
-row-values-requires : tie.Need-row-values-requires Inv-loop μ-loop
-row-values-requires c κs = let b = c .before .before .before in (b .pre .0, b .pre .1, b .pre .2, omega arith, b .pre .4)
-
-mul-at : tie.Need-mul-at Inv-loop μ-loop
-mul-at c = omega (arith, row-in _ _ (c .before .loop-test .taken))
-
-add-end : tie.Need-add-end Inv-loop μ-loop
-add-end c = omega (arith, row-in _ _ (c .before .loop-test .taken))
-
-sub-write-row : tie.Need-sub-write-row Inv-loop μ-loop
-sub-write-row c = search needs
-
-part-write-row-start : tie.Need-part-write-row-start Inv-loop μ-loop
-part-write-row-start c = search needs
-
-part-write-row-end : tie.Need-part-write-row-end Inv-loop μ-loop
-part-write-row-end c = omega (arith, row-in _ _ (c .before .loop-test .taken))
-
 write-row-requires : tie.Need-write-row-requires Inv-loop μ-loop
 write-row-requires c κs =
     let b = c .before .before .before .before .before in
     (search needs, λ j. omega (arith, c .before .row-values .ensures .0 .small j, b .pre .0 .most))
-
-add-r : tie.Need-add-r Inv-loop μ-loop
-add-r c = search needs
-
-loop-less : tie.Need-loop-less Inv-loop μ-loop
-loop-less c = search needs
 
 loop-again : tie.Need-loop-again Inv-loop μ-loop
 loop-again c =
@@ -67,9 +43,6 @@ loop-again c =
       λ x y F C P. row-more (b .args .n) (l .r) (gridValue (b .args .p) (b .args .d) (b .args .n) (at x) (at y) F) (b .args .mark .now) (l .mark) _
           (l .inv .2 x y F C P) (last ∙ tab-eq (b .args .n) (grid-row (b .args .p) (b .args .d) (b .args .n) (l .r) x y F (b .pre .3) (v .ensures .1 x y F C P))),
     )
-
-same-length : tie.Need-same-length Inv-loop μ-loop
-same-length c = search needs
 
 returns : tie.Need-returns Inv-loop μ-loop
 returns c =
@@ -84,15 +57,13 @@ write-rows-spec =
     Inv-loop
     μ-loop
     loop-holds
-    row-values-requires
-    mul-at
-    add-end
-    sub-write-row
-    part-write-row-start
-    part-write-row-end
+    (λ c κs. let b = c .before .before .before in (b .pre .0, b .pre .1, b .pre .2, omega arith, b .pre .4))
+    (λ c. omega (arith, row-in _ _ (c .before .loop-test .taken)))
+    (λ c. omega (arith, row-in _ _ (c .before .loop-test .taken)))
+    (λ c. search needs) (λ c. search needs)
+    (λ c. omega (arith, row-in _ _ (c .before .loop-test .taken)))
     write-row-requires
-    add-r
-    loop-less
+    (λ c. search needs) (λ c. search needs)
     loop-again
-    same-length
+    (λ c. search needs)
     returns)

@@ -9,31 +9,10 @@ use borrow.Author.Needs.{needs}
 use Rattle.records.proofs.writing.write_strip.Statement.{statement}
 use Rattle.records.proofs.writing.write_strip.Tie as tie
 
-shared-slice-read-p : tie.Need-shared-slice-read-p
-shared-slice-read-p c = search needs
-
-cast-p : tie.Need-cast-p
-cast-p c = search needs
-
-shared-slice-read-d : tie.Need-shared-slice-read-d
-shared-slice-read-d c = search needs
-
-cast-d : tie.Need-cast-d
-cast-d c = search needs
-
-reciprocal-requires : tie.Need-reciprocal-requires
-reciprocal-requires c κs = search needs
-
-points-requires : tie.Need-points-requires
-points-requires c κs = search needs
-
 powers-requires : tie.Need-powers-requires
 powers-requires c κs =
     let s = c .before .before .before .before .before .before .before .pre .sound in
     (c .before .reciprocal .ensures, points-residues s (c .points .ensures), omega (arith, s .low, s .most))
-
-row-requires : tie.Need-row-requires
-row-requires c κs = search needs
 
 values-requires : tie.Need-values-requires
 values-requires c κs =
@@ -45,9 +24,6 @@ write-row-requires : tie.Need-write-row-requires
 write-row-requires c κs =
     let b = c .before .before .before .before .before .before .before .before .before .before .before .before .pre in
     (omega (arith, b .room, b .sound .most), λ j. omega (arith, c .before .values .ensures .0 .small j, b .sound .small))
-
-same-length : tie.Need-same-length
-same-length c = search needs
 
 returns : tie.Need-returns
 unfolding mark
@@ -62,15 +38,11 @@ pub write-strip-spec : {M : Type 1} → statement M
 write-strip-spec =
     tie.close
     (tie.spec
-    shared-slice-read-p
-    cast-p
-    shared-slice-read-d
-    cast-d
-    reciprocal-requires
-    points-requires
+    (λ c. search needs) (λ c. search needs) (λ c. search needs) (λ c. search needs) (λ c κs. search needs)
+    (λ c κs. search needs)
     powers-requires
-    row-requires
+    (λ c κs. search needs)
     values-requires
     write-row-requires
-    same-length
+    (λ c. search needs)
     returns)

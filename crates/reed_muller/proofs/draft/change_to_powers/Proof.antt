@@ -21,38 +21,11 @@ Inv-loop f₀ d p m x i₀ f i = (i ≤ d) × Rows p f
 abbrev μ-loop : tie.MeasureT-loop
 μ-loop f₀ d p m x i₀ f i = d - i
 
-loop-holds : tie.Need-loop-holds Inv-loop2 μ-loop2 Inv-loop μ-loop
-loop-holds c = search needs
-
-mul-high : tie.Need-mul-high Inv-loop2 μ-loop2 Inv-loop μ-loop
-mul-high c = search needs
-
-element-copy-out-high : tie.Need-element-copy-out-high Inv-loop2 μ-loop2 Inv-loop μ-loop
-element-copy-out-high c = search needs
-
 loop2-holds : tie.Need-loop2-holds Inv-loop2 μ-loop2 Inv-loop μ-loop
 loop2-holds c =
     let l = c .before .before .loop in
     let start = c .before .before .before in
     (omega arith, omega arith, l .inv .1 .done (start .args .d) (omega (arith, start .pre .3)), l .inv .1)
-
-sub-j : tie.Need-sub-j Inv-loop2 μ-loop2 Inv-loop μ-loop
-sub-j c = search needs
-
-mul-row : tie.Need-mul-row Inv-loop2 μ-loop2 Inv-loop μ-loop
-mul-row c = search needs
-
-element-copy-out-row : tie.Need-element-copy-out-row Inv-loop2 μ-loop2 Inv-loop μ-loop
-element-copy-out-row c = search needs
-
-sub-add-multiple : tie.Need-sub-add-multiple Inv-loop2 μ-loop2 Inv-loop μ-loop
-sub-add-multiple c = search needs
-
-mul-add-multiple : tie.Need-mul-add-multiple Inv-loop2 μ-loop2 Inv-loop μ-loop
-mul-add-multiple c = search needs
-
-array-read-add-multiple : tie.Need-array-read-add-multiple Inv-loop2 μ-loop2 Inv-loop μ-loop
-array-read-add-multiple c = search needs
 
 sub-add-multiple-2 : tie.Need-sub-add-multiple-2 Inv-loop2 μ-loop2 Inv-loop μ-loop
 sub-add-multiple-2 c =
@@ -65,33 +38,12 @@ add-multiple-requires c κs =
     let start = c .before .before .before .before .before .before in
     (start .pre .0, l .inv .3 .done (l .j - 1) (omega (arith, start .pre .3)), l .inv .2, omega arith)
 
-mul-next : tie.Need-mul-next Inv-loop2 μ-loop2 Inv-loop μ-loop
-mul-next c = search needs
-
-element-set-from-next : tie.Need-element-set-from-next Inv-loop2 μ-loop2 Inv-loop μ-loop
-element-set-from-next c = search needs
-
-loop2-less : tie.Need-loop2-less Inv-loop2 μ-loop2 Inv-loop μ-loop
-loop2-less c = search needs
-
 loop2-again : tie.Need-loop2-again Inv-loop2 μ-loop2 Inv-loop μ-loop
 loop2-again c =
     let l = c .before .before .before .loop2 in
     let start = c .before .before .before .before .before .before .before in
     let next = result-row _ (omega (arith, start .pre .0 .least)) (c .add-multiple .ensures) in
     (omega arith, omega arith, next, upto-put _ (omega (arith, start .pre .3)) next (l .inv .3))
-
-add-i : tie.Need-add-i Inv-loop2 μ-loop2 Inv-loop μ-loop
-add-i c = search needs
-
-loop-less : tie.Need-loop-less Inv-loop2 μ-loop2 Inv-loop μ-loop
-loop-less c = search needs
-
-loop-again : tie.Need-loop-again Inv-loop2 μ-loop2 Inv-loop μ-loop
-loop-again c = search needs
-
-returns : tie.Need-returns Inv-loop2 μ-loop2 Inv-loop μ-loop
-returns c = search needs
 
 pub change-to-powers-spec : {M : Type 1} → statement M
 change-to-powers-spec =
@@ -101,23 +53,11 @@ change-to-powers-spec =
     μ-loop2
     Inv-loop
     μ-loop
-    loop-holds
-    mul-high
-    element-copy-out-high
+    (λ c. search needs) (λ c. search needs) (λ c. search needs)
     loop2-holds
-    sub-j
-    mul-row
-    element-copy-out-row
-    sub-add-multiple
-    mul-add-multiple
-    array-read-add-multiple
+    (λ c. search needs) (λ c. search needs) (λ c. search needs) (λ c. search needs) (λ c. search needs) (λ c. search needs)
     sub-add-multiple-2
     add-multiple-requires
-    mul-next
-    element-set-from-next
-    loop2-less
+    (λ c. search needs) (λ c. search needs) (λ c. search needs)
     loop2-again
-    add-i
-    loop-less
-    loop-again
-    returns)
+    (λ c. search needs) (λ c. search needs) (λ c. search needs) (λ c. search needs))

@@ -20,21 +20,6 @@ abbrev μ-loop : tie.MeasureT-loop
 loop-holds : tie.Need-loop-holds Inv-loop μ-loop
 loop-holds c = (omega arith, record { rows = c .pre .2; kept = λ t l. refl })
 
-place-of-each-requires : tie.Need-place-of-each-requires Inv-loop μ-loop
-place-of-each-requires c κs = search needs
-
-mul-line : tie.Need-mul-line Inv-loop μ-loop
-mul-line c = search needs
-
-element-set-from-line : tie.Need-element-set-from-line Inv-loop μ-loop
-element-set-from-line c = search needs
-
-add-t : tie.Need-add-t Inv-loop μ-loop
-add-t c = search needs
-
-loop-less : tie.Need-loop-less Inv-loop μ-loop
-loop-less c = search needs
-
 loop-again : tie.Need-loop-again Inv-loop μ-loop
 loop-again c =
     let l = c .before .before .loop in
@@ -56,10 +41,6 @@ exchange-spec =
     Inv-loop
     μ-loop
     loop-holds
-    place-of-each-requires
-    mul-line
-    element-set-from-line
-    add-t
-    loop-less
+    (λ c κs. search needs) (λ c. search needs) (λ c. search needs) (λ c. search needs) (λ c. search needs)
     loop-again
     returns)

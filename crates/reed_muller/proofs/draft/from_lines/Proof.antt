@@ -24,18 +24,13 @@ pub from-lines-spec : {M : Type 1} → statement M
 from-lines-spec =
     tie.close
     (tie.spec
-    (λ c κs. search needs)
-    (λ c. search needs)
-    (λ c. search needs)
-    (λ c. search needs)
+    (λ c κs. search needs) (λ c. search needs) (λ c. search needs) (λ c. search needs)
     (λ c κs.
     let g = c .before .before .before in
     let b = g .before .before .before .before .before .pre in
     (b .0 .reciprocal, b .1, g .gather .ensures .0, g .gather .ensures .1, last-small c))
     (λ c. omega (arith, last-small (c .before .before .before)))
     (λ c. last-small (c .before .before .before))
-    (λ c κs. search needs)
-    (λ c. search needs)
-    (λ c κs. search needs)
+    (λ c κs. search needs) (λ c. search needs) (λ c κs. search needs)
     exchange-requires
     returns)

@@ -16,48 +16,6 @@ Inv-loop f₀ z₀ known a x i₀ r₀ f z i r = (r ≤ a) × (i ≤ r) × ((p :
 abbrev μ-loop : tie.MeasureT-loop
 μ-loop f₀ z₀ known a x i₀ r₀ f z i r = a - r
 
-loop-holds : tie.Need-loop-holds Inv-loop μ-loop
-loop-holds c = search needs
-
-mul-if1 : tie.Need-mul-if1 Inv-loop μ-loop
-mul-if1 c = search needs
-
-array-read-if1 : tie.Need-array-read-if1 Inv-loop μ-loop
-array-read-if1 c = search needs
-
-mul-line : tie.Need-mul-line Inv-loop μ-loop
-mul-line c = search needs
-
-element-copy-out-line : tie.Need-element-copy-out-line Inv-loop μ-loop
-element-copy-out-line c = search needs
-
-mul-line-2 : tie.Need-mul-line-2 Inv-loop μ-loop
-mul-line-2 c = search needs
-
-element-set-from-line : tie.Need-element-set-from-line Inv-loop μ-loop
-element-set-from-line c = search needs
-
-mul-z : tie.Need-mul-z Inv-loop μ-loop
-mul-z c = search needs
-
-array-read-z : tie.Need-array-read-z Inv-loop μ-loop
-array-read-z c = search needs
-
-mul-z-2 : tie.Need-mul-z-2 Inv-loop μ-loop
-mul-z-2 c = search needs
-
-element-write-z : tie.Need-element-write-z Inv-loop μ-loop
-element-write-z c = search needs
-
-add-i : tie.Need-add-i Inv-loop μ-loop
-add-i c = search needs
-
-add-r : tie.Need-add-r Inv-loop μ-loop
-add-r c = search needs
-
-loop-less : tie.Need-loop-less Inv-loop μ-loop
-loop-less c = search needs
-
 loop-again : tie.Need-loop-again Inv-loop μ-loop
 loop-again c =
     let l = c .before .before .loop in
@@ -82,19 +40,8 @@ gather-spec =
     (tie.spec
     Inv-loop
     μ-loop
-    loop-holds
-    mul-if1
-    array-read-if1
-    mul-line
-    element-copy-out-line
-    mul-line-2
-    element-set-from-line
-    mul-z
-    array-read-z
-    mul-z-2
-    element-write-z
-    add-i
-    add-r
-    loop-less
+    (λ c. search needs) (λ c. search needs) (λ c. search needs) (λ c. search needs) (λ c. search needs) (λ c. search needs)
+    (λ c. search needs) (λ c. search needs) (λ c. search needs) (λ c. search needs) (λ c. search needs) (λ c. search needs)
+    (λ c. search needs) (λ c. search needs)
     loop-again
     returns)

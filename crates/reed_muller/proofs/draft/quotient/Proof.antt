@@ -5,14 +5,13 @@ use borrow.Author.Needs.{needs}
 use Rattle.reed_muller.proofs.draft.quotient.Statement.{statement}
 use Rattle.reed_muller.proofs.draft.quotient.Tie as tie
 
-subtract-requires : tie.Need-subtract-requires
-subtract-requires c κs = let b = c .pre in (b .1, b .2, b .0 .most)
-
-scale-requires : tie.Need-scale-requires
-scale-requires c κs = let b = c .before .pre in (b .0, result-row _ (omega (arith, b .0 .least)) (c .subtract .ensures), omega arith)
-
 returns : tie.Need-returns
 returns c = result-row _ (omega (arith, c .before .before .pre .0 .least)) (c .scale .ensures)
 
 pub quotient-spec : {M : Type 1} → statement M
-quotient-spec = tie.close (tie.spec subtract-requires scale-requires returns)
+quotient-spec =
+    tie.close
+    (tie.spec
+    (λ c κs. let b = c .pre in (b .1, b .2, b .0 .most))
+    (λ c κs. let b = c .before .pre in (b .0, result-row _ (omega (arith, b .0 .least)) (c .subtract .ensures), omega arith))
+    returns)

@@ -27,47 +27,11 @@ loop-holds c =
     let k = c .pre .4 in
     (refl, omega arith, k .rows, record { size = k .rows .size; numbers = k .size; done = λ j l. absurd (omega arith); todo = λ j _ l. k .known j l })
 
-mul-if1 : tie.Need-mul-if1 Inv-loop μ-loop
-mul-if1 c = search needs
-
-array-read-if1 : tie.Need-array-read-if1 Inv-loop μ-loop
-array-read-if1 c = search needs
-
-mul-read : tie.Need-mul-read Inv-loop μ-loop
-mul-read c = search needs
-
-element-copy-out-read : tie.Need-element-copy-out-read Inv-loop μ-loop
-element-copy-out-read c = search needs
-
-mul-read-2 : tie.Need-mul-read-2 Inv-loop μ-loop
-mul-read-2 c = search needs
-
-element-copy-out-read-2 : tie.Need-element-copy-out-read-2 Inv-loop μ-loop
-element-copy-out-read-2 c = search needs
-
 read-requires : tie.Need-read-requires Inv-loop μ-loop
 read-requires c κs =
     let start = c .before .before .before .before .before in
     let r = c .before .before .before .before .loop .r in
     (start .pre .0, start .pre .1, start .pre .2 .done r (omega (arith, start .pre .0 .rows)), start .pre .3 r (omega arith), start .pre .5)
-
-mul-w : tie.Need-mul-w Inv-loop μ-loop
-mul-w c = search needs
-
-element-set-from-w : tie.Need-element-set-from-w Inv-loop μ-loop
-element-set-from-w c = search needs
-
-mul-costs : tie.Need-mul-costs Inv-loop μ-loop
-mul-costs c = search needs
-
-array-write-costs : tie.Need-array-write-costs Inv-loop μ-loop
-array-write-costs c = search needs
-
-add-r : tie.Need-add-r Inv-loop μ-loop
-add-r c = search needs
-
-loop-less : tie.Need-loop-less Inv-loop μ-loop
-loop-less c = search needs
 
 loop-again : tie.Need-loop-again Inv-loop μ-loop
 loop-again c =
@@ -91,18 +55,8 @@ answer-spec =
     Inv-loop
     μ-loop
     loop-holds
-    mul-if1
-    array-read-if1
-    mul-read
-    element-copy-out-read
-    mul-read-2
-    element-copy-out-read-2
+    (λ c. search needs) (λ c. search needs) (λ c. search needs) (λ c. search needs) (λ c. search needs) (λ c. search needs)
     read-requires
-    mul-w
-    element-set-from-w
-    mul-costs
-    array-write-costs
-    add-r
-    loop-less
+    (λ c. search needs) (λ c. search needs) (λ c. search needs) (λ c. search needs) (λ c. search needs) (λ c. search needs)
     loop-again
     returns)

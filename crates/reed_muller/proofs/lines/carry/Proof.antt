@@ -20,39 +20,6 @@ abbrev μ-loop : tie.MeasureT-loop
 loop-holds : tie.Need-loop-holds Inv-loop μ-loop
 loop-holds c = (omega arith, upto-start (c .pre))
 
-mul-keep : tie.Need-mul-keep Inv-loop μ-loop
-mul-keep c = search needs
-
-array-read-keep : tie.Need-array-read-keep Inv-loop μ-loop
-array-read-keep c = search needs
-
-mul-keep-2 : tie.Need-mul-keep-2 Inv-loop μ-loop
-mul-keep-2 c = search needs
-
-array-read-keep-2 : tie.Need-array-read-keep-2 Inv-loop μ-loop
-array-read-keep-2 c = search needs
-
-mul-keep-3 : tie.Need-mul-keep-3 Inv-loop μ-loop
-mul-keep-3 c = search needs
-
-array-read-keep-3 : tie.Need-array-read-keep-3 Inv-loop μ-loop
-array-read-keep-3 c = search needs
-
-keep-requires : tie.Need-keep-requires Inv-loop μ-loop
-keep-requires c κs = search needs
-
-mul-out : tie.Need-mul-out Inv-loop μ-loop
-mul-out c = search needs
-
-array-write-out : tie.Need-array-write-out Inv-loop μ-loop
-array-write-out c = search needs
-
-add-r : tie.Need-add-r Inv-loop μ-loop
-add-r c = search needs
-
-loop-less : tie.Need-loop-less Inv-loop μ-loop
-loop-less c = search needs
-
 loop-again : tie.Need-loop-again Inv-loop μ-loop
 loop-again c = (omega arith, upto-step (c .keep .result) (omega arith) (c .keep .ensures) (c .before .before .loop .inv .1))
 
@@ -66,16 +33,7 @@ carry-spec =
     Inv-loop
     μ-loop
     loop-holds
-    mul-keep
-    array-read-keep
-    mul-keep-2
-    array-read-keep-2
-    mul-keep-3
-    array-read-keep-3
-    keep-requires
-    mul-out
-    array-write-out
-    add-r
-    loop-less
+    (λ c. search needs) (λ c. search needs) (λ c. search needs) (λ c. search needs) (λ c. search needs) (λ c. search needs)
+    (λ c κs. search needs) (λ c. search needs) (λ c. search needs) (λ c. search needs) (λ c. search needs)
     loop-again
     returns)

@@ -24,8 +24,7 @@ read-spec =
     (tie.spec
     decode-requires
     returns
-    (λ c. search needs)
-    (λ c. search needs)
+    (λ c. search needs) (λ c. search needs)
     (λ c. let start = c .before .before .before .before .before in omega (arith, line-full (start .args .t) (start .pre .0)))
     (λ c.
     let D = c .before .before .before .decode .ensures in

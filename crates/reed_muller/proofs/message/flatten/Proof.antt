@@ -17,15 +17,6 @@ abbrev μ-loop : tie.MeasureT-loop
 loop-holds : tie.Need-loop-holds Inv-loop μ-loop
 loop-holds c = (omega arith, record { size = c .pre .0; is = λ t i h. absurd (omega arith) })
 
-put-group-requires : tie.Need-put-group-requires Inv-loop μ-loop
-put-group-requires c κs = (c .before .before .loop .inv .1 .size, omega arith)
-
-add-k : tie.Need-add-k Inv-loop μ-loop
-add-k c = search needs
-
-loop-less : tie.Need-loop-less Inv-loop μ-loop
-loop-less c = search needs
-
 loop-again : tie.Need-loop-again Inv-loop μ-loop
 loop-again c = (omega arith, flat-more (omega arith) (c .put-group .ensures) (c .before .before .before .loop .inv .1))
 
@@ -35,4 +26,11 @@ returns c = let l = c .before .loop in let e : l .k ≡ c .before .before .args 
 pub flatten-spec : {M : Type 1} → statement M
 flatten-spec =
     tie.close
-    (tie.spec Inv-loop μ-loop loop-holds put-group-requires add-k loop-less loop-again returns)
+    (tie.spec
+    Inv-loop
+    μ-loop
+    loop-holds
+    (λ c κs. (c .before .before .loop .inv .1 .size, omega arith))
+    (λ c. search needs) (λ c. search needs)
+    loop-again
+    returns)

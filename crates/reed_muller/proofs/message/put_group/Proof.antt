@@ -16,23 +16,8 @@ Inv-loop message₀ columns k first j₀ message j = (j ≤ k + 1) × Stretch 13
 abbrev μ-loop : tie.MeasureT-loop
 μ-loop message₀ columns k first j₀ message j = k + 1 - j
 
-start-requires : tie.Need-start-requires Inv-loop μ-loop
-start-requires c κs = search needs
-
 loop-holds : tie.Need-loop-holds Inv-loop μ-loop
 loop-holds c = (omega arith, stretch-start (c .before .pre .0))
-
-mul-message : tie.Need-mul-message Inv-loop μ-loop
-mul-message c = search needs
-
-mul-message-2 : tie.Need-mul-message-2 Inv-loop μ-loop
-mul-message-2 c = search needs
-
-index-1-message : tie.Need-index-1-message Inv-loop μ-loop
-index-1-message c = search needs
-
-index-2-message : tie.Need-index-2-message Inv-loop μ-loop
-index-2-message c = search needs
 
 add-message : tie.Need-add-message Inv-loop μ-loop
 add-message c =
@@ -48,12 +33,6 @@ element-write-message : tie.Need-element-write-message Inv-loop μ-loop
 element-write-message c =
     let k = c .before .before .before .before in
     omega (arith, start-most (k .args .k) (k .pre .1), c .before .before .before .start .ensures)
-
-add-j : tie.Need-add-j Inv-loop μ-loop
-add-j c = search needs
-
-loop-less : tie.Need-loop-less Inv-loop μ-loop
-loop-less c = search needs
 
 loop-again : tie.Need-loop-again Inv-loop μ-loop
 loop-again c =
@@ -73,16 +52,12 @@ put-group-spec =
     (tie.spec
     Inv-loop
     μ-loop
-    start-requires
+    (λ c κs. search needs)
     loop-holds
-    mul-message
-    mul-message-2
-    index-1-message
-    index-2-message
+    (λ c. search needs) (λ c. search needs) (λ c. search needs) (λ c. search needs)
     add-message
     mul-message-3
     element-write-message
-    add-j
-    loop-less
+    (λ c. search needs) (λ c. search needs)
     loop-again
     returns)

@@ -18,18 +18,6 @@ abbrev μ-loop : tie.MeasureT-loop
 loop-holds : tie.Need-loop-holds Inv-loop μ-loop
 loop-holds c = (refl, omega arith, refl, omega arith)
 
-mul-word-cost : tie.Need-mul-word-cost Inv-loop μ-loop
-mul-word-cost c = search needs
-
-element-copy-out-word-cost : tie.Need-element-copy-out-word-cost Inv-loop μ-loop
-element-copy-out-word-cost c = search needs
-
-mul-word-cost-2 : tie.Need-mul-word-cost-2 Inv-loop μ-loop
-mul-word-cost-2 c = search needs
-
-element-copy-out-word-cost-2 : tie.Need-element-copy-out-word-cost-2 Inv-loop μ-loop
-element-copy-out-word-cost-2 c = search needs
-
 word-cost-requires : tie.Need-word-cost-requires Inv-loop μ-loop
 word-cost-requires c κs = let b = c .before .before .before .before in (b .pre .0 .columns, b .pre .1 (c .before .before .before .loop .r) (omega arith), omega (arith, b .pre .0 .full))
 
@@ -37,12 +25,6 @@ add-sum : tie.Need-add-sum Inv-loop μ-loop
 add-sum c =
     let f = c .before .before .before .before .before .pre .0 in
     omega (arith, c .word-cost .ensures .1, f .rows, f .columns)
-
-add-r : tie.Need-add-r Inv-loop μ-loop
-add-r c = search needs
-
-loop-less : tie.Need-loop-less Inv-loop μ-loop
-loop-less c = search needs
 
 loop-again : tie.Need-loop-again Inv-loop μ-loop
 loop-again c =
@@ -62,13 +44,9 @@ measure-spec =
     Inv-loop
     μ-loop
     loop-holds
-    mul-word-cost
-    element-copy-out-word-cost
-    mul-word-cost-2
-    element-copy-out-word-cost-2
+    (λ c. search needs) (λ c. search needs) (λ c. search needs) (λ c. search needs)
     word-cost-requires
     add-sum
-    add-r
-    loop-less
+    (λ c. search needs) (λ c. search needs)
     loop-again
     returns)

@@ -6,24 +6,12 @@ use borrow.Author.Needs.{needs}
 use Rattle.reed_muller.proofs.remainder.radius.Statement.{statement}
 use Rattle.reed_muller.proofs.remainder.radius.Tie as tie
 
-sub-area : tie.Need-sub-area
-sub-area c = search needs
-
-area-requires : tie.Need-area-requires
-area-requires c κs = search needs
-
 returns : tie.Need-returns
 returns c =
     let g = c .before .before .before .before .args .g in
     let m : max (g .a) (g .b) ≡ g .b = omega arith in
     let n : min (g .a) (g .b) ≡ g .a = omega arith in
     rw (m, n) (c .area .ensures)
-
-sub-area-2 : tie.Need-sub-area-2
-sub-area-2 c = search needs
-
-area-requires-2 : tie.Need-area-requires-2
-area-requires-2 c κs = search needs
 
 returns-2 : tie.Need-returns-2
 returns-2 c =
@@ -34,4 +22,9 @@ returns-2 c =
 
 pub radius-spec : {M : Type 1} → statement M
 radius-spec =
-    tie.close (tie.spec sub-area area-requires returns sub-area-2 area-requires-2 returns-2)
+    tie.close
+    (tie.spec
+    (λ c. search needs) (λ c κs. search needs)
+    returns
+    (λ c. search needs) (λ c κs. search needs)
+    returns-2)

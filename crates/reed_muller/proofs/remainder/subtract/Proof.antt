@@ -37,24 +37,6 @@ abbrev μ-loop : tie.MeasureT-loop
 loop-holds : tie.Need-loop-holds Inv-loop μ-loop
 loop-holds c = (refl, omega arith, c .pre .1, record { size = c .pre .1 .size; done = λ j l. absurd (omega arith); todo = λ j _ l. refl })
 
-mul-if1 : tie.Need-mul-if1 Inv-loop μ-loop
-mul-if1 c = omega (arith, c .before .before .pre .0 .rows)
-
-array-read-if1 : tie.Need-array-read-if1 Inv-loop μ-loop
-array-read-if1 c = omega (arith, c .before .before .pre .0 .rows)
-
-mul-row : tie.Need-mul-row Inv-loop μ-loop
-mul-row c = omega (arith, c .before .before .before .pre .0 .rows)
-
-element-copy-out-row : tie.Need-element-copy-out-row Inv-loop μ-loop
-element-copy-out-row c = omega (arith, c .before .before .before .pre .0 .rows)
-
-mul-add-multiple : tie.Need-mul-add-multiple Inv-loop μ-loop
-mul-add-multiple c = omega (arith, c .before .before .before .before .pre .0 .rows)
-
-array-read-add-multiple : tie.Need-array-read-add-multiple Inv-loop μ-loop
-array-read-add-multiple c = omega (arith, c .before .before .before .before .pre .0 .rows)
-
 sub-add-multiple : tie.Need-sub-add-multiple Inv-loop μ-loop
 sub-add-multiple c = omega (arith, c .before .before .before .before .before .pre .2 .small (c .before .before .before .before .loop .r))
 
@@ -64,18 +46,6 @@ add-multiple-requires c κs =
     let l = c .before .before .before .before .loop in
     let f = start .pre .0 in
     (f .reciprocal, l .inv .2 .done (l .r) (omega (arith, f .rows)), start .pre .3, omega arith)
-
-mul-next : tie.Need-mul-next Inv-loop μ-loop
-mul-next c = omega (arith, c .before .before .before .before .before .before .pre .0 .rows)
-
-element-set-from-next : tie.Need-element-set-from-next Inv-loop μ-loop
-element-set-from-next c = omega (arith, c .before .before .before .before .before .before .pre .0 .rows)
-
-add-r : tie.Need-add-r Inv-loop μ-loop
-add-r c = search needs
-
-loop-less : tie.Need-loop-less Inv-loop μ-loop
-loop-less c = search needs
 
 loop-again : tie.Need-loop-again Inv-loop μ-loop
 loop-again c =
@@ -99,17 +69,16 @@ subtract-spec =
     Inv-loop
     μ-loop
     loop-holds
-    mul-if1
-    array-read-if1
-    mul-row
-    element-copy-out-row
-    mul-add-multiple
-    array-read-add-multiple
+    (λ c. omega (arith, c .before .before .pre .0 .rows))
+    (λ c. omega (arith, c .before .before .pre .0 .rows))
+    (λ c. omega (arith, c .before .before .before .pre .0 .rows))
+    (λ c. omega (arith, c .before .before .before .pre .0 .rows))
+    (λ c. omega (arith, c .before .before .before .before .pre .0 .rows))
+    (λ c. omega (arith, c .before .before .before .before .pre .0 .rows))
     sub-add-multiple
     add-multiple-requires
-    mul-next
-    element-set-from-next
-    add-r
-    loop-less
+    (λ c. omega (arith, c .before .before .before .before .before .before .pre .0 .rows))
+    (λ c. omega (arith, c .before .before .before .before .before .before .pre .0 .rows))
+    (λ c. search needs) (λ c. search needs)
     loop-again
     returns)

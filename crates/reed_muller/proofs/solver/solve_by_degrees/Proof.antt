@@ -23,12 +23,6 @@ abbrev μ-loop : tie.MeasureT-loop
 μ-loop g inverses left₀ doubts columns₀ radius messages₀ known₀ untried₀ t₀ left columns messages known untried t =
     t
 
-radius-requires : tie.Need-radius-requires Inv-loop μ-loop
-radius-requires c κs = search needs
-
-add-t : tie.Need-add-t Inv-loop μ-loop
-add-t c = search needs
-
 loop-holds : tie.Need-loop-holds Inv-loop μ-loop
 loop-holds c =
     let start = c .before .before in
@@ -38,9 +32,6 @@ loop-holds c =
       rw (add-one (start .args .g .d))
           (solving-start f (start .pre .1) (start .pre .3) (equal-rows 0 (positive f)) refl (λ r l. getD-replicate 16 r unknown 0 l)),
     )
-
-sub-t : tie.Need-sub-t Inv-loop μ-loop
-sub-t c = search needs
 
 step-requires : tie.Need-step-requires Inv-loop μ-loop
 step-requires c κs =
@@ -93,9 +84,6 @@ returns-2 c =
     let R = c .before .before .before .before .before .from-lines .ensures in
     drawn-solved (solving-drawn (solving-redrawn S R)) (c .before .complete .ensures) (omega (arith, c .if4 .taken, l .inv .0))
 
-loop-less : tie.Need-loop-less Inv-loop μ-loop
-loop-less c = search needs
-
 loop-again : tie.Need-loop-again Inv-loop μ-loop
 loop-again c =
     let found = c .before .before .before .before .before .before .before .before .before .before .before in
@@ -107,9 +95,6 @@ loop-again c =
     let R = c .before .before .before .before .before .from-lines .ensures in
     (l .inv .0, omega arith, rw (c .before .complete .ensures .over (omega (arith, c .if4 .left, l .inv .0))) (solving-redrawn S R))
 
-loop-less-2 : tie.Need-loop-less-2 Inv-loop μ-loop
-loop-less-2 c = search needs
-
 loop-again-2 : tie.Need-loop-again-2 Inv-loop μ-loop
 loop-again-2 c =
     let found = c .before .before .before .before .before .before .before in
@@ -120,9 +105,6 @@ loop-again-2 c =
     let S = solving-next f (omega (arith, e, l .inv .1)) _ _ _ _ _ _ _ (rw e at (l .inv .2)) (found .before .before .step .ensures) (not-false _ (found .if1 .left)) in
     (l .inv .0, omega arith, solving-redrawn S (c .before .from-lines .ensures))
 
-loop-less-3 : tie.Need-loop-less-3 Inv-loop μ-loop
-loop-less-3 c = search needs
-
 loop-again-3 : tie.Need-loop-again-3 Inv-loop μ-loop
 loop-again-3 c =
     let found = c .before .before .before in
@@ -132,9 +114,6 @@ loop-again-3 c =
     let e : l .t ≡ suc (l .t - 1) = omega (arith, found .before .before .before .before .before .loop-test .taken) in
     let S = solving-next f (omega (arith, e, l .inv .1)) _ _ _ _ _ _ _ (rw e at (l .inv .2)) (found .before .before .step .ensures) (not-false _ (found .if1 .left)) in
     (l .inv .0, omega arith, S)
-
-measure-requires : tie.Need-measure-requires Inv-loop μ-loop
-measure-requires c κs = search needs
 
 returns-3 : tie.Need-returns-3 Inv-loop μ-loop
 returns-3 c =
@@ -148,10 +127,9 @@ solve-by-degrees-spec =
     (tie.spec
     Inv-loop
     μ-loop
-    radius-requires
-    add-t
+    (λ c κs. search needs) (λ c. search needs)
     loop-holds
-    sub-t
+    (λ c. search needs)
     step-requires
     returns
     mul-w
@@ -159,11 +137,11 @@ solve-by-degrees-spec =
     from-lines-requires
     complete-requires
     returns-2
-    loop-less
+    (λ c. search needs)
     loop-again
-    loop-less-2
+    (λ c. search needs)
     loop-again-2
-    loop-less-3
+    (λ c. search needs)
     loop-again-3
-    measure-requires
+    (λ c κs. search needs)
     returns-3)

@@ -8,25 +8,10 @@ use borrow.Author.Needs.{needs}
 use Rattle.reed_muller.proofs.solver.step.Statement.{statement}
 use Rattle.reed_muller.proofs.solver.step.Tie as tie
 
-answer-requires : tie.Need-answer-requires
-answer-requires c κs = search needs
-
-place-of-each-requires : tie.Need-place-of-each-requires
-place-of-each-requires c κs = search needs
-
-sub-radius : tie.Need-sub-radius
-sub-radius c = search needs
-
-cast-radius : tie.Need-cast-radius
-cast-radius c = search needs
-
 mul-radius : tie.Need-mul-radius
 mul-radius c =
     let start = c .before .before .before .before .before .before .before in
     omega (arith, line-full (start .args .t) (start .pre .0))
-
-sub-decode : tie.Need-sub-decode
-sub-decode c = search needs
 
 decode-requires : tie.Need-decode-requires
 decode-requires c κs =
@@ -71,12 +56,9 @@ pub step-spec : {M : Type 1} → statement M
 step-spec =
     tie.close
     (tie.spec
-    answer-requires
-    place-of-each-requires
-    sub-radius
-    cast-radius
+    (λ c κs. search needs) (λ c κs. search needs) (λ c. search needs) (λ c. search needs)
     mul-radius
-    sub-decode
+    (λ c. search needs)
     decode-requires
     returns
     power-requires

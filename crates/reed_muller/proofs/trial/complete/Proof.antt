@@ -5,24 +5,12 @@ use borrow.Author.Needs.{needs}
 use Rattle.reed_muller.proofs.trial.complete.Statement.{statement}
 use Rattle.reed_muller.proofs.trial.complete.Tie as tie
 
-powers-requires : tie.Need-powers-requires
-powers-requires c κs = let f = c .before .before .pre .0 in (f .reciprocal, f .rowPoints, omega (arith, f .low, f .rows))
-
-powers-requires-2 : tie.Need-powers-requires-2
-powers-requires-2 c κs = let f = c .before .before .before .pre .0 in (f .reciprocal, f .columnPoints, omega (arith, f .low, f .rows))
-
 subtract-below-requires : tie.Need-subtract-below-requires
 subtract-below-requires c κs =
     let start = c .before .before .before .before .before .before .before .before in
     let xs = c .before .before .before .before .before .powers .ensures in
     let ys = c .before .before .before .before .powers2 .ensures in
     (start .pre .0, start .pre .1, start .pre .2, start .pre .3, xs .0, xs .1, ys .0, ys .1)
-
-measure-requires : tie.Need-measure-requires
-measure-requires c κs = search needs
-
-radius-requires : tie.Need-radius-requires
-radius-requires c κs = search needs
 
 returns : tie.Need-returns
 returns c = record { under = λ l. absurd (omega (arith, c .if1 .taken, c .before .radius .ensures)); over = λ _. refl }
@@ -36,4 +24,10 @@ returns-2 c = record {
 pub complete-spec : {M : Type 1} → statement M
 complete-spec =
     tie.close
-    (tie.spec powers-requires powers-requires-2 subtract-below-requires measure-requires radius-requires returns returns-2)
+    (tie.spec
+    (λ c κs. let f = c .before .before .pre .0 in (f .reciprocal, f .rowPoints, omega (arith, f .low, f .rows)))
+    (λ c κs. let f = c .before .before .before .pre .0 in (f .reciprocal, f .columnPoints, omega (arith, f .low, f .rows)))
+    subtract-below-requires
+    (λ c κs. search needs) (λ c κs. search needs)
+    returns
+    returns-2)

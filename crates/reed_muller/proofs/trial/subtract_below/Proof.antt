@@ -25,18 +25,6 @@ abbrev μ-loop : tie.MeasureT-loop
 loop-holds : tie.Need-loop-holds Inv-loop μ-loop
 loop-holds c = (omega arith, c .pre .3, λ s u D. D)
 
-sub-j : tie.Need-sub-j Inv-loop μ-loop
-sub-j c = search needs
-
-sub-values : tie.Need-sub-values Inv-loop μ-loop
-sub-values c = search needs
-
-mul-values : tie.Need-mul-values Inv-loop μ-loop
-mul-values c = search needs
-
-element-copy-out-values : tie.Need-element-copy-out-values Inv-loop μ-loop
-element-copy-out-values c = search needs
-
 values-requires : tie.Need-values-requires Inv-loop μ-loop
 values-requires c κs =
     let start = c .before .before .before .before in
@@ -44,21 +32,12 @@ values-requires c κs =
     let j = c .before .before .before .loop .j - 1 in
     (f .reciprocal, start .pre .4, start .pre .2 .done j (omega (arith, f .low, f .rows)), omega (arith, f .low, f .rows))
 
-mul-subtract : tie.Need-mul-subtract Inv-loop μ-loop
-mul-subtract c = search needs
-
-element-copy-out-subtract : tie.Need-element-copy-out-subtract Inv-loop μ-loop
-element-copy-out-subtract c = search needs
-
 subtract-requires : tie.Need-subtract-requires Inv-loop μ-loop
 subtract-requires c κs =
     let l = c .before .before .before .before .before .before .loop in
     let start = c .before .before .before .before .before .before .before in
     let f = start .pre .0 in
     (f, l .inv .1, c .before .before .values .ensures .0, start .pre .6 .done (l .j - 1) (omega (arith, f .low, f .rows)))
-
-loop-less : tie.Need-loop-less Inv-loop μ-loop
-loop-less c = search needs
 
 loop-again : tie.Need-loop-again Inv-loop μ-loop
 loop-again c =
@@ -85,14 +64,10 @@ subtract-below-spec =
     Inv-loop
     μ-loop
     loop-holds
-    sub-j
-    sub-values
-    mul-values
-    element-copy-out-values
+    (λ c. search needs) (λ c. search needs) (λ c. search needs) (λ c. search needs)
     values-requires
-    mul-subtract
-    element-copy-out-subtract
+    (λ c. search needs) (λ c. search needs)
     subtract-requires
-    loop-less
+    (λ c. search needs)
     loop-again
     returns)

@@ -4,12 +4,6 @@ use borrow.Author.Needs.{needs}
 use Rattle.reed_solomon.proofs.decoder.attempt.Statement.{statement}
 use Rattle.reed_solomon.proofs.decoder.attempt.Tie as tie
 
-usable-cells-requires : tie.Need-usable-cells-requires
-usable-cells-requires c κs = search needs
-
-marked-requires : tie.Need-marked-requires
-marked-requires c κs = search needs
-
 through-requires : tie.Need-through-requires
 through-requires c κs =
     let start = c .before .before in
@@ -36,8 +30,7 @@ pub attempt-spec : {M : Type 1} → statement M
 attempt-spec =
     tie.close
     (tie.spec
-    usable-cells-requires
-    marked-requires
+    (λ c κs. search needs) (λ c κs. search needs)
     through-requires
     measured-requires
     returns)

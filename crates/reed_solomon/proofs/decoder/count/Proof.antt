@@ -17,29 +17,11 @@ abbrev μ-loop : tie.MeasureT-loop
 loop-holds : tie.Need-loop-holds Inv-loop μ-loop
 loop-holds c = (omega arith, refl, omega arith)
 
-mul-marked : tie.Need-mul-marked Inv-loop μ-loop
-mul-marked c = search needs
-
-array-read-marked : tie.Need-array-read-marked Inv-loop μ-loop
-array-read-marked c = search needs
-
-add-marked : tie.Need-add-marked Inv-loop μ-loop
-add-marked c = omega (arith, c .before .before .pre (c .before .loop .j))
-
-add-j : tie.Need-add-j Inv-loop μ-loop
-add-j c = search needs
-
-loop-less : tie.Need-loop-less Inv-loop μ-loop
-loop-less c = search needs
-
 loop-again : tie.Need-loop-again Inv-loop μ-loop
 loop-again c =
     let l = c .before .loop in
     let v = at (c .before .before .args .t1) in
     (omega arith, omega (arith, sum-more (l .j) v, l .inv .1), omega (arith, c .before .before .pre (l .j)))
-
-cast-result : tie.Need-cast-result Inv-loop μ-loop
-cast-result c = search needs
 
 returns : tie.Need-returns Inv-loop μ-loop
 returns c = let e : c .before .loop .j ≡ 16 = omega arith in rw e at (c .before .loop .inv .1)
@@ -51,11 +33,9 @@ count-spec =
     Inv-loop
     μ-loop
     loop-holds
-    mul-marked
-    array-read-marked
-    add-marked
-    add-j
-    loop-less
+    (λ c. search needs) (λ c. search needs)
+    (λ c. omega (arith, c .before .before .pre (c .before .loop .j)))
+    (λ c. search needs) (λ c. search needs)
     loop-again
-    cast-result
+    (λ c. search needs)
     returns)

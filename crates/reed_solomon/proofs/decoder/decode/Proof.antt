@@ -31,23 +31,11 @@ abbrev μ-levels : tie.MeasureT-levels
 below : (c : tie.In-loop Inv-loop μ-loop Inv-levels μ-levels) → c .before .loop .next < c .before .before .before .before .before .before .before .before .before .before .before .before .before .before .before .before .args .full * 16
 below c = omega (arith, c .loop-test .taken, c .before .before .levels-test .taken)
 
-doubt-sum-requires : tie.Need-doubt-sum-requires Inv-loop μ-loop Inv-levels μ-levels
-doubt-sum-requires c κs = let b = c .pre .0 in (b .4, λ j l. omega (arith, b .8 j l, b .6))
-
-radius-requires : tie.Need-radius-requires Inv-loop μ-loop Inv-levels μ-levels
-radius-requires c κs = let b = c .before .pre .0 in (b .6, omega arith, b .4, omega (arith, b .5))
-
-none-requires : tie.Need-none-requires Inv-loop μ-loop Inv-levels μ-levels
-none-requires c κs = search needs
-
 returns : tie.Need-returns Inv-loop μ-loop Inv-levels μ-levels
 returns c =
     let start = c .before .before .before .before in
     let b = start .pre in
     doubtful-decoded (start .args .u) (b .0) (c .none .ensures) (omega (arith, c .before .before .before .doubt-sum .ensures, c .before .before .radius .ensures .0, c .before .if1 .taken))
-
-keys-requires : tie.Need-keys-requires Inv-loop μ-loop Inv-levels μ-levels
-keys-requires c κs = let b = c .before .before .before .pre .0 in (b .4, λ j l. omega (arith, b .8 j l, b .6))
 
 through-requires : tie.Need-through-requires Inv-loop μ-loop Inv-levels μ-levels
 through-requires c κs =
@@ -113,12 +101,6 @@ levels-again c =
     let start = after-keys .before .before .before .before in
     let l = c .before .loop .inv in
     (l .0, l .1, going-passed (start .args .u) (start .pre .0) (after-keys .keys .ensures) (l .1) (l .2) (omega (arith, l .3, c .loop-test .left)) (c .before .before .before .levels .inv .2))
-
-cast-r : tie.Need-cast-r Inv-loop μ-loop Inv-levels μ-levels
-cast-r c = search needs
-
-without-requires : tie.Need-without-requires Inv-loop μ-loop Inv-levels μ-levels
-without-requires c κs = search needs
 
 least-requires-2 : tie.Need-least-requires-2 Inv-loop μ-loop Inv-levels μ-levels
 least-requires-2 c κs =
@@ -239,11 +221,11 @@ decode-spec =
     μ-loop
     Inv-levels
     μ-levels
-    doubt-sum-requires
-    radius-requires
-    none-requires
+    (λ c κs. let b = c .pre .0 in (b .4, λ j l. omega (arith, b .8 j l, b .6)))
+    (λ c κs. let b = c .before .pre .0 in (b .6, omega arith, b .4, omega (arith, b .5)))
+    (λ c κs. search needs)
     returns
-    keys-requires
+    (λ c κs. let b = c .before .before .before .pre .0 in (b .4, λ j l. omega (arith, b .8 j l, b .6)))
     through-requires
     measured-requires
     returns-2
@@ -254,8 +236,7 @@ decode-spec =
     loop-holds
     levels-less
     levels-again
-    cast-r
-    without-requires
+    (λ c. search needs) (λ c κs. search needs)
     least-requires-2
     enter-requires
     hopeful-requires

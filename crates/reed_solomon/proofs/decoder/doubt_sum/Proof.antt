@@ -16,22 +16,10 @@ abbrev μ-loop : tie.MeasureT-loop
 loop-holds : tie.Need-loop-holds Inv-loop μ-loop
 loop-holds c = (omega arith, refl, omega arith)
 
-mul-doubts : tie.Need-mul-doubts Inv-loop μ-loop
-mul-doubts c = omega (arith, c .before .before .pre .0)
-
-array-read-doubts : tie.Need-array-read-doubts Inv-loop μ-loop
-array-read-doubts c = omega (arith, c .before .before .pre .0)
-
 add-doubts : tie.Need-add-doubts Inv-loop μ-loop
 add-doubts c =
     let start = c .before .before in
     omega (arith, start .pre .0, start .pre .1 (c .before .loop .j) (c .loop-test .taken))
-
-add-j : tie.Need-add-j Inv-loop μ-loop
-add-j c = omega (arith, c .before .before .pre .0)
-
-loop-less : tie.Need-loop-less Inv-loop μ-loop
-loop-less c = omega arith
 
 loop-again : tie.Need-loop-again Inv-loop μ-loop
 loop-again c =
@@ -53,10 +41,10 @@ doubt-sum-spec =
     Inv-loop
     μ-loop
     loop-holds
-    mul-doubts
-    array-read-doubts
+    (λ c. omega (arith, c .before .before .pre .0))
+    (λ c. omega (arith, c .before .before .pre .0))
     add-doubts
-    add-j
-    loop-less
+    (λ c. omega (arith, c .before .before .pre .0))
+    (λ c. omega arith)
     loop-again
     returns)

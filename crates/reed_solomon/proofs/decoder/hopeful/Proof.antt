@@ -9,14 +9,8 @@ use borrow.Author.Needs.{needs}
 use Rattle.reed_solomon.proofs.decoder.hopeful.Statement.{statement}
 use Rattle.reed_solomon.proofs.decoder.hopeful.Tie as tie
 
-add-if1 : tie.Need-add-if1
-add-if1 c = let b = c .pre in omega (arith, b .0, b .1, b .4)
-
 returns : tie.Need-returns
 returns c = λ d1 e1. record { yes = λ e. absurd (false≢true e); no = λ _ p m x s R H. refuted-low (c .before .args .u) R H (c .if1 .taken) }
-
-usable-cells-requires : tie.Need-usable-cells-requires
-usable-cells-requires c κs = search needs
 
 count-requires : tie.Need-count-requires
 count-requires c κs =
@@ -30,15 +24,6 @@ returns-2 c =
       yes = λ e. absurd (false≢true e);
       no = λ _ p m x s R H. refuted-count (start .args .u) R H λ e. c .if2 .taken (c .before .count .ensures ∙ usable-sum (at (start .args .entered)) (at (start .args .e)) (c .before .before .usable-cells .ensures) ∙ e);
     }
-
-suspect-cells-requires : tie.Need-suspect-cells-requires
-suspect-cells-requires c κs = search needs
-
-word-cost-requires : tie.Need-word-cost-requires
-word-cost-requires c κs = let b = c .before .before .before .before .before .pre in (b .0, b .3, b .2)
-
-radius-requires : tie.Need-radius-requires
-radius-requires c κs = let b = c .before .before .before .before .before .before .pre in (b .2, omega arith, b .0, omega (arith, b .1))
 
 returns-3 : tie.Need-returns-3
 returns-3 c =
@@ -58,12 +43,12 @@ pub hopeful-spec : {M : Type 1} → statement M
 hopeful-spec =
     tie.close
     (tie.spec
-    add-if1
+    (λ c. let b = c .pre in omega (arith, b .0, b .1, b .4))
     returns
-    usable-cells-requires
+    (λ c κs. search needs)
     count-requires
     returns-2
-    suspect-cells-requires
-    word-cost-requires
-    radius-requires
+    (λ c κs. search needs)
+    (λ c κs. let b = c .before .before .before .before .before .pre in (b .0, b .3, b .2))
+    (λ c κs. let b = c .before .before .before .before .before .before .pre in (b .2, omega arith, b .0, omega (arith, b .1)))
     returns-3)

@@ -7,15 +7,6 @@ use borrow.Author.Needs.{needs}
 use Rattle.reed_solomon.proofs.decoder.measured.Statement.{statement}
 use Rattle.reed_solomon.proofs.decoder.measured.Tie as tie
 
-word-cost-requires : tie.Need-word-cost-requires
-word-cost-requires c κs = let b = c .before .pre in (b .3, b .6, b .5)
-
-radius-requires : tie.Need-radius-requires
-radius-requires c κs = let b = c .before .before .pre in (b .5, omega arith, b .3, omega (arith, b .4))
-
-none-requires : tie.Need-none-requires
-none-requires c κs = search needs
-
 returns : tie.Need-returns
 returns c =
     record {
@@ -40,9 +31,9 @@ pub measured-spec : {M : Type 1} → statement M
 measured-spec =
     tie.close
     (tie.spec
-    word-cost-requires
-    radius-requires
-    none-requires
+    (λ c κs. let b = c .before .pre in (b .3, b .6, b .5))
+    (λ c κs. let b = c .before .before .pre in (b .5, omega arith, b .3, omega (arith, b .4)))
+    (λ c κs. search needs)
     returns
     coefficients-requires
     add-multiple-requires

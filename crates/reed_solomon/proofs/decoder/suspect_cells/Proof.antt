@@ -20,33 +20,6 @@ abbrev μ-loop : tie.MeasureT-loop
 loop-holds : tie.Need-loop-holds Inv-loop μ-loop
 loop-holds c = (omega arith, upto-start refl)
 
-mul-chosen : tie.Need-mul-chosen Inv-loop μ-loop
-mul-chosen c = search needs
-
-array-read-chosen : tie.Need-array-read-chosen Inv-loop μ-loop
-array-read-chosen c = search needs
-
-mul-chosen-2 : tie.Need-mul-chosen-2 Inv-loop μ-loop
-mul-chosen-2 c = search needs
-
-array-read-chosen-2 : tie.Need-array-read-chosen-2 Inv-loop μ-loop
-array-read-chosen-2 c = search needs
-
-chosen-requires : tie.Need-chosen-requires Inv-loop μ-loop
-chosen-requires c κs = search needs
-
-mul-out : tie.Need-mul-out Inv-loop μ-loop
-mul-out c = search needs
-
-array-write-out : tie.Need-array-write-out Inv-loop μ-loop
-array-write-out c = search needs
-
-add-j : tie.Need-add-j Inv-loop μ-loop
-add-j c = search needs
-
-loop-less : tie.Need-loop-less Inv-loop μ-loop
-loop-less c = search needs
-
 loop-again : tie.Need-loop-again Inv-loop μ-loop
 loop-again c = (omega arith, upto-step (c .chosen .result) (omega arith) (c .chosen .ensures) (c .before .before .loop .inv .1))
 
@@ -60,14 +33,7 @@ suspect-cells-spec =
     Inv-loop
     μ-loop
     loop-holds
-    mul-chosen
-    array-read-chosen
-    mul-chosen-2
-    array-read-chosen-2
-    chosen-requires
-    mul-out
-    array-write-out
-    add-j
-    loop-less
+    (λ c. search needs) (λ c. search needs) (λ c. search needs) (λ c. search needs) (λ c κs. search needs) (λ c. search needs)
+    (λ c. search needs) (λ c. search needs) (λ c. search needs)
     loop-again
     returns)

@@ -7,15 +7,6 @@ use borrow.Author.Needs.{needs}
 use Rattle.traymark.proofs.checks.cell_count.Statement.{statement}
 use Rattle.traymark.proofs.checks.cell_count.Tie as tie
 
-shared-slice-read-n : tie.Need-shared-slice-read-n
-shared-slice-read-n c = search needs
-
-cast-n : tie.Need-cast-n
-cast-n c = search needs
-
-mul-result : tie.Need-mul-result
-mul-result c = let h : side (c .before .before .args .plan .now) ≤ 16 = c .before .before .pre .1 in omega (arith, mul-le-mul h h)
-
 returns : tie.Need-returns
 returns c = rw (c .if1 .taken)
 
@@ -23,4 +14,10 @@ returns-2 : tie.Need-returns-2
 returns-2 c = rw (c .if1 .left)
 
 pub cell-count-spec : {M : Type 1} → statement M
-cell-count-spec = tie.close (tie.spec shared-slice-read-n cast-n mul-result returns returns-2)
+cell-count-spec =
+    tie.close
+    (tie.spec
+    (λ c. search needs) (λ c. search needs)
+    (λ c. let h : side (c .before .before .args .plan .now) ≤ 16 = c .before .before .pre .1 in omega (arith, mul-le-mul h h))
+    returns
+    returns-2)

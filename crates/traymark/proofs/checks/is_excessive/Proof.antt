@@ -17,15 +17,6 @@ abbrev μ-loop : tie.MeasureT-loop
 loop-holds : tie.Need-loop-holds Inv-loop μ-loop
 loop-holds c = (omega arith, sym (any-start _))
 
-shared-slice-read-found : tie.Need-shared-slice-read-found Inv-loop μ-loop
-shared-slice-read-found c = search needs
-
-add-c : tie.Need-add-c Inv-loop μ-loop
-add-c c = search needs
-
-loop-less : tie.Need-loop-less Inv-loop μ-loop
-loop-less c = search needs
-
 loop-again : tie.Need-loop-again Inv-loop μ-loop
 loop-again c = (omega arith, any-next _ _ (c .before .before .loop .inv .1) refl)
 
@@ -39,8 +30,6 @@ is-excessive-spec =
     Inv-loop
     μ-loop
     loop-holds
-    shared-slice-read-found
-    add-c
-    loop-less
+    (λ c. search needs) (λ c. search needs) (λ c. search needs)
     loop-again
     returns)

@@ -17,21 +17,9 @@ abbrev μ-loop : tie.MeasureT-loop
 loop-holds : tie.Need-loop-holds Inv-loop μ-loop
 loop-holds c = (omega arith, sym (any-start _))
 
-shared-slice-read-is-half-read-cell : tie.Need-shared-slice-read-is-half-read-cell Inv-loop μ-loop
-shared-slice-read-is-half-read-cell c = search needs
-
 shared-slice-read-is-half-read-cell-2 :
     tie.Need-shared-slice-read-is-half-read-cell-2 Inv-loop μ-loop
 shared-slice-read-is-half-read-cell-2 c = search needs
-
-is-half-read-cell-requires : tie.Need-is-half-read-cell-requires Inv-loop μ-loop
-is-half-read-cell-requires c κs = search needs
-
-add-c : tie.Need-add-c Inv-loop μ-loop
-add-c c = search needs
-
-loop-less : tie.Need-loop-less Inv-loop μ-loop
-loop-less c = search needs
 
 loop-again : tie.Need-loop-again Inv-loop μ-loop
 loop-again c = (omega arith, any-next _ _ (c .before .before .before .before .loop .inv .1) (c .is-half-read-cell .ensures))
@@ -46,10 +34,8 @@ is-half-read-spec =
     Inv-loop
     μ-loop
     loop-holds
-    shared-slice-read-is-half-read-cell
+    (λ c. search needs)
     shared-slice-read-is-half-read-cell-2
-    is-half-read-cell-requires
-    add-c
-    loop-less
+    (λ c κs. search needs) (λ c. search needs) (λ c. search needs)
     loop-again
     returns)

@@ -14,20 +14,8 @@ Inv-loop plan «record» n p found₀ k₀ found k = (k ≤ n) × (found ≡ ove
 abbrev μ-loop : tie.MeasureT-loop
 μ-loop plan «record» n p found₀ k₀ found k = n - k
 
-shared-slice-read-p : tie.Need-shared-slice-read-p Inv-loop μ-loop
-shared-slice-read-p c = search needs
-
 loop-holds : tie.Need-loop-holds Inv-loop μ-loop
 loop-holds c = (omega arith, sym (any-start _))
-
-shared-slice-read-found : tie.Need-shared-slice-read-found Inv-loop μ-loop
-shared-slice-read-found c = search needs
-
-add-k : tie.Need-add-k Inv-loop μ-loop
-add-k c = search needs
-
-loop-less : tie.Need-loop-less Inv-loop μ-loop
-loop-less c = search needs
 
 loop-again : tie.Need-loop-again Inv-loop μ-loop
 loop-again c = (omega arith, any-next _ _ (c .before .before .loop .inv .1) refl)
@@ -41,10 +29,8 @@ is-overflowing-spec =
     (tie.spec
     Inv-loop
     μ-loop
-    shared-slice-read-p
+    (λ c. search needs)
     loop-holds
-    shared-slice-read-found
-    add-k
-    loop-less
+    (λ c. search needs) (λ c. search needs) (λ c. search needs)
     loop-again
     returns)

@@ -14,23 +14,8 @@ Inv-loop plan symbols n p found₀ c₀ found c = (c ≤ n) × (found ≡ strang
 abbrev μ-loop : tie.MeasureT-loop
 μ-loop plan symbols n p found₀ c₀ found c = n - c
 
-shared-slice-read-p : tie.Need-shared-slice-read-p Inv-loop μ-loop
-shared-slice-read-p c = search needs
-
 loop-holds : tie.Need-loop-holds Inv-loop μ-loop
 loop-holds c = (omega arith, sym (any-start _))
-
-shared-slice-read-is-strange-symbol : tie.Need-shared-slice-read-is-strange-symbol Inv-loop μ-loop
-shared-slice-read-is-strange-symbol c = search needs
-
-is-strange-symbol-requires : tie.Need-is-strange-symbol-requires Inv-loop μ-loop
-is-strange-symbol-requires c κs = search needs
-
-add-c : tie.Need-add-c Inv-loop μ-loop
-add-c c = search needs
-
-loop-less : tie.Need-loop-less Inv-loop μ-loop
-loop-less c = search needs
 
 loop-again : tie.Need-loop-again Inv-loop μ-loop
 loop-again c = (omega arith, any-next _ _ (c .before .before .before .loop .inv .1) (c .is-strange-symbol .ensures))
@@ -44,11 +29,8 @@ is-strange-spec =
     (tie.spec
     Inv-loop
     μ-loop
-    shared-slice-read-p
+    (λ c. search needs)
     loop-holds
-    shared-slice-read-is-strange-symbol
-    is-strange-symbol-requires
-    add-c
-    loop-less
+    (λ c. search needs) (λ c κs. search needs) (λ c. search needs) (λ c. search needs)
     loop-again
     returns)

@@ -8,14 +8,8 @@ use borrow.Author.Needs.{needs}
 use Rattle.traymark.proofs.checks.measure_number.Statement.{statement}
 use Rattle.traymark.proofs.checks.measure_number.Tie as tie
 
-photo-number-requires : tie.Need-photo-number-requires
-photo-number-requires c κs = search needs
-
 returns : tie.Need-returns
 returns c = measure-refused _ _ _ _ _ _ (c .before .photo-number .ensures) (c .if1 .taken)
-
-is-overflowing-requires : tie.Need-is-overflowing-requires
-is-overflowing-requires c κs = (sound _ (accepted-photo _ _ _ _ _ (sym (c .before .photo-number .ensures) ∙ c .if1 .left) .sound) .whole, refl)
 
 returns-2 : tie.Need-returns-2
 returns-2 c =
@@ -31,4 +25,10 @@ returns-3 c =
 
 pub measure-number-spec : {M : Type 1} → statement M
 measure-number-spec =
-    tie.close (tie.spec photo-number-requires returns is-overflowing-requires returns-2 returns-3)
+    tie.close
+    (tie.spec
+    (λ c κs. search needs)
+    returns
+    (λ c κs. (sound _ (accepted-photo _ _ _ _ _ (sym (c .before .photo-number .ensures) ∙ c .if1 .left) .sound) .whole, refl))
+    returns-2
+    returns-3)

@@ -10,14 +10,8 @@ use Rattle.traymark.proofs.checks.photo_number.Tie as tie
 
 ruleset tests = (answered, equal, unequal)
 
-check-requires : tie.Need-check-requires
-check-requires c κs = search needs
-
 returns : tie.Need-returns
 returns c = photo-refused _ _ _ _ _ _ (c .before .check .ensures) (c .if1 .taken)
-
-cell-count-requires : tie.Need-cell-count-requires
-cell-count-requires c κs = let s = sound _ (sym (c .before .check .ensures) ∙ c .if1 .left) in (s .whole, s .most)
 
 returns-2 : tie.Need-returns-2
 returns-2 c = photo-at _ _ _ _ _ 0 (c .before .before .before .check .ensures) (c .before .before .if1 .left) (c .before .cell-count .ensures) refl (search tests depth 16)
@@ -38,14 +32,8 @@ is-strange-requires c κs =
 returns-5 : tie.Need-returns-5
 returns-5 c = photo-at _ _ _ _ _ 3 (c .before .before .before .before .before .before .before .before .check .ensures) (c .before .before .before .before .before .before .before .if1 .left) (c .before .before .before .before .before .before .cell-count .ensures) (c .before .before .before .record-size .ensures) (search tests depth 16)
 
-is-excessive-requires : tie.Need-is-excessive-requires
-is-excessive-requires c κs = search needs
-
 returns-6 : tie.Need-returns-6
 returns-6 c = photo-at _ _ _ _ _ 4 (c .before .before .before .before .before .before .before .before .before .before .check .ensures) (c .before .before .before .before .before .before .before .before .before .if1 .left) (c .before .before .before .before .before .before .before .before .cell-count .ensures) (c .before .before .before .before .before .record-size .ensures) (search tests depth 16)
-
-is-half-read-requires : tie.Need-is-half-read-requires
-is-half-read-requires c κs = search needs
 
 returns-7 : tie.Need-returns-7
 returns-7 c = photo-at _ _ _ _ _ 5 (c .before .before .before .before .before .before .before .before .before .before .before .before .check .ensures) (c .before .before .before .before .before .before .before .before .before .before .before .if1 .left) (c .before .before .before .before .before .before .before .before .before .before .cell-count .ensures) (c .before .before .before .before .before .before .before .record-size .ensures) (search tests depth 16)
@@ -57,17 +45,17 @@ pub photo-number-spec : {M : Type 1} → statement M
 photo-number-spec =
     tie.close
     (tie.spec
-    check-requires
+    (λ c κs. search needs)
     returns
-    cell-count-requires
+    (λ c κs. let s = sound _ (sym (c .before .check .ensures) ∙ c .if1 .left) in (s .whole, s .most))
     returns-2
     returns-3
     record-size-requires
     returns-4
     is-strange-requires
     returns-5
-    is-excessive-requires
+    (λ c κs. search needs)
     returns-6
-    is-half-read-requires
+    (λ c κs. search needs)
     returns-7
     returns-8)

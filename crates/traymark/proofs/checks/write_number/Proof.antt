@@ -10,14 +10,8 @@ use Rattle.traymark.proofs.checks.write_number.Tie as tie
 
 ruleset tests = (answered, equal, unequal)
 
-check-requires : tie.Need-check-requires
-check-requires c κs = search needs
-
 returns : tie.Need-returns
 returns c = write-refused _ _ _ _ _ (c .before .check .ensures) (c .if1 .taken)
-
-record-size-requires : tie.Need-record-size-requires
-record-size-requires c κs = let s = sound _ (sym (c .before .check .ensures) ∙ c .if1 .left) in (s .whole, omega (arith, s .low, s .most))
 
 returns-2 : tie.Need-returns-2
 returns-2 c = write-at _ _ _ _ 0 (c .before .before .before .check .ensures) (c .before .before .if1 .left) refl (c .before .record-size .ensures) (search tests depth 16)
@@ -42,9 +36,9 @@ pub write-number-spec : {M : Type 1} → statement M
 write-number-spec =
     tie.close
     (tie.spec
-    check-requires
+    (λ c κs. search needs)
     returns
-    record-size-requires
+    (λ c κs. let s = sound _ (sym (c .before .check .ensures) ∙ c .if1 .left) in (s .whole, omega (arith, s .low, s .most)))
     returns-2
     cell-count-requires
     returns-3

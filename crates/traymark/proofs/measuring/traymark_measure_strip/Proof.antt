@@ -7,17 +7,8 @@ use borrow.Author.Needs.{needs}
 use Rattle.traymark.proofs.measuring.traymark_measure_strip.Statement.{statement}
 use Rattle.traymark.proofs.measuring.traymark_measure_strip.Tie as tie
 
-measure-number-requires : tie.Need-measure-number-requires
-measure-number-requires c κs = search needs
-
-refused-requires : tie.Need-refused-requires
-refused-requires c κs = search needs
-
 returns : tie.Need-returns
 returns c = c .refused .ensures ∙ measure-refuses _ _ _ _ _ (c .before .before .measure-number .ensures) (c .before .if1 .taken)
-
-measure-strip-requires : tie.Need-measure-strip-requires
-measure-strip-requires c κs = accepted-measuring _ _ _ _ _ (sym (c .before .measure-number .ensures) ∙ c .if1 .left)
 
 returns-2 : tie.Need-returns-2
 returns-2 c = c .measure-strip .ensures ∙ measure-gives _ _ _ _ _ (c .before .before .measure-number .ensures) (c .before .if1 .left)
@@ -25,4 +16,8 @@ returns-2 c = c .measure-strip .ensures ∙ measure-gives _ _ _ _ _ (c .before .
 pub traymark-measure-strip-spec : {M : Type 1} → statement M
 traymark-measure-strip-spec =
     tie.close
-    (tie.spec measure-number-requires refused-requires returns measure-strip-requires returns-2)
+    (tie.spec
+    (λ c κs. search needs) (λ c κs. search needs)
+    returns
+    (λ c κs. accepted-measuring _ _ _ _ _ (sym (c .before .measure-number .ensures) ∙ c .if1 .left))
+    returns-2)

@@ -6,20 +6,8 @@ use borrow.Author.Needs.{needs}
 use Rattle.traymark.proofs.writing.traymark_write_strip.Statement.{statement}
 use Rattle.traymark.proofs.writing.traymark_write_strip.Tie as tie
 
-write-number-requires : tie.Need-write-number-requires
-write-number-requires c κs = search needs
-
-same-length : tie.Need-same-length
-same-length c = search needs
-
 returns : tie.Need-returns
 returns c = (c .before .write-number .ensures, write-keeps _ _ _ _ (c .before .write-number .ensures) (c .if1 .taken))
-
-write-strip-requires : tie.Need-write-strip-requires
-write-strip-requires c κs = accepted-writing _ _ _ _ (sym (c .before .before .write-number .ensures) ∙ c .before .if1 .left)
-
-same-length-2 : tie.Need-same-length-2
-same-length-2 c = search needs
 
 returns-2 : tie.Need-returns-2
 returns-2 c =
@@ -29,9 +17,8 @@ pub traymark-write-strip-spec : {M : Type 1} → statement M
 traymark-write-strip-spec =
     tie.close
     (tie.spec
-    write-number-requires
-    same-length
+    (λ c κs. search needs) (λ c. search needs)
     returns
-    write-strip-requires
-    same-length-2
+    (λ c κs. accepted-writing _ _ _ _ (sym (c .before .before .write-number .ensures) ∙ c .before .if1 .left))
+    (λ c. search needs)
     returns-2)

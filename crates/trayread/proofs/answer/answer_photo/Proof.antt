@@ -76,16 +76,10 @@ answer-photo-spec =
     (λ c. let m = plan (c .before .before .before .before .before) .most in omega (arith, mul-le-mul m m))
     (λ c. let m = plan (c .before .before .before .before .before) .most in omega (arith, mul-le-mul m m))
     (λ c. let m = plan (c .before .before .before .before .before) .most in omega (arith, mul-le-mul m m))
-    (λ c κs. search needs)
-    (λ c. search needs)
+    (λ c κs. search needs) (λ c. search needs)
     returns
     (λ c κs. let p = plan (c .before .before .before .before .before .before) in omega (arith, p .low, p .most))
-    (λ c. search needs)
-    (λ c. search needs)
-    (λ c. search needs)
-    (λ c. search needs)
-    (λ c. search needs)
-    (λ c. search needs)
+    (λ c. search needs) (λ c. search needs) (λ c. search needs) (λ c. search needs) (λ c. search needs) (λ c. search needs)
     (λ c.
     let t = c .before .before in
     omega (arith, t .start .ensures, size-most (t .before .before .before .before .before .before .before)))

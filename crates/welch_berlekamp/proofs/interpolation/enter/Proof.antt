@@ -19,39 +19,6 @@ inside c = omega (arith, c .pre .3 .small (c .args .r))
 differences : (c : tie.After-shift) → Row (c .before .args .p) (c .shift .result)
 differences c = result-row _ (positive (c .before)) (c .shift .ensures)
 
-mul-entered : tie.Need-mul-entered
-mul-entered c = search needs
-
-element-write-entered : tie.Need-element-write-entered
-element-write-entered c = search needs
-
-mul-shift : tie.Need-mul-shift
-mul-shift c = search needs
-
-array-read-shift : tie.Need-array-read-shift
-array-read-shift c = search needs
-
-sub-shift : tie.Need-sub-shift
-sub-shift c = inside c
-
-shift-requires : tie.Need-shift-requires
-shift-requires c κs = search needs
-
-mul-v1 : tie.Need-mul-v1
-mul-v1 c = search needs
-
-element-copy-out-v1 : tie.Need-element-copy-out-v1
-element-copy-out-v1 c = search needs
-
-mul-v2 : tie.Need-mul-v2
-mul-v2 c = search needs
-
-element-copy-out-v2 : tie.Need-element-copy-out-v2
-element-copy-out-v2 c = search needs
-
-add-if1 : tie.Need-add-if1
-add-if1 c = omega (arith, c .before .before .before .before .before .pre .5, c .before .before .before .before .before .pre .6)
-
 multiply-requires : tie.Need-multiply-requires
 multiply-requires c κs =
     let after-shift = c .before .before .before .before .before .before .before in
@@ -63,9 +30,6 @@ multiply-requires-2 c κs =
     let after-shift = c .before .before .before .before .before .before .before .before .before in
     let b = after-shift .before .pre in
     (b .0, b .2 .e2, differences after-shift)
-
-add-b : tie.Need-add-b
-add-b c = omega (arith, c .before .before .before .before .before .before .before .before .before .before .before .pre .6)
 
 returns : tie.Need-returns
 returns c =
@@ -116,9 +80,6 @@ multiply-requires-4 c κs =
     let b = after-shift .before .pre in
     (b .0, b .2 .e1, differences after-shift)
 
-add-a-2 : tie.Need-add-a-2
-add-a-2 c = omega (arith, c .before .before .before .before .before .before .before .before .before .before .before .pre .6)
-
 returns-3 : tie.Need-returns-3
 returns-3 c =
     let after-test = c .before .before .before .before in
@@ -160,20 +121,13 @@ pub enter-spec : {M : Type 1} → statement M
 enter-spec =
     tie.close
     (tie.spec
-    mul-entered
-    element-write-entered
-    mul-shift
-    array-read-shift
-    sub-shift
-    shift-requires
-    mul-v1
-    element-copy-out-v1
-    mul-v2
-    element-copy-out-v2
-    add-if1
+    (λ c. search needs) (λ c. search needs) (λ c. search needs) (λ c. search needs)
+    (λ c. inside c)
+    (λ c κs. search needs) (λ c. search needs) (λ c. search needs) (λ c. search needs) (λ c. search needs)
+    (λ c. omega (arith, c .before .before .before .before .before .pre .5, c .before .before .before .before .before .pre .6))
     multiply-requires
     multiply-requires-2
-    add-b
+    (λ c. omega (arith, c .before .before .before .before .before .before .before .before .before .before .before .pre .6))
     returns
     ratio-requires
     advance-requires
@@ -182,7 +136,7 @@ enter-spec =
     returns-2
     multiply-requires-3
     multiply-requires-4
-    add-a-2
+    (λ c. omega (arith, c .before .before .before .before .before .before .before .before .before .before .before .pre .6))
     returns-3
     ratio-requires-2
     advance-requires-3

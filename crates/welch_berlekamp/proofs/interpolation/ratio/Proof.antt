@@ -7,24 +7,12 @@ use borrow.Author.Needs.{needs}
 use Rattle.welch_berlekamp.proofs.interpolation.ratio.Statement.{statement}
 use Rattle.welch_berlekamp.proofs.interpolation.ratio.Tie as tie
 
-sub-reduce : tie.Need-sub-reduce
-sub-reduce c = search needs
-
-mul-reduce : tie.Need-mul-reduce
-mul-reduce c = search needs
-
-element-copy-out-reduce : tie.Need-element-copy-out-reduce
-element-copy-out-reduce c = omega (arith, c .pre .1 .size, c .pre .0 .most)
-
 mul-reduce-2 : tie.Need-mul-reduce-2
 mul-reduce-2 c =
     let start = c .before in
     let a = start .args in
     let low : a .p - a .a ≤ a .p = omega arith in
     omega (arith, product-fits (start .pre .0 .most) low (start .pre .1 .each (a .b) (start .pre .3) (start .pre .4) .below))
-
-reduce-requires : tie.Need-reduce-requires
-reduce-requires c κs = search needs
 
 returns : tie.Need-returns
 returns c =
@@ -35,9 +23,8 @@ pub ratio-spec : {M : Type 1} → statement M
 ratio-spec =
     tie.close
     (tie.spec
-    sub-reduce
-    mul-reduce
-    element-copy-out-reduce
+    (λ c. search needs) (λ c. search needs)
+    (λ c. omega (arith, c .pre .1 .size, c .pre .0 .most))
     mul-reduce-2
-    reduce-requires
+    (λ c κs. search needs)
     returns)

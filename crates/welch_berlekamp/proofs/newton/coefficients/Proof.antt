@@ -33,35 +33,8 @@ product-small c =
     let low : a .p - at (a .t2) (at-loop .loop .i - 1) ≤ a .p = omega arith in
     product-fits (at-loop .before .pre .0 .most) low (c .before .loop2 .inv .1 .row .small (c .before .loop2 .j + 1))
 
-add-i : tie.Need-add-i Inv-loop2 μ-loop2 Inv-loop μ-loop
-add-i c = search needs
-
 loop-holds : tie.Need-loop-holds Inv-loop2 μ-loop2 Inv-loop μ-loop
 loop-holds c = (omega arith, horner-start (omega (arith, c .pre .0 .least)))
-
-sub-i : tie.Need-sub-i Inv-loop2 μ-loop2 Inv-loop μ-loop
-sub-i c = search needs
-
-mul-a : tie.Need-mul-a Inv-loop2 μ-loop2 Inv-loop μ-loop
-mul-a c = omega (arith, c .before .loop .inv .0, c .before .before .pre .3)
-
-array-read-a : tie.Need-array-read-a Inv-loop2 μ-loop2 Inv-loop μ-loop
-array-read-a c = omega (arith, c .before .loop .inv .0, c .before .before .pre .3)
-
-mul-a-2 : tie.Need-mul-a-2 Inv-loop2 μ-loop2 Inv-loop μ-loop
-mul-a-2 c = omega (arith, c .before .loop .inv .0, c .before .before .pre .3)
-
-array-write-a : tie.Need-array-write-a Inv-loop2 μ-loop2 Inv-loop μ-loop
-array-write-a c = omega (arith, c .before .loop .inv .0, c .before .before .pre .3)
-
-mul-c : tie.Need-mul-c Inv-loop2 μ-loop2 Inv-loop μ-loop
-mul-c c = omega (arith, c .before .loop .inv .0, c .before .before .pre .3)
-
-array-read-c : tie.Need-array-read-c Inv-loop2 μ-loop2 Inv-loop μ-loop
-array-read-c c = omega (arith, c .before .loop .inv .0, c .before .before .pre .3)
-
-sub-c : tie.Need-sub-c Inv-loop2 μ-loop2 Inv-loop μ-loop
-sub-c c = omega (arith, c .before .before .pre .2 .small (c .before .loop .i - 1))
 
 loop2-holds : tie.Need-loop2-holds Inv-loop2 μ-loop2 Inv-loop μ-loop
 loop2-holds c =
@@ -69,9 +42,6 @@ loop2-holds c =
     let b = c .before .before .pre in
     let i : l .i - 1 < 16 = omega (arith, l .inv .0, b .3) in
     (omega (arith, l .inv .0), moved-start (set-row (l .i - 1) _ i (b .1 .small (l .i - 1)) (l .inv .1 .row)))
-
-loop-less : tie.Need-loop-less Inv-loop2 μ-loop2 Inv-loop μ-loop
-loop-less c = omega (arith, c .before .before .loop-test .taken)
 
 loop-again : tie.Need-loop-again Inv-loop2 μ-loop2 Inv-loop μ-loop
 loop-again c =
@@ -89,43 +59,10 @@ loop-again c =
     let small : at (a .t2) (l .i - 1) ≤ a .p = omega (arith, b .2 .small (l .i - 1)) in
     (omega (arith, l .inv .0), horner-step pos (b .3) here small H (rw d at (at-loop2 .loop2 .inv .1)))
 
-mul-reduce : tie.Need-mul-reduce Inv-loop2 μ-loop2 Inv-loop μ-loop
-mul-reduce c = omega (arith, c .loop2-test .taken, c .before .before .before .before .pre .3)
-
-array-read-reduce : tie.Need-array-read-reduce Inv-loop2 μ-loop2 Inv-loop μ-loop
-array-read-reduce c = omega (arith, c .loop2-test .taken, c .before .before .before .before .pre .3)
-
-add-reduce : tie.Need-add-reduce Inv-loop2 μ-loop2 Inv-loop μ-loop
-add-reduce c = omega (arith, c .loop2-test .taken, c .before .before .before .before .pre .3)
-
-mul-reduce-2 : tie.Need-mul-reduce-2 Inv-loop2 μ-loop2 Inv-loop μ-loop
-mul-reduce-2 c = omega (arith, c .loop2-test .taken, c .before .before .before .before .pre .3)
-
-array-read-reduce-2 : tie.Need-array-read-reduce-2 Inv-loop2 μ-loop2 Inv-loop μ-loop
-array-read-reduce-2 c = omega (arith, c .loop2-test .taken, c .before .before .before .before .pre .3)
-
-mul-reduce-3 : tie.Need-mul-reduce-3 Inv-loop2 μ-loop2 Inv-loop μ-loop
-mul-reduce-3 c = omega (arith, product-small c)
-
 add-reduce-2 : tie.Need-add-reduce-2 Inv-loop2 μ-loop2 Inv-loop μ-loop
 add-reduce-2 c =
     let l = c .before .loop2 in
     omega (arith, product-small c, l .inv .1 .row .small (l .j), c .before .before .before .before .pre .0 .most)
-
-reduce-requires : tie.Need-reduce-requires Inv-loop2 μ-loop2 Inv-loop μ-loop
-reduce-requires c κs = c .before .before .before .before .pre .0
-
-mul-a-3 : tie.Need-mul-a-3 Inv-loop2 μ-loop2 Inv-loop μ-loop
-mul-a-3 c = omega (arith, c .before .loop2-test .taken, c .before .before .before .before .before .pre .3)
-
-array-write-a-2 : tie.Need-array-write-a-2 Inv-loop2 μ-loop2 Inv-loop μ-loop
-array-write-a-2 c = omega (arith, c .before .loop2-test .taken, c .before .before .before .before .before .pre .3)
-
-add-j : tie.Need-add-j Inv-loop2 μ-loop2 Inv-loop μ-loop
-add-j c = omega (arith, c .before .loop2-test .taken, c .before .before .before .before .before .pre .3)
-
-loop2-less : tie.Need-loop2-less Inv-loop2 μ-loop2 Inv-loop μ-loop
-loop2-less c = omega (arith, c .before .loop2-test .taken)
 
 loop2-again : tie.Need-loop2-again Inv-loop2 μ-loop2 Inv-loop μ-loop
 loop2-again c =
@@ -147,30 +84,30 @@ coefficients-spec =
     μ-loop2
     Inv-loop
     μ-loop
-    add-i
+    (λ c. search needs)
     loop-holds
-    sub-i
-    mul-a
-    array-read-a
-    mul-a-2
-    array-write-a
-    mul-c
-    array-read-c
-    sub-c
+    (λ c. search needs)
+    (λ c. omega (arith, c .before .loop .inv .0, c .before .before .pre .3))
+    (λ c. omega (arith, c .before .loop .inv .0, c .before .before .pre .3))
+    (λ c. omega (arith, c .before .loop .inv .0, c .before .before .pre .3))
+    (λ c. omega (arith, c .before .loop .inv .0, c .before .before .pre .3))
+    (λ c. omega (arith, c .before .loop .inv .0, c .before .before .pre .3))
+    (λ c. omega (arith, c .before .loop .inv .0, c .before .before .pre .3))
+    (λ c. omega (arith, c .before .before .pre .2 .small (c .before .loop .i - 1)))
     loop2-holds
-    loop-less
+    (λ c. omega (arith, c .before .before .loop-test .taken))
     loop-again
-    mul-reduce
-    array-read-reduce
-    add-reduce
-    mul-reduce-2
-    array-read-reduce-2
-    mul-reduce-3
+    (λ c. omega (arith, c .loop2-test .taken, c .before .before .before .before .pre .3))
+    (λ c. omega (arith, c .loop2-test .taken, c .before .before .before .before .pre .3))
+    (λ c. omega (arith, c .loop2-test .taken, c .before .before .before .before .pre .3))
+    (λ c. omega (arith, c .loop2-test .taken, c .before .before .before .before .pre .3))
+    (λ c. omega (arith, c .loop2-test .taken, c .before .before .before .before .pre .3))
+    (λ c. omega (arith, product-small c))
     add-reduce-2
-    reduce-requires
-    mul-a-3
-    array-write-a-2
-    add-j
-    loop2-less
+    (λ c κs. c .before .before .before .before .pre .0)
+    (λ c. omega (arith, c .before .loop2-test .taken, c .before .before .before .before .before .pre .3))
+    (λ c. omega (arith, c .before .loop2-test .taken, c .before .before .before .before .before .pre .3))
+    (λ c. omega (arith, c .before .loop2-test .taken, c .before .before .before .before .before .pre .3))
+    (λ c. omega (arith, c .before .loop2-test .taken))
     loop2-again
     returns)

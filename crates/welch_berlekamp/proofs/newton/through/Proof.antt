@@ -31,45 +31,12 @@ fits c = c .loop .inv .1 _ _ (c .before .before .pre .4 .enough) (c .before .sca
 room : (c : tie.In-loop Inv-loop μ-loop) → c .before .loop .i < 16
 room c = let E = c .before .before .before .pre .4 .enough in omega (arith, c .loop-test .taken, enough-few E, E .most)
 
-sub-scale : tie.Need-sub-scale Inv-loop μ-loop
-sub-scale c = search needs
-
-scale-requires : tie.Need-scale-requires Inv-loop μ-loop
-scale-requires c κs = search needs
-
 loop-holds : tie.Need-loop-holds Inv-loop μ-loop
 loop-holds c =
     let start = c .before in
     let b = start .pre in
     let pos : 1 < start .args .p = omega (arith, b .0 .least) in
     (omega arith, λ n y E e. fits-start pos E e)
-
-least-requires : tie.Need-least-requires Inv-loop μ-loop
-least-requires c κs = let start = c .before .before .before in left-most (fits (c .before) .entering) (start .pre .4 .enough .placed)
-
-without-requires : tie.Need-without-requires Inv-loop μ-loop
-without-requires c κs = search needs
-
-cast-r : tie.Need-cast-r Inv-loop μ-loop
-cast-r c = search needs
-
-mul-z : tie.Need-mul-z Inv-loop μ-loop
-mul-z c = search needs
-
-array-read-z : tie.Need-array-read-z Inv-loop μ-loop
-array-read-z c = search needs
-
-mul-ratio : tie.Need-mul-ratio Inv-loop μ-loop
-mul-ratio c = search needs
-
-array-read-ratio : tie.Need-array-read-ratio Inv-loop μ-loop
-array-read-ratio c = search needs
-
-mul-ratio-2 : tie.Need-mul-ratio-2 Inv-loop μ-loop
-mul-ratio-2 c = search needs
-
-array-read-ratio-2 : tie.Need-array-read-ratio-2 Inv-loop μ-loop
-array-read-ratio-2 c = search needs
 
 ratio-requires : tie.Need-ratio-requires Inv-loop μ-loop
 ratio-requires c κs =
@@ -80,9 +47,6 @@ ratio-requires c κs =
 sub-shift : tie.Need-sub-shift Inv-loop μ-loop
 sub-shift c = omega (arith, c .before .before .before .before .before .before .pre .2 .small (c .before .before .least .result % 16))
 
-shift-requires : tie.Need-shift-requires Inv-loop μ-loop
-shift-requires c κs = let b = c .before .before .before .before .before .before .pre in (b .2, omega arith, b .0 .most)
-
 advance-requires : tie.Need-advance-requires Inv-loop μ-loop
 advance-requires c κs =
     let after-shift = c .before .before in
@@ -91,30 +55,6 @@ advance-requires c κs =
     let F = fits (after-shift .before .before .before .before .before) in
     let z : 0 < start .args .p = omega (arith, b .0 .least) in
     (b .0, F .whole .rest, F .holds .shaped .d1, result-row _ z (after-shift .shift .ensures), omega (arith, after-shift .before .ratio .ensures .below))
-
-mul-slopes : tie.Need-mul-slopes Inv-loop μ-loop
-mul-slopes c = omega (arith, room (c .before .before .before .before .before .before .before))
-
-array-write-slopes : tie.Need-array-write-slopes Inv-loop μ-loop
-array-write-slopes c = omega (arith, room (c .before .before .before .before .before .before .before))
-
-mul-nodes : tie.Need-mul-nodes Inv-loop μ-loop
-mul-nodes c = omega (arith, room (c .before .before .before .before .before .before .before))
-
-array-write-nodes : tie.Need-array-write-nodes Inv-loop μ-loop
-array-write-nodes c = omega (arith, room (c .before .before .before .before .before .before .before))
-
-mul-entered : tie.Need-mul-entered Inv-loop μ-loop
-mul-entered c = search needs
-
-array-write-entered : tie.Need-array-write-entered Inv-loop μ-loop
-array-write-entered c = search needs
-
-add-i : tie.Need-add-i Inv-loop μ-loop
-add-i c = omega (arith, room (c .before .before .before .before .before .before .before))
-
-loop-less : tie.Need-loop-less Inv-loop μ-loop
-loop-less c = omega (arith, c .before .before .before .before .before .before .before .loop-test .taken)
 
 loop-again : tie.Need-loop-again Inv-loop μ-loop
 loop-again c =
@@ -143,29 +83,21 @@ through-spec =
     (tie.spec
     Inv-loop
     μ-loop
-    sub-scale
-    scale-requires
+    (λ c. search needs) (λ c κs. search needs)
     loop-holds
-    least-requires
-    without-requires
-    cast-r
-    mul-z
-    array-read-z
-    mul-ratio
-    array-read-ratio
-    mul-ratio-2
-    array-read-ratio-2
+    (λ c κs. let start = c .before .before .before in left-most (fits (c .before) .entering) (start .pre .4 .enough .placed))
+    (λ c κs. search needs) (λ c. search needs) (λ c. search needs) (λ c. search needs) (λ c. search needs) (λ c. search needs)
+    (λ c. search needs) (λ c. search needs)
     ratio-requires
     sub-shift
-    shift-requires
+    (λ c κs. let b = c .before .before .before .before .before .before .pre in (b .2, omega arith, b .0 .most))
     advance-requires
-    mul-slopes
-    array-write-slopes
-    mul-nodes
-    array-write-nodes
-    mul-entered
-    array-write-entered
-    add-i
-    loop-less
+    (λ c. omega (arith, room (c .before .before .before .before .before .before .before)))
+    (λ c. omega (arith, room (c .before .before .before .before .before .before .before)))
+    (λ c. omega (arith, room (c .before .before .before .before .before .before .before)))
+    (λ c. omega (arith, room (c .before .before .before .before .before .before .before)))
+    (λ c. search needs) (λ c. search needs)
+    (λ c. omega (arith, room (c .before .before .before .before .before .before .before)))
+    (λ c. omega (arith, c .before .before .before .before .before .before .before .loop-test .taken))
     loop-again
     returns)

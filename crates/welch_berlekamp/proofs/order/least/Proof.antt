@@ -17,21 +17,6 @@ abbrev μ-loop : tie.MeasureT-loop
 loop-holds : tie.Need-loop-holds Inv-loop μ-loop
 loop-holds c = (omega arith, least-start)
 
-mul-lower : tie.Need-mul-lower Inv-loop μ-loop
-mul-lower c = search needs
-
-array-read-lower : tie.Need-array-read-lower Inv-loop μ-loop
-array-read-lower c = search needs
-
-lower-requires : tie.Need-lower-requires Inv-loop μ-loop
-lower-requires c κs = (c .before .before .pre (c .before .loop .j), c .before .loop .inv .1 .most)
-
-add-j : tie.Need-add-j Inv-loop μ-loop
-add-j c = search needs
-
-loop-less : tie.Need-loop-less Inv-loop μ-loop
-loop-less c = search needs
-
 loop-again : tie.Need-loop-again Inv-loop μ-loop
 loop-again c = (omega arith, least-more (c .before .before .loop .inv .1) (c .lower .ensures))
 
@@ -45,10 +30,8 @@ least-spec =
     Inv-loop
     μ-loop
     loop-holds
-    mul-lower
-    array-read-lower
-    lower-requires
-    add-j
-    loop-less
+    (λ c. search needs) (λ c. search needs)
+    (λ c κs. (c .before .before .pre (c .before .loop .j), c .before .loop .inv .1 .most))
+    (λ c. search needs) (λ c. search needs)
     loop-again
     returns)

@@ -16,12 +16,6 @@ use Rattle.welch_berlekamp.proofs.order.lower.Tie as tie
 signed : (a b : ℕ) → a ≤ taken → b ≤ taken → ltZ (toZ w32 a) (toZ w32 b) ≡ ltb a b
 signed a b h l = rw (toZ-pos w32 {n = a} (omega arith), toZ-pos w32 {n = b} (omega arith))
 
-cast-if1 : tie.Need-cast-if1
-cast-if1 c = search needs
-
-cast-if1-2 : tie.Need-cast-if1-2
-cast-if1-2 c = search needs
-
 returns : tie.Need-returns
 returns c =
     let a = c .before .args .a in
@@ -35,4 +29,4 @@ returns-2 c =
     omega (arith, ltb-false a b (sym (signed a b (c .before .pre .0) (c .before .pre .1)) ∙ c .if1 .left))
 
 pub lower-spec : {M : Type 1} → statement M
-lower-spec = tie.close (tie.spec cast-if1 cast-if1-2 returns returns-2)
+lower-spec = tie.close (tie.spec (λ c. search needs) (λ c. search needs) returns returns-2)
