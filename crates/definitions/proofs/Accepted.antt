@@ -7,13 +7,13 @@ use Prim.Native.Nat.{ℕ}
 use lib.ListN.{length}
 use borrow.Author.Tests.{leb-false, lt-leb, eqb-true, not-false}
 use Rattle.bounded.proofs.Any.{any-none, none-any}
-use Rattle.definitions.specs.Refusals.{Row, _when_, first}
+use Rattle.definitions.specs.Refusals.{Refusal, _when_, first}
 use Rattle.definitions.specs.Plan.{planRows, checkNumber}
 use Rattle.definitions.specs.Code.{Code, size, cells}
 use Rattle.definitions.specs.Calls.{lengthRow, strange, excessive, halfRead, overflowing, recordRow, photoRows}
 use Rattle.definitions.specs.Calls.{writeRows, writeNumber, measureRows, measureNumber}
 use Rattle.definitions.specs.Calls.{nearest, missing, readRows, readNumber}
-use Rattle.definitions.specs.Word.{IsRecord}
+use Rattle.definitions.specs.Code.{IsRecord}
 use Rattle.definitions.specs.Sound.{Sound}
 use Rattle.definitions.specs.Photograph.{Photograph}
 use Rattle.definitions.specs.Accepted.{Writing}
@@ -22,10 +22,10 @@ use Rattle.definitions.proofs.Sound.{sound}
 use Rattle.definitions.proofs.Photograph.{photo-accepted, accepted-photo, accepted-buffer}
 
 -- the tests after those of the plan, for n cells and k coefficients
-abbrev pub photoTests : (P s u F : List ℕ) (n k : ℕ) → List Row
+abbrev pub photoTests : (P s u F : List ℕ) (n k : ℕ) → List Refusal
 photoTests P s u F n k = lengthRow s n ∷ lengthRow u n ∷ lengthRow F k ∷ (7 when strange P s n) ∷ (8 when excessive u n) ∷ (8 when halfRead s u n) ∷ []
 
-abbrev pub writeTests : (P F B : List ℕ) (n k : ℕ) → List Row
+abbrev pub writeTests : (P F B : List ℕ) (n k : ℕ) → List Refusal
 writeTests P F B n k = lengthRow F k ∷ lengthRow B n ∷ (9 when overflowing P F k) ∷ []
 
 module _ (C : Code) (P : List ℕ) where

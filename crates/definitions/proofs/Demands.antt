@@ -12,7 +12,7 @@ use Rattle.definitions.specs.Code.{Code, size}
 use Rattle.definitions.specs.Cost.{full, radius}
 use Rattle.definitions.specs.Calls as calls
 use Rattle.definitions.specs.Calls.{photoRows, costOf, within, the, readingOf, readReading, readBuffer, readNumber}
-use Rattle.definitions.specs.Word.{IsRecord}
+use Rattle.definitions.specs.Code.{IsRecord}
 use Rattle.definitions.specs.Photograph.{Photograph}
 use Rattle.definitions.specs.Demands.{Nearest}
 use Rattle.definitions.proofs.Photograph.{photo-accepted}

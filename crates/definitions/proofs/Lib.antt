@@ -3,6 +3,7 @@ pub mod Cases
 pub mod Refusals
 pub mod Search
 pub mod Sound
+pub mod Plan
 pub mod Photograph
 pub mod Nearest
 pub mod Demands

@@ -20,7 +20,8 @@ use Rattle.definitions.specs.declared.Reading.{Reading}
 use Rattle.definitions.specs.Refusals.{accepted}
 use Rattle.definitions.specs.Plan.{side, degree}
 use Rattle.definitions.specs.Code.{square, cells, value}
-use Rattle.definitions.specs.Cost.{full, cell, radius, margin}
+use Rattle.definitions.specs.Cost.{full, radius, margin}
+use Rattle.distance.specs.Cost.{cell}
 use Rattle.definitions.specs.Calls.{refused, costOf, readingOf, nearest, the}
 use Rattle.definitions.specs.Calls.{measureNumber, measureReading, readNumber, readReading}
 use Rattle.definitions.specs.Cases.{outcome}

@@ -7,13 +7,13 @@ use mathlib.Core.Option.{Option, some, none}
 use Prim.Native.Nat.{ℕ, suc, _<_}
 use native.Mathlib.Omega.{arith}
 use borrow.Author.Tests.{ltb-true, lt-ltb, le-ltb}
-use Rattle.definitions.specs.Refusals.{Row, _when_, first, accepted}
+use Rattle.definitions.specs.Refusals.{Refusal, _when_, first, accepted}
 use Rattle.definitions.specs.Plan.{modulus, planRows}
 use Rattle.definitions.specs.Code.{Code, size}
 use Rattle.definitions.specs.Cost.{full, radius}
 use Rattle.definitions.specs.Calls.{photoRows, refused, costOf, readingOf, within, nearest, missing, the}
 use Rattle.definitions.specs.Calls.{readRows, readNumber, readReading, readBuffer}
-use Rattle.definitions.specs.Word.{IsRecord}
+use Rattle.definitions.specs.Code.{IsRecord}
 use Rattle.definitions.specs.Reads.{Reads}
 use Rattle.definitions.proofs.Refusals.{first-append}
 use Rattle.definitions.proofs.Search.{search-none, search-the}
@@ -42,7 +42,7 @@ module _ (C : Code) (P s u B : List ℕ) where
     buffer = sym (ap₂ (λ k o. accepted k (the o) B) n m);
   }
 
-  abbrev last : Option (List ℕ) → List Row
+  abbrev last : Option (List ℕ) → List Refusal
   last o = (10 when missing o) ∷ []
 
   number : {k : ℕ} {o : Option (List ℕ)} → first (photoRows C P s u B) ≡ k → nearest C P s u ≡ o → readNumber C P s u B ≡ accepted k (first (last o)) k

@@ -15,10 +15,12 @@ use Rattle.bounded.specs.Bounded.{at, sum}
 use Rattle.bounded.proofs.Sum.{sum-eq, sum-const}
 use Rattle.bounded.proofs.Tab.{length-tab, tab-at}
 use Rattle.definitions.specs.Plan.{modulus, side, degree}
-use Rattle.definitions.specs.Code.{Code, strip, square, valueX, valueXY, cells, value, mark}
-use Rattle.definitions.specs.Cost.{full, cell, radius, margin}
+use Rattle.definitions.specs.Code.{Code, strip, square, cells, value, mark}
+use Rattle.polynomial.specs.Record.{valueX, valueXY}
+use Rattle.definitions.specs.Cost.{full, radius, margin}
+use Rattle.distance.specs.Cost.{cell}
 use Rattle.definitions.specs.Calls.{costOf, changedOf, readingOf, readReading, readBuffer}
-use Rattle.definitions.specs.Word.{IsRecord}
+use Rattle.definitions.specs.Code.{IsRecord}
 use Rattle.definitions.specs.Sound.{Sound}
 use Rattle.definitions.specs.Photograph.{Photograph, sure}
 use Rattle.definitions.specs.Demands.{Nearest, clean}

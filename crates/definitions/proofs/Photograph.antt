@@ -10,7 +10,7 @@ use lib.ListN.{length}
 use borrow.Author.Tests.{eqb-true, eqb-false, ltb-false, leb-false, eq-eqb, le-ltb, lt-leb}
 use Rattle.bounded.specs.Bounded.{at}
 use Rattle.bounded.proofs.Any.{any-none, none-any}
-use Rattle.definitions.specs.Refusals.{Row, _when_, first, accepted}
+use Rattle.definitions.specs.Refusals.{Refusal, _when_, first, accepted}
 use Rattle.definitions.specs.Plan.{modulus, planRows, checkNumber}
 use Rattle.definitions.specs.Code.{Code, cells, size}
 use Rattle.definitions.specs.Cost.{full, unread}
@@ -20,7 +20,7 @@ use Rattle.definitions.proofs.Refusals.{Numbered, first-append, first-a
 
 module _ (C : Code) (P s u B : List ℕ) where
   -- the rows after the plan's
-  abbrev rest : List Row
+  abbrev rest : List Refusal
   rest = lengthRow s (cells C P) ∷ lengthRow u (cells C P) ∷ lengthRow B (size C P) ∷ (7 when strange P s (cells C P))
       ∷ (8 when excessive u (cells C P)) ∷ (8 when halfRead s u (cells C P)) ∷ []
 

@@ -11,7 +11,8 @@ use native.Mathlib.Nat.{mul-le-mul}
 use lib.Dec.{eqb}
 use Rattle.bounded.specs.Bounded.{at}
 use Rattle.definitions.specs.Code.{Code, cells, value}
-use Rattle.definitions.specs.Cost.{full, cell, cost, margin}
+use Rattle.definitions.specs.Cost.{full, margin}
+use Rattle.distance.specs.Cost.{cell, cost}
 use Rattle.definitions.specs.Published.{Fraction, _over_, _⊕_, _is_times_, Δ, distance, weighted}
 use Rattle.definitions.specs.Calls.{readingOf}
 use Rattle.definitions.specs.Photograph.{Photograph}

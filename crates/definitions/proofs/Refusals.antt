@@ -14,15 +14,15 @@ use Prim.Native.Nat.{ℕ, zero, suc, _≤_}
 use native.Mathlib.Omega.{arith}
 use lib.Dec.{eqb, leb}
 use borrow.Author.Tests.{eq-eqb, ne-eqb, leb-true}
-use Rattle.definitions.specs.Refusals.{Row, _when_, first, Applies, Lowest, accepted}
+use Rattle.definitions.specs.Refusals.{Refusal, _when_, first, Applies, Lowest, accepted}
 
 -- no row has the number 0
-abbrev pub Numbered : List Row → Type 0
+abbrev pub Numbered : List Refusal → Type 0
 Numbered [] = Unit
 Numbered ((zero when b) ∷ rows) = ⊥
 Numbered ((suc k when b) ∷ rows) = Numbered rows
 
-pub first-append : (a b : List Row) → Numbered a → first (a ++ b) ≡ accepted (first a) (first b) (first a)
+pub first-append : (a b : List Refusal) → Numbered a → first (a ++ b) ≡ accepted (first a) (first b) (first a)
 unfolding first
 first-append [] b h = refl
 first-append ((zero when t) ∷ a) b h = absurd h
@@ -30,14 +30,14 @@ first-append ((suc k when true) ∷ a) b h = refl
 first-append ((suc k when false) ∷ a) b h = first-append a b h
 
 -- rows before refuse, or they pass and rows after decide
-pub first-refuses : (a b : List Row) → Numbered a → (k : ℕ) → k ≡ first a → (k ≡ 0 → ⊥) → k ≡ first (a ++ b)
+pub first-refuses : (a b : List Refusal) → Numbered a → (k : ℕ) → k ≡ first a → (k ≡ 0 → ⊥) → k ≡ first (a ++ b)
 first-refuses a b h zero e n = absurd (n refl)
 first-refuses a b h (suc k) e n = sym (first-append a b h ∙ rw (← e))
 
-pub first-passes : (a b : List Row) → Numbered a → first a ≡ 0 → first b ≡ first (a ++ b)
+pub first-passes : (a b : List Refusal) → Numbered a → first a ≡ 0 → first b ≡ first (a ++ b)
 first-passes a b h e = sym (first-append a b h ∙ rw e)
 
-pub first-both : (a b : List Row) → Numbered a → first (a ++ b) ≡ 0 → (first a ≡ 0) × (first b ≡ 0)
+pub first-both : (a b : List Refusal) → Numbered a → first (a ++ b) ≡ 0 → (first a ≡ 0) × (first b ≡ 0)
 first-both a b h e = go (first a) refl (sym (first-append a b h) ∙ e)
   where
     go : (k : ℕ) → first a ≡ k → accepted (first a) (first b) (first a) ≡ 0 → (first a ≡ 0) × (first b ≡ 0)
@@ -45,12 +45,12 @@ first-both a b h e = go (first a) refl (sym (first-append a b h) ∙ e)
     go (suc k) f g = absurd (omega (arith, rw f at g))
 
 -- where the number is 0, no row's test holds
-abbrev pub testAt : List Row → ℕ → Bool
+abbrev pub testAt : List Refusal → ℕ → Bool
 testAt [] i = false
 testAt ((k when b) ∷ rows) zero = b
 testAt ((k when b) ∷ rows) (suc i) = testAt rows i
 
-pub first-clear : (rows : List Row) → Numbered rows → first rows ≡ 0 → (i : ℕ) → testAt rows i ≡ false
+pub first-clear : (rows : List Refusal) → Numbered rows → first rows ≡ 0 → (i : ℕ) → testAt rows i ≡ false
 unfolding first
 first-clear [] h e i = refl
 first-clear ((zero when b) ∷ rows) h e i = absurd h
@@ -59,38 +59,38 @@ first-clear ((suc k when false) ∷ rows) h e zero = refl
 first-clear ((suc k when false) ∷ rows) h e (suc i) = first-clear rows h e i
 
 -- the number of row i; the first test to hold is that of row i, and beyond the rows none holds
-abbrev pub numberAt : List Row → ℕ → ℕ
+abbrev pub numberAt : List Refusal → ℕ → ℕ
 numberAt [] i = 0
 numberAt ((k when b) ∷ rows) zero = k
 numberAt ((k when b) ∷ rows) (suc i) = numberAt rows i
 
-abbrev pub Stops : List Row → ℕ → Type 0
+abbrev pub Stops : List Refusal → ℕ → Type 0
 Stops [] i = Unit
 Stops ((k when b) ∷ rows) zero = b ≡ true
 Stops ((k when b) ∷ rows) (suc i) = (b ≡ false) × Stops rows i
 
-pub first-at : (rows : List Row) (i : ℕ) → Stops rows i → numberAt rows i ≡ first rows
+pub first-at : (rows : List Refusal) (i : ℕ) → Stops rows i → numberAt rows i ≡ first rows
 unfolding first
 first-at [] i h = refl
 first-at ((k when b) ∷ rows) zero h = rw h
 first-at ((k when b) ∷ rows) (suc i) h = rw (h .0) (first-at rows i (h .1))
 
 -- the first row to apply, whatever the order of the numbers: 0 where none applies, else the number of one that does
-pub first-none : (rows : List Row) → Numbered rows → first rows ≡ 0 → (j : ℕ) → ¬ (Applies rows j)
+pub first-none : (rows : List Refusal) → Numbered rows → first rows ≡ 0 → (j : ℕ) → ¬ (Applies rows j)
 unfolding first
 first-none ((zero when b) ∷ rows) h e j a = h
 first-none ((suc k when true) ∷ rows) h e j a = omega arith
 first-none ((suc k when false) ∷ rows) h e j (inl a) = false≢true (a .1)
 first-none ((suc k when false) ∷ rows) h e j (inr a) = first-none rows h e j a
 
-pub first-applies : (rows : List Row) → first rows ≢ 0 → Applies rows (first rows)
+pub first-applies : (rows : List Refusal) → first rows ≢ 0 → Applies rows (first rows)
 unfolding first
 first-applies [] n = n refl
 first-applies ((k when true) ∷ rows) n = inl (refl, refl)
 first-applies ((k when false) ∷ rows) n = inr (first-applies rows n)
 
 -- the numbers rise from m on: none is below the one before it
-abbrev pub rising : ℕ → List Row → Bool
+abbrev pub rising : ℕ → List Refusal → Bool
 rising m [] = true
 rising m ((k when b) ∷ rows) = leb m k && rising k rows
 
@@ -98,13 +98,13 @@ both : (a b : Bool) → a && b ≡ true → (a ≡ true) × (b ≡ true)
 both true b e = (refl, e)
 both false b e = absurd (false≢true e)
 
-rising-least : (m : ℕ) (rows : List Row) → rising m rows ≡ true → (j : ℕ) → Applies rows j → m ≤ j
+rising-least : (m : ℕ) (rows : List Refusal) → rising m rows ≡ true → (j : ℕ) → Applies rows j → m ≤ j
 rising-least m ((k when b) ∷ rows) r j (inl a) = omega (arith, leb-true m k (both (leb m k) (rising k rows) r .0), a .0)
 rising-least m ((k when b) ∷ rows) r j (inr a) =
     let h = both (leb m k) (rising k rows) r in
     omega (arith, leb-true m k (h .0), rising-least k rows (h .1) j a)
 
-first-least : (m : ℕ) (rows : List Row) → rising m rows ≡ true → (j : ℕ) → Applies rows j → first rows ≤ j
+first-least : (m : ℕ) (rows : List Refusal) → rising m rows ≡ true → (j : ℕ) → Applies rows j → first rows ≤ j
 unfolding first
 first-least m ((k when true) ∷ rows) r j (inl a) = omega (arith, a .0)
 first-least m ((k when true) ∷ rows) r j (inr a) = rising-least k rows (both (leb m k) (rising k rows) r .1) j a
@@ -112,15 +112,15 @@ first-least m ((k when false) ∷ rows) r j (inl a) = absurd (false≢true (a .1
 first-least m ((k when false) ∷ rows) r j (inr a) = first-least k rows (both (leb m k) (rising k rows) r .1) j a
 
 -- the first is the lowest
-pub first-lowest : (rows : List Row) → Numbered rows → rising 1 rows ≡ true → Lowest rows (first rows)
+pub first-lowest : (rows : List Refusal) → Numbered rows → rising 1 rows ≡ true → Lowest rows (first rows)
 first-lowest rows h r = record { none = first-none rows h; applies = first-applies rows; least = first-least 1 rows r }
 
 -- a number that no row has is not given
-abbrev pub absent : ℕ → List Row → Bool
+abbrev pub absent : ℕ → List Refusal → Bool
 absent k [] = true
 absent k ((j when b) ∷ rows) = not (eqb j k) && absent k rows
 
-pub first-absent : (k : ℕ) (rows : List Row) → k ≢ 0 → absent k rows ≡ true → first rows ≢ k
+pub first-absent : (k : ℕ) (rows : List Refusal) → k ≢ 0 → absent k rows ≡ true → first rows ≢ k
 unfolding first
 first-absent k [] z h e = z (sym e)
 first-absent k ((j when true) ∷ rows) z h e =

@@ -9,7 +9,7 @@ use native.Mathlib.Omega.{arith}
 use native.Mathlib.Decide.{ℕ-discrete}
 use Rattle.bounded.specs.Bounded.{at}
 use Rattle.definitions.specs.Search.{firstOf, put, search}
-use Rattle.definitions.specs.Word.{Word}
+use Rattle.field.specs.Word.{Word}
 
 -- what an answer says: none, that no word passes; a word, that it is one and passes
 abbrev pub Says : (p k : ℕ) → (List ℕ → Bool) → Option (List ℕ) → Type 0

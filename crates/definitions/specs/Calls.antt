@@ -15,14 +15,15 @@ use lib.IntN.{pos}
 use lib.ListN.{length}
 use Rattle.bounded.specs.Bounded.{at, any}
 use Rattle.definitions.specs.declared.Reading.{Reading}
-use Rattle.definitions.specs.Refusals.{Row, _when_, first, accepted}
+use Rattle.definitions.specs.Refusals.{Refusal, _when_, first, accepted}
 use Rattle.definitions.specs.Plan.{modulus, planRows}
 use Rattle.definitions.specs.Code.{Code, size, cells, value, mark}
-use Rattle.definitions.specs.Cost.{full, unread, cost, changed, radius, margin, class}
+use Rattle.definitions.specs.Cost.{full, unread, radius, margin, class}
+use Rattle.distance.specs.Cost.{cost, changed}
 use Rattle.definitions.specs.Search.{search}
 
 -- refusal 6: the buffer B has not the length n
-abbrev pub lengthRow : List ℕ → ℕ → Row
+abbrev pub lengthRow : List ℕ → ℕ → Refusal
 lengthRow B n = 6 when not (eqb (length B) n)
 
 -- refusal 7, of n symbols: one is p or more and not 255
@@ -40,11 +41,11 @@ halfRead s u n = any n λ c. eqb (at s c) unread && not (eqb (at u c) full)
 abbrev pub overflowing : (P F : List ℕ) → ℕ → Bool
 overflowing P F n = any n λ k. leb (modulus P) (at F k)
 
-abbrev pub recordRow : Code → (P F : List ℕ) → Row
+abbrev pub recordRow : Code → (P F : List ℕ) → Refusal
 recordRow C P F = 9 when overflowing P F (size C P)
 
 -- refusals 1 to 8, for a photograph and a record or the buffer for one
-unfoldable pub photoRows : Code → (P s u F : List ℕ) → List Row
+unfoldable pub photoRows : Code → (P s u F : List ℕ) → List Refusal
 photoRows C P s u F = planRows P
     ++ lengthRow s (cells C P)
     ∷ lengthRow u (cells C P)
@@ -78,7 +79,7 @@ readingOf C P s u F = record {
 }
 
 -- WRITING: refusals 1 to 6 and 9
-unfoldable pub writeRows : Code → (P F B : List ℕ) → List Row
+unfoldable pub writeRows : Code → (P F B : List ℕ) → List Refusal
 writeRows C P F B = planRows P ++ lengthRow F (size C P) ∷ lengthRow B (cells C P) ∷ recordRow C P F ∷ []
 
 unfoldable pub writeNumber : Code → (P F B : List ℕ) → ℕ
@@ -88,7 +89,7 @@ unfoldable pub writeBuffer : Code → (P F B : List ℕ) → List ℕ
 writeBuffer C P F B = accepted (writeNumber C P F B) (mark C P F) B
 
 -- MEASURING: refusals 1 to 9
-unfoldable pub measureRows : Code → (P s u F : List ℕ) → List Row
+unfoldable pub measureRows : Code → (P s u F : List ℕ) → List Refusal
 measureRows C P s u F = photoRows C P s u F ++ recordRow C P F ∷ []
 
 unfoldable pub measureNumber : Code → (P s u F : List ℕ) → ℕ
@@ -109,7 +110,7 @@ abbrev pub the : Option (List ℕ) → List ℕ
 the none = []
 the (some F) = F
 
-unfoldable pub readRows : Code → (P s u B : List ℕ) → List Row
+unfoldable pub readRows : Code → (P s u B : List ℕ) → List Refusal
 readRows C P s u B = photoRows C P s u B ++ (10 when missing (nearest C P s u)) ∷ []
 
 unfoldable pub readNumber : Code → (P s u B : List ℕ) → ℕ

@@ -13,7 +13,8 @@ use Rattle.field.specs.Prime.{isPrime}
 use Rattle.definitions.specs.declared.Reading.{Reading}
 use Rattle.definitions.specs.Refusals.{first}
 use Rattle.definitions.specs.Plan.{checkNumber, planRows}
-use Rattle.definitions.specs.Code.{Code, strip, square, valueX, valueXY, mark}
+use Rattle.definitions.specs.Code.{Code, strip, square, mark}
+use Rattle.polynomial.specs.Record.{valueX, valueXY}
 use Rattle.definitions.specs.Cost.{margin}
 use Rattle.definitions.specs.Photograph.{sure}
 use Rattle.definitions.specs.Search.{search, firstOf}

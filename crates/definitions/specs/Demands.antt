@@ -29,15 +29,17 @@ use Rattle.bounded.specs.Bounded.{at}
 use Rattle.definitions.specs.declared.Reading.{Reading}
 use Rattle.definitions.specs.Refusals.{Lowest}
 use Rattle.definitions.specs.Plan.{modulus, side, degree, point, planRows, checkNumber}
-use Rattle.definitions.specs.Code.{Code, strip, square, valueX, valueXY, cells, value}
-use Rattle.definitions.specs.Cost.{full, unread, cell, radius}
+use Rattle.definitions.specs.Code.{Code, strip, square, cells, value}
+use Rattle.polynomial.specs.Record.{valueX, valueXY}
+use Rattle.definitions.specs.Cost.{full, unread, radius}
+use Rattle.distance.specs.Cost.{cell}
 use Rattle.definitions.specs.Published.{Fraction, _over_, FromZeroToOne, _is_times_, distance, weighted}
 use Rattle.definitions.specs.Calls as calls
 use Rattle.definitions.specs.Calls.{costOf, readingOf, writeRows, writeNumber, writeBuffer}
 use Rattle.definitions.specs.Calls.{measureRows, measureNumber, measureReading}
 use Rattle.definitions.specs.Calls.{readRows, readNumber, readReading, readBuffer}
 use Rattle.definitions.specs.Finder.{findRows, findNumber}
-use Rattle.definitions.specs.Word.{IsRecord}
+use Rattle.definitions.specs.Code.{IsRecord}
 use Rattle.definitions.specs.Photograph.{Photograph, sure}
 
 pub record RefusalsKeep : Type 0 where

@@ -16,7 +16,7 @@ use denote.Ref.{RefT, now, ptr}
 use lib.Dec.{eqb}
 use lib.ListN.{length, take, drop}
 use Rattle.bounded.specs.Bounded.{any}
-use Rattle.definitions.specs.Refusals.{Row, _when_, first}
+use Rattle.definitions.specs.Refusals.{Refusal, _when_, first}
 use Rattle.definitions.specs.Plan.{season}
 
 abbrev pub planAt : List ℕ → ℕ → List ℕ
@@ -26,7 +26,7 @@ planAt file k = take 24 (drop (k * 24) file)
 abbrev pub listed : List ℕ → (y n : ℕ) → Bool
 listed file y n = any n λ k. eqb (season (planAt file k)) y
 
-unfoldable pub findRows : List ℕ → ℕ → List Row
+unfoldable pub findRows : List ℕ → ℕ → List Refusal
 findRows file y =
     (11 when not (eqb (length file % 24) 0))
     ∷ (12 when not (listed file y (length file / 24)))

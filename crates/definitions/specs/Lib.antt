@@ -10,7 +10,6 @@ pub mod Finder
 pub mod Tray
 pub mod Printed
 pub mod Cases
-pub mod Word
 pub mod Sound
 pub mod Photograph
 pub mod Reads

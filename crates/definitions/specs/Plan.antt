@@ -12,7 +12,7 @@ use lib.Dec.{eqb, ltb, leb}
 use lib.ListN.{length}
 use Rattle.bounded.specs.Bounded.{at, any}
 use Rattle.field.specs.Prime.{isPrime}
-use Rattle.definitions.specs.Refusals.{Row, _when_, first}
+use Rattle.definitions.specs.Refusals.{Refusal, _when_, first}
 
 abbrev pub season : List ℕ → ℕ
 season P = at P 0 * 256 + at P 1
@@ -41,7 +41,7 @@ large P n = any n λ i. leb (modulus P) (point P i)
 abbrev pub unordered : List ℕ → ℕ → Bool
 unordered P n = any n λ i. leb (point P (i + 1)) (point P i)
 
-unfoldable pub planRows : List ℕ → List Row
+unfoldable pub planRows : List ℕ → List Refusal
 planRows P =
     (1 when not (eqb (length P) 24))
     ∷ (1 when filled P 21 3)

@@ -16,19 +16,19 @@ use mathlib.Core.List.{List, [], _∷_}
 use Prim.Native.Nat.{ℕ, zero, suc, _≤_}
 
 infix 20 _when_
-pub data Row : Type 0 where
-  _when_ : ℕ → Bool → Row
+pub data Refusal : Type 0 where
+  _when_ : ℕ → Bool → Refusal
 
-unfoldable pub first : List Row → ℕ
+unfoldable pub first : List Refusal → ℕ
 first [] = 0
 first ((k when true) ∷ rows) = k
 first ((k when false) ∷ rows) = first rows
 
-abbrev pub Applies : List Row → ℕ → Type 0
+abbrev pub Applies : List Refusal → ℕ → Type 0
 Applies [] k = ⊥
 Applies ((j when b) ∷ rows) k = ((j ≡ k) × (b ≡ true)) ⊎ Applies rows k
 
-pub record Lowest (rows : List Row) (k : ℕ) : Type 0 where
+pub record Lowest (rows : List Refusal) (k : ℕ) : Type 0 where
   pub none : k ≡ 0 → (j : ℕ) → ¬ (Applies rows j)
   pub applies : k ≢ 0 → Applies rows k
   pub least : (j : ℕ) → Applies rows j → k ≤ j

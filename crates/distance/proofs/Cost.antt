@@ -1,5 +1,5 @@
 -- The laws of cost, for any full doubt F: of two words at most one is under F times the cells in which they differ; the doubts are a
--- lower bound; a cell of full doubt costs the same whatever its symbol; a term subtracted from symbol and value; congruent coefficients. Assumes nothing.
+-- lower bound; a cell of full doubt costs the same whatever its symbol; a term subtracted from symbol and value. Assumes nothing.
 use mathlib.Core.Path.{_≡_, refl, sym, ap, _∙_}
 use mathlib.Core.Bool.{Bool, true, false, cond}
 use Prim.Native.Nat.{ℕ, suc, _+_, _*_, _-_, _%_, _≤_, _<_}
@@ -11,9 +11,7 @@ use Rattle.bounded.specs.Bounded.{sum}
 use Rattle.bounded.proofs.Sum.{sum-eq, sum-le, sum-add, sum-mul}
 use Rattle.field.specs.Congruence.{Cong}
 use Rattle.field.proofs.Congruence.{same, of-mod, to-mod, ~sym, _⨾_, ~add, cancel}
-use Rattle.definitions.specs.Cost.{cell, cost, changed}
-use Rattle.polynomial.specs.Eval.{values}
-use Rattle.polynomial.proofs.Eval.{eval-cong}
+use Rattle.distance.specs.Cost.{cell, cost, changed}
 use Rattle.distance.specs.Level.{differ}
 
 -- two values of one cell
@@ -74,8 +72,3 @@ cell-less {q} F s s′ u a e l l′ c = go (eqb s′ (a % suc q)) (eqb s ((a + e
     go false false i j = refl
     go true false i j = absurd (eqb-false _ _ j (whole (eqb-true _ _ i)))
     go false true i j = absurd (eqb-false _ _ i (part (eqb-true _ _ j)))
-
--- congruent coefficients, the same cost
-pub cost-cong : {q : ℕ} (F n k : ℕ) (y s u : ℕ → ℕ) {w h : ℕ → ℕ} → ((i : ℕ) → i ≤ k → Cong q (w i) (h i)) →
-    cost F n s u (values q (suc k) w y) ≡ cost F n s u (values q (suc k) h y)
-cost-cong F n k y s u e = sum-eq n λ j _. ap (cell F (s j) (u j)) (to-mod (eval-cong (suc k) (y j) λ i l. e i (omega arith)))

@@ -9,7 +9,7 @@ use lib.Dec.{eqb, leb}
 use borrow.Author.Tests.{leb-true, leb-false}
 use Rattle.bounded.specs.Bounded.{sum}
 use Rattle.bounded.proofs.Sum.{sum-eq, sum-add, sum-mul, sum-const, sum-swap, sum-some, find}
-use Rattle.definitions.specs.Cost.{cell, cost}
+use Rattle.distance.specs.Cost.{cell, cost}
 use Rattle.distance.specs.Level.{differ, wrong, erased, weight}
 
 -- what one cell weighs

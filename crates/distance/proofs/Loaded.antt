@@ -3,7 +3,7 @@ use mathlib.Core.Logic.{_⊎_, inl, inr}
 use mathlib.Core.Path.{_≡_, sym, _∙_}
 use Prim.Native.Nat.{ℕ, _<_}
 use Rattle.bounded.proofs.Sum.{sum-eq}
-use Rattle.definitions.specs.Cost.{cell, cost}
+use Rattle.distance.specs.Cost.{cell, cost}
 use Rattle.distance.specs.Loaded.{Loaded}
 use Rattle.distance.proofs.Cost.{cell-full}
 

@@ -1,3 +1,2 @@
-// The weighted distance of a word from symbols with doubts, and what is told of it.
-pub mod summary;
+// The weighted distance of a word from symbols with doubts.
 pub mod word;

@@ -1,8 +1,8 @@
 // The cost of a word of at most sixteen cells, for any full doubt: document 01, "Photographed mark and cost".
 ghost use mathlib.Core.Path.{_≡_};
-ghost use Prim.Native.Nat.{_*_, _≤_, _<_};
+ghost use Prim.Native.Nat.{_*_, _-_, _≤_, _<_};
 ghost use Rattle.bounded.specs.Bounded.{at};
-ghost use Rattle.definitions.specs.Cost.{cell, cost, changed};
+ghost use Rattle.distance.specs.Cost.{cell, cost, changed};
 ghost use Rattle.distance.specs.Doubts.{Doubts};
 ghost use Rattle.distance.specs.Level.{differ};
 
@@ -59,4 +59,12 @@ pub fn word_changed(n: usize, symbols: [u16; 16], values: [u16; 16]) -> u32
         i += 1;
     }
     count
+}
+
+// R for so many rows of n points: a strip is one row, a mark has n.
+pub fn radius(full: u32, rows: usize, n: usize, d: usize) -> u32
+    requires { ⌜ (full < 65536) × (rows ≤ 16) × (n ≤ 16) × (d ≤ n) ⌝ }
+    ensures { λ r. ⌜ (r ≡ full * rows * (n - d)) × (r < 2147483648) ⌝ }
+{
+    full * rows as u32 * (n - d) as u32
 }

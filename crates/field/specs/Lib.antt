@@ -3,3 +3,4 @@ pub mod Congruence
 pub mod Prime
 pub mod Loop
 pub mod Row
+pub mod Word

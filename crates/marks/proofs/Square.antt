@@ -18,7 +18,8 @@ use Rattle.field.specs.Loop.{Upto, Passed}
 use Rattle.field.specs.Row.{row}
 use Rattle.field.proofs.Congruence.{same, below-eq, cancel, _⨾_}
 use Rattle.field.proofs.Row.{row-at, beyond, upto-row}
-use Rattle.definitions.specs.Cost.{unread, changed}
+use Rattle.definitions.specs.Cost.{unread}
+use Rattle.distance.specs.Cost.{changed}
 use Rattle.records.proofs.Measured.{part-at, part-length}
 use Rattle.reed_muller.specs.Loops.{cells}
 use Rattle.marks.specs.Loading.{residue, squareCell}

@@ -18,7 +18,8 @@ use Rattle.field.specs.Row.{row, Reciprocal}
 use Rattle.field.proofs.Congruence.{same, ~add, mod-cong, _⨾_}
 use Rattle.field.proofs.Row.{row-at, row-of, beyond}
 use Rattle.definitions.specs.Plan.{modulus, side, degree, point}
-use Rattle.definitions.specs.Code.{square, size, start, value}
+use Rattle.definitions.specs.Code.{square, size, value}
+use Rattle.polynomial.specs.Record.{start}
 use Rattle.definitions.specs.Cost.{full, unread, radius}
 use Rattle.definitions.specs.Calls.{changedOf, refused, readingOf}
 use Rattle.definitions.specs.Reads.{Reads}

@@ -15,9 +15,10 @@ use Rattle.field.specs.Row.{row, Reciprocal}
 use Rattle.field.proofs.Row.{row-at, row-of, beyond}
 use Rattle.definitions.specs.Plan.{modulus, side, degree, point}
 use Rattle.definitions.specs.Code.{strip, size, value}
-use Rattle.definitions.specs.Cost.{full, unread, changed, radius}
+use Rattle.definitions.specs.Cost.{full, unread, radius}
+use Rattle.distance.specs.Cost.{changed}
 use Rattle.definitions.specs.Calls.{changedOf, refused, readingOf}
-use Rattle.definitions.specs.Word.{IsRecord}
+use Rattle.definitions.specs.Code.{IsRecord}
 use Rattle.definitions.specs.Reads.{Reads}
 use Rattle.polynomial.specs.Eval.{eval}
 use Rattle.polynomial.proofs.Plan.{plan-apart, value-strip}

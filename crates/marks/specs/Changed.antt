@@ -9,7 +9,8 @@ use mathlib.Core.List.{List}
 use Prim.Native.Nat.{ℕ}
 use lib.Dec.{eqb}
 use Rattle.bounded.specs.Bounded.{sum}
-use Rattle.definitions.specs.Cost.{unread, changed}
+use Rattle.definitions.specs.Cost.{unread}
+use Rattle.distance.specs.Cost.{changed}
 use Rattle.reed_muller.specs.Loops.{cells}
 use Rattle.marks.specs.Loading.{squareCell}
 

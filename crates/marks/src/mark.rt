@@ -14,7 +14,7 @@ ghost use Prim.Native.Nat.{ℕ, _*_, _≤_, _<_};
 ghost use lib.ListN.{length};
 ghost use Rattle.bounded.specs.Bounded.{at, sum, tab};
 ghost use Rattle.definitions.specs.Code.{square};
-ghost use Rattle.definitions.specs.Cost.{changed};
+ghost use Rattle.distance.specs.Cost.{changed};
 ghost use Rattle.definitions.specs.Reads.{Reads};
 ghost use Rattle.marks.specs.Loading.{Taken};
 ghost use Rattle.marks.specs.Changed.{flag, changedCells};

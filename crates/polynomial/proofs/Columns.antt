@@ -14,8 +14,8 @@ use Rattle.bounded.proofs.Tab.{length-tab, tab-eq}
 use Rattle.field.specs.Row.{row, Row}
 use Rattle.field.proofs.Congruence.{cong-mod}
 use Rattle.field.proofs.Row.{row-at, row-of, result-cong}
-use Rattle.definitions.specs.Code.{start, valueXY}
-use Rattle.definitions.specs.Word.{Word}
+use Rattle.polynomial.specs.Record.{start, valueXY}
+use Rattle.field.specs.Word.{Word}
 use Rattle.polynomial.specs.Eval.{eval}
 use Rattle.polynomial.specs.Record.{coef, column}
 use Rattle.polynomial.specs.Powers.{Columns}

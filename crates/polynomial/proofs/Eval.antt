@@ -13,7 +13,7 @@ use Rattle.bounded.specs.Bounded.{sum}
 use Rattle.bounded.proofs.Sum.{sum-eq, sum-add, sum-const, sum-short}
 use Rattle.field.specs.Congruence.{Cong}
 use Rattle.field.proofs.Congruence.{same, of-mod, _⨾_, ~add, ~mul, less, rest, difference}
-use Rattle.definitions.specs.Cost.{changed}
+use Rattle.distance.specs.Cost.{changed}
 use Rattle.polynomial.specs.Eval.{eval, values, Apart}
 use Rattle.polynomial.specs.Lead.{Lead, con, up}
 use Rattle.polynomial.proofs.Roots.{roots}

@@ -12,31 +12,31 @@ use borrow.Author.Tests.{eqb-true, eqb-false, eq-eqb}
 use Rattle.bounded.proofs.Sum.{sum-le, sum-mul}
 use Rattle.field.specs.Congruence.{Cong}
 use Rattle.field.proofs.Congruence.{of-mod, to-mod, ~mul-right, cancel}
-use Rattle.definitions.specs.Cost.{changed}
+use Rattle.distance.specs.Cost.{changed}
 use Rattle.polynomial.specs.Eval.{eval, values, Apart}
-use Rattle.polynomial.specs.Record.{column, row}
-use Rattle.polynomial.specs.Grid.{radius, apart}
+use Rattle.polynomial.specs.Record.{column, onRow}
+use Rattle.polynomial.specs.Grid.{gridDistance, apart}
 use Rattle.polynomial.proofs.Eval.{eval-cong, same-or-far}
 
 tall : (M e r m i : ℕ) → M ≡ m + i → r ≡ e + i → e ≤ m → M * e ≤ r * m
 tall M e r m i p q h = rw (p, q) (omega (arith, mul-le-mul-left i h))
 
 -- the distance is at most that of the rows times that of the columns, for each split of the degree
-pub radius-le : (a b d i : ℕ) → i ≤ d → d < min a b → radius a b d ≤ (b - d + i) * (a - i)
+pub radius-le : (a b d i : ℕ) → i ≤ d → d < min a b → gridDistance a b d ≤ (b - d + i) * (a - i)
 radius-le a b d i h k = elim (decLe b a) [
   | yes l ↦ tall (max a b) (min a b - d) (b - d + i) (a - i) i (omega arith) (omega arith) (omega arith)
   | no l ↦ rw (mul-comm (b - d + i) (a - i)) (tall (max a b) (min a b - d) (a - i) (b - d + i) (d - i) (omega arith) (omega arith) (omega arith))
 ]
 
 -- the same, by the power t of Y that the rows lead with
-pub radius-split : (a b d t : ℕ) → t ≤ d → d < min a b → radius a b d ≤ (b - t) * (a - (d - t))
-radius-split a b d t h k =
+pub distance-split : (a b d t : ℕ) → t ≤ d → d < min a b → gridDistance a b d ≤ (b - t) * (a - (d - t))
+distance-split a b d t h k =
     let e : b - d + (d - t) ≡ b - t = omega arith in
     omega (arith, radius-le a b d (d - t) (omega arith) k, ap (λ n. n * (a - (d - t))) e)
 
 -- document 01's radius
-pub radius-square : (n d : ℕ) → radius n n d ≡ n * (n - d)
-radius-square n d = let a : max n n ≡ n = omega arith in let b : min n n ≡ n = omega arith in rw (a, b)
+pub distance-square : (n d : ℕ) → gridDistance n n d ≡ n * (n - d)
+distance-square n d = let a : max n n ≡ n = omega arith in let b : min n n ≡ n = omega arith in rw (a, b)
 
 -- 1 where two numbers differ
 abbrev differ : (v w : ℕ) → ℕ
@@ -60,20 +60,20 @@ differ-more {q} {e} {f} a b c = go (eqb (a % suc q) (b % suc q)) (eqb ((a + e) %
 
 module _ {q a b : ℕ} {x y : ℕ → ℕ} (ax : Apart q a x) (ay : Apart q b y) (d : ℕ) (small : d < min a b) (g h : ℕ → ℕ → ℕ) where
   -- a row whose coefficients of Y^t differ differs in b - t cells
-  row-far : (t r : ℕ) → (b - t) * differ (column d g t (x r) % suc q) (column d h t (x r) % suc q) ≤ changed b (values q (suc t) (row d g (x r)) y) (values q (suc t) (row d h (x r)) y)
-  row-far t r = elim (same-or-far ay t (row d g (x r)) (row d h (x r))) [
+  row-far : (t r : ℕ) → (b - t) * differ (column d g t (x r) % suc q) (column d h t (x r) % suc q) ≤ changed b (values q (suc t) (onRow d g (x r)) y) (values q (suc t) (onRow d h (x r)) y)
+  row-far t r = elim (same-or-far ay t (onRow d g (x r)) (onRow d h (x r))) [
     | inl s ↦ rw (eq-eqb _ _ (to-mod (s t (omega arith)))) (omega arith)
     | inr l ↦ omega (arith, mul-le-mul-left (b - t) (differ-one (column d g t (x r) % suc q) (column d h t (x r) % suc q)))
   ]
 
   -- where the coefficients of Y^t agree, the lower terms decide
   lower-terms : (t : ℕ) → ((i : ℕ) → i ≤ d - t → Cong q (g i t) (h i t)) → apart q a b d x y t g h ≤ apart q a b d x y (suc t) g h
-  lower-terms t s = sum-le a λ r _. sum-le b λ c _. differ-more (eval t (row d g (x r)) (y c)) (eval t (row d h (x r)) (y c)) (agreed r c)
+  lower-terms t s = sum-le a λ r _. sum-le b λ c _. differ-more (eval t (onRow d g (x r)) (y c)) (eval t (onRow d h (x r)) (y c)) (agreed r c)
     where
       agreed : (r c : ℕ) → Cong q (column d g t (x r) * y c ^ t) (column d h t (x r) * y c ^ t)
       agreed r c = ~mul-right (y c ^ t) (eval-cong (suc (d - t)) (x r) λ i w. s i (omega arith))
 
-  below-far : (k : ℕ) → k ≤ suc d → ((t i : ℕ) → t < k → i + t ≤ d → Cong q (g i t) (h i t)) ⊎ (radius a b d ≤ apart q a b d x y k g h)
+  below-far : (k : ℕ) → k ≤ suc d → ((t i : ℕ) → t < k → i + t ≤ d → Cong q (g i t) (h i t)) ⊎ (gridDistance a b d ≤ apart q a b d x y k g h)
   below-far zero l = inl λ t i m. absurd (omega arith)
   below-far (suc t) l = elim (same-or-far ax (d - t) (λ i. g i t) (λ i. h i t)) [
     | inl s ↦ elim (below-far t (omega arith)) [
@@ -82,12 +82,12 @@ module _ {q a b : ℕ} {x y : ℕ → ℕ} (ax : Apart q a x) (ay : Apart q b y)
     ]
     | inr m ↦ inr (omega (
       arith,
-      radius-split a b d t (omega arith) small,
+      distance-split a b d t (omega arith) small,
       mul-le-mul-left (b - t) m,
       sum-mul a (b - t) (λ r. differ (column d g t (x r) % suc q) (column d h t (x r) % suc q)),
       sum-le a λ r _. row-far t r,
     ))
   ]
 
-  pub grid-same-or-far : ((t i : ℕ) → i + t ≤ d → Cong q (g i t) (h i t)) ⊎ (radius a b d ≤ apart q a b d x y (suc d) g h)
+  pub grid-same-or-far : ((t i : ℕ) → i + t ≤ d → Cong q (g i t) (h i t)) ⊎ (gridDistance a b d ≤ apart q a b d x y (suc d) g h)
   grid-same-or-far = elim (below-far (suc d) (omega arith)) [ inl e ↦ inl λ t i l. e t i (omega arith) l | inr m ↦ inr m ]

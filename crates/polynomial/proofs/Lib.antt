@@ -2,10 +2,10 @@
 pub mod Lead
 pub mod Roots
 pub mod Eval
+pub mod Unique
 pub mod Record
 pub mod Points
 pub mod Coefficients
 pub mod Grid
 pub mod Powers
-pub mod Plan
 pub mod Columns

@@ -1,5 +1,6 @@
--- From the flat record, by groups of one total degree, to the columns, by powers of Y: the record's value is that of its rows; the
--- groups of the table follow one another; every place is in one group; congruent records are one. Assumes nothing.
+-- The value of a record in X is that of the polynomial with its bytes as coefficients. From the flat record in X and Y, by groups of
+-- one total degree, to the columns, by powers of Y: the record's value is that of its rows; the groups of the table follow one
+-- another; every place is in one group; congruent records are one. Assumes nothing.
 use mathlib.Core.Path.{_≡_, refl, sym, ap, _∙_}
 use mathlib.Core.List.{List}
 use mathlib.Core.Bool.{Bool, true, false, _&&_, false≢true}
@@ -16,10 +17,13 @@ use Rattle.bounded.proofs.Sum.{sum-eq, sum-add, sum-mul}
 use Rattle.bounded.proofs.Tab.{list-eq}
 use Rattle.field.specs.Congruence.{Cong}
 use Rattle.field.proofs.Congruence.{to-mod}
-use Rattle.definitions.specs.Code.{start, valueXY}
-use Rattle.definitions.specs.Word.{Word}
+use Rattle.field.specs.Word.{Word}
 use Rattle.polynomial.specs.Eval.{eval}
-use Rattle.polynomial.specs.Record.{coef, column, row}
+use Rattle.polynomial.specs.Record.{start, valueX, valueXY, coef, column, onRow}
+
+pub value-strip : (p d : ℕ) (F : List ℕ) (x : ℕ) → valueX p d F x ≡ eval (suc d) (at F) x % p
+unfolding valueX
+value-strip p d F x = ap (λ n. sum n (λ k. at F k * x ^ k) % p) (add-one d)
 
 -- a triangle summed by diagonals and by columns
 triangle : (d : ℕ) (f : ℕ → ℕ → ℕ) → sum (suc d) (λ k. sum (suc k) λ j. f (k - j) j) ≡ sum (suc d) (λ t. sum (suc (d - t)) λ i. f i t)
@@ -33,7 +37,7 @@ triangle (suc d) f = omega (arith, triangle d f, last, sum-eq (suc d) longer, su
     last = let e : suc d - suc d ≡ 0 = omega arith in rw e (omega arith)
 
 -- the value of document 01 is that of the row's polynomial
-pub value-rows : (p d : ℕ) (R : List ℕ) (x y : ℕ) → valueXY p d R x y ≡ eval (suc d) (row d (coef R) x) y % p
+pub value-rows : (p d : ℕ) (R : List ℕ) (x y : ℕ) → valueXY p d R x y ≡ eval (suc d) (onRow d (coef R) x) y % p
 unfolding valueXY
 value-rows p d R x y = ap (λ v. v % p)
     (ap (λ n. sum n λ k. sum (k + 1) λ j. at R (start k + j) * (x ^ (k - j) * y ^ j)) (add-one d)

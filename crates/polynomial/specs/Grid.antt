@@ -1,17 +1,17 @@
 -- Polynomials in two variables on a grid of a row points x and b column points y.
 --
---   radius a b d       max(a, b) (min(a, b) - d): the least number of cells in which two polynomials of total degree d < min(a, b) differ
+--   gridDistance a b d max(a, b) (min(a, b) - d): the least number of cells in which two polynomials of total degree d < min(a, b) differ
 --   apart q a b d x y k g h   in how many cells the terms of g and h below Y^k differ modulo suc q; all terms for k = d + 1
 --
 -- What this file is for: the distance of the codes on a product of two point sets, square or oblong.
 use Prim.Native.Nat.{ℕ, _*_, _-_, min, max}
 use Rattle.bounded.specs.Bounded.{sum}
-use Rattle.definitions.specs.Cost.{changed}
+use Rattle.distance.specs.Cost.{changed}
 use Rattle.polynomial.specs.Eval.{values}
-use Rattle.polynomial.specs.Record.{row}
+use Rattle.polynomial.specs.Record.{onRow}
 
-abbrev pub radius : (a b d : ℕ) → ℕ
-radius a b d = max a b * (min a b - d)
+abbrev pub gridDistance : (a b d : ℕ) → ℕ
+gridDistance a b d = max a b * (min a b - d)
 
 abbrev pub apart : (q a b d : ℕ) (x y : ℕ → ℕ) (k : ℕ) (g h : ℕ → ℕ → ℕ) → ℕ
-apart q a b d x y k g h = sum a λ r. changed b (values q k (row d g (x r)) y) (values q k (row d h (x r)) y)
+apart q a b d x y k g h = sum a λ r. changed b (values q k (onRow d g (x r)) y) (values q k (onRow d h (x r)) y)

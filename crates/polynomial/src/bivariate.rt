@@ -9,8 +9,8 @@ ghost use lib.Dec.{leb};
 ghost use lib.ListN.{length, getD};
 ghost use Rattle.bounded.specs.Bounded.{at};
 ghost use Rattle.field.specs.Row.{row, Row, Reciprocal};
-ghost use Rattle.definitions.specs.Code.{start as startOf, valueXY};
-ghost use Rattle.definitions.specs.Word.{Word};
+ghost use Rattle.polynomial.specs.Record.{start as startOf, valueXY};
+ghost use Rattle.field.specs.Word.{Word};
 ghost use Rattle.polynomial.specs.Record.{coef};
 ghost use Rattle.polynomial.specs.Powers.{Rows, Powers, Columns};
 

@@ -10,7 +10,8 @@ use lib.Seq.{getD-take, getD-drop, length-take-le}
 use Rattle.bounded.specs.Bounded.{at}
 use Rattle.bounded.proofs.Sum.{sum-eq, sum-append}
 use Rattle.definitions.specs.Code.{Code, cells, value}
-use Rattle.definitions.specs.Cost.{full, cell, radius}
+use Rattle.definitions.specs.Cost.{full, radius}
+use Rattle.distance.specs.Cost.{cell}
 use Rattle.definitions.specs.Calls.{readingOf}
 use Rattle.distance.specs.Level.{differ}
 use Rattle.distance.specs.Summary.{summary}

@@ -12,12 +12,14 @@ use Rattle.bounded.proofs.Sum.{sum-eq, cell-row, cell-column}
 use Rattle.field.specs.Row.{row, Row}
 use Rattle.field.proofs.Row.{row-at, row-of, beyond}
 use Rattle.definitions.specs.Plan.{modulus, side, degree, point}
-use Rattle.definitions.specs.Code.{strip, square, start, value, valueXY, gridValue}
+use Rattle.definitions.specs.Code.{strip, square, value}
+use Rattle.polynomial.specs.Record.{start, valueXY, gridValue}
 use Rattle.definitions.specs.Sound.{Sound}
-use Rattle.definitions.specs.Word.{Word, IsRecord}
+use Rattle.field.specs.Word.{Word}
+use Rattle.definitions.specs.Code.{IsRecord}
 use Rattle.plan.proofs.Residues.{points-row}
 use Rattle.polynomial.specs.Eval.{eval}
-use Rattle.polynomial.proofs.Plan.{value-strip}
+use Rattle.polynomial.proofs.Record.{value-strip}
 
 pub row-in : (r n : ℕ) → r < n → r * n + n ≤ n * n
 row-in r n h = omega (arith, mul-le-mul-right n h, suc-mul r n)

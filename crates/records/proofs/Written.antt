@@ -12,7 +12,8 @@ use Rattle.bounded.specs.Bounded.{at, tab}
 use Rattle.bounded.proofs.Sum.{cell-row, cell-column}
 use Rattle.bounded.proofs.Tab.{length-tab, tab-at, tab-append}
 use Rattle.definitions.specs.Plan.{modulus, side, degree, point}
-use Rattle.definitions.specs.Code.{Code, strip, square, valueXY, cells, value, mark}
+use Rattle.definitions.specs.Code.{Code, strip, square, cells, value, mark}
+use Rattle.polynomial.specs.Record.{valueXY}
 use Rattle.definitions.specs.Demands.{Written}
 use Rattle.records.proofs.Square.{row-in}
 

@@ -5,7 +5,8 @@
 -- What this file is for: it holds of a row, of the rows so far, and of the whole mark.
 use mathlib.Core.Path.{_≡_}
 use Prim.Native.Nat.{ℕ}
-use Rattle.definitions.specs.Cost.{full, cost, changed}
+use Rattle.definitions.specs.Cost.{full}
+use Rattle.distance.specs.Cost.{cost, changed}
 
 pub record Measured (n : ℕ) (s u v : ℕ → ℕ) (D k : ℕ) : Type 0 where
   pub sum : D ≡ cost full n s u v

@@ -10,7 +10,8 @@ ghost use lib.ListN.{length};
 ghost use Rattle.bounded.specs.Bounded.{at, tab};
 ghost use Rattle.field.specs.Row.{Reciprocal};
 ghost use Rattle.polynomial.specs.Powers.{Rows, Powers, Columns};
-ghost use Rattle.definitions.specs.Code.{strip as stripCode, square, gridValue, mark as markOf};
+ghost use Rattle.definitions.specs.Code.{strip as stripCode, square, mark as markOf};
+ghost use Rattle.polynomial.specs.Record.{gridValue};
 ghost use Rattle.definitions.specs.Accepted.{Writing};
 
 // Fills the mark.

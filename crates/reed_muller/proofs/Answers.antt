@@ -16,7 +16,7 @@ use Rattle.distance.specs.Doubts.{Doubts}
 use Rattle.reed_solomon.specs.Strip.{Strip}
 use Rattle.reed_muller.specs.declared.grid.Grid.{Grid}
 use Rattle.reed_muller.specs.Fit.{Fit}
-use Rattle.reed_muller.specs.Loops.{cells}
+use Rattle.reed_muller.specs.Loops.{cellAt}
 use Rattle.reed_muller.specs.Answers.{unknown, Answer, Known, Answered}
 use Rattle.reed_muller.proofs.Line.{line-answered, line-unanswered}
 
@@ -24,8 +24,8 @@ pub row-zeros : {p : ℕ} → 0 < p → Row p (replicate 16 0)
 row-zeros z = row-of z refl λ j k. rw (getD-replicate {A = ℕ} 16 j 0 0 k) z
 
 -- a place of each of some rows
-pub column-row : {p : ℕ} {m : List (List ℕ)} {l : List ℕ} (t : ℕ) → 0 < p → Rows p m → l ≡ row (λ r. cells m r t) → Row p l
-column-row {m} t z R e = rw e (row-of z (length-tab 16 _) λ r k. rw (row-at (λ r. cells m r t) r k) (R .done r k .small t))
+pub column-row : {p : ℕ} {m : List (List ℕ)} {l : List ℕ} (t : ℕ) → 0 < p → Rows p m → l ≡ row (λ r. cellAt m r t) → Row p l
+column-row {m} t z R e = rw e (row-of z (length-tab 16 _) λ r k. rw (row-at (λ r. cellAt m r t) r k) (R .done r k .small t))
 
 pub positive : {g : Grid} → Fit g → 0 < g .p
 positive f = omega (arith, f .prime .least)

@@ -9,15 +9,15 @@ use native.Mathlib.Nat.{mul-le-mul-left, zero-mod}
 use Rattle.bounded.proofs.Sum.{sum-le, sum-eq}
 use Rattle.field.specs.Congruence.{Cong}
 use Rattle.field.proofs.Congruence.{same, ~sym, _⨾_, ~add, ~mul-right}
-use Rattle.definitions.specs.Cost.{cell, cost}
+use Rattle.distance.specs.Cost.{cell, cost}
 use Rattle.polynomial.specs.Eval.{eval, values}
-use Rattle.polynomial.specs.Grid.{radius}
+use Rattle.polynomial.specs.Grid.{gridDistance}
 use Rattle.polynomial.proofs.Eval.{eval-cong}
-use Rattle.polynomial.proofs.Grid.{radius-split}
+use Rattle.polynomial.proofs.Grid.{distance-split}
 use Rattle.distance.proofs.Cost.{cell-less}
 use Rattle.reed_solomon.specs.Strip.{Strip}
-use Rattle.reed_muller.specs.Line.{Entered, Subtracted}
-use Rattle.reed_muller.specs.Degree.{total, remaining, Agrees, Costs, Near, Left, lines, Bivariate, gridCost, GridNear, GridCosts, GridLeft}
+use Rattle.reed_muller.specs.Line.{HandsOn, Subtracted}
+use Rattle.reed_muller.specs.Degree.{total, remaining, Agrees, Costs, NearMessage, Left, lines, Bivariate, gridCost, GridNear, GridCosts, GridLeft}
 
 module _ {q F a b d : ℕ} {y : ℕ → ℕ} {u : ℕ → ℕ → ℕ} where
   pub costs-start : (s found : ℕ → ℕ → ℕ) → Costs q F a b d y u (suc d) s s found
@@ -47,16 +47,16 @@ module _ {q F a b d D : ℕ} {y : ℕ → ℕ} {u : ℕ → ℕ → ℕ} {Code :
 
   -- E is the distance of the words that the coefficients of Y^t form
   module _ {s left found : ℕ → ℕ → ℕ} {t : ℕ} (td : t ≤ d) (E : ℕ) (enough : D ≤ (b - t) * E) (L : Left q F a b d D y u Code (suc t) s left found)
-      {e v : ℕ → ℕ} (cells : (r : ℕ) → r < a → Entered q F b t y (left r) (u r) (e r) (v r)) where
+      {e v : ℕ → ℕ} (cellAt : (r : ℕ) → r < a → HandsOn q F b t y (left r) (u r) (e r) (v r)) where
     -- these are under their radius
-    pub lower-near : (g : ℕ → ℕ → ℕ) → Near q F a b d D y u Code s g → cost (F * (b - t)) a e v (λ r. g t r % suc q) < F * (b - t) * E
-    lower-near g n = omega (arith, sum-le a (λ r l. cells r l .cheap (λ t. g t r)), L .costs .keeps g (L .agrees g n), n .1, mul-le-mul-left F enough)
+    pub lower-near : (g : ℕ → ℕ → ℕ) → NearMessage q F a b d D y u Code s g → cost (F * (b - t)) a e v (λ r. g t r % suc q) < F * (b - t) * E
+    lower-near g n = omega (arith, sum-le a (λ r l. cellAt r l .cheap (λ t. g t r)), L .costs .keeps g (L .agrees g n), n .1, mul-le-mul-left F enough)
 
     -- what the reader with one coordinate fewer answers: w has the coefficients of Y^t of every message that is under the radius there
     module _ {answered : Bool} {w : ℕ → ℕ}
         (S : (g : ℕ → ℕ → ℕ) → Code g → cost (F * (b - t)) a e v (λ r. g t r % suc q) < F * (b - t) * E →
         (answered ≡ true) × ((r : ℕ) → r < a → Cong q (w r) (g t r))) where
-      pub left-none : answered ≡ false → (g : ℕ → ℕ → ℕ) → Near q F a b d D y u Code s g → ⊥
+      pub left-none : answered ≡ false → (g : ℕ → ℕ → ℕ) → NearMessage q F a b d D y u Code s g → ⊥
       left-none z g n = false≢true (sym z ∙ S g (n .0) (lower-near g n) .0)
 
       pub left-next : {left′ found′ : ℕ → ℕ → ℕ} → ((r : ℕ) → r < a → Subtracted q b t y (w r) (left r) (left′ r)) →
@@ -83,17 +83,17 @@ module _ {q F a b d : ℕ} (x : ℕ → ℕ) {y : ℕ → ℕ} {u : ℕ → ℕ 
   grid-start s found = left-start s (lines d x found)
 
   module _ {s left : ℕ → ℕ → ℕ} (found : ℕ → ℕ → ℕ) {t : ℕ} (small : d < min a b) (td : t ≤ d) (L : GridLeft q F a b d x y u (suc t) s left found)
-      {e v : ℕ → ℕ} (cells : (r : ℕ) → r < a → Entered q F b t y (left r) (u r) (e r) (v r))
+      {e v : ℕ → ℕ} (cellAt : (r : ℕ) → r < a → HandsOn q F b t y (left r) (u r) (e r) (v r))
       {answered : Bool} {w : ℕ → ℕ} {c : ℕ} (S : Strip q (F * (b - t)) a (d - t) x e v answered w c) where
     -- the strip of leading coefficients has no answer: no record is under the radius
     pub grid-none : answered ≡ false → (h : ℕ → ℕ → ℕ) → GridNear q F a b d x y u s h → ⊥
-    grid-none z h n = left-none td (a - (d - t)) (radius-split a b d t td small) L cells (bivariate-strip d t S) z (lines d x h) ((h, λ t r. refl), n)
+    grid-none z h n = left-none td (a - (d - t)) (distance-split a b d t td small) L cellAt (bivariate-strip d t S) z (lines d x h) ((h, λ t r. refl), n)
 
     -- it has, and z r are its values: subtracted, they leave the lower terms
     pub grid-next : {left′ : ℕ → ℕ → ℕ} (found′ : ℕ → ℕ → ℕ) (z : ℕ → ℕ) → ((r : ℕ) → r < a → Cong q (z r) (eval (suc (d - t)) w (x r))) →
         ((r : ℕ) → r < a → Subtracted q b t y (z r) (left r) (left′ r)) → ((i : ℕ) → i + t ≤ d → Cong q (found′ i t) (w i)) →
         ((t′ i : ℕ) → t < t′ → i + t′ ≤ d → Cong q (found′ i t′) (found i t′)) → GridLeft q F a b d x y u t s left′ found′
-    grid-next found′ z value sub new old = left-next td (a - (d - t)) (radius-split a b d t td small) L cells
+    grid-next found′ z value sub new old = left-next td (a - (d - t)) (distance-split a b d t td small) L cellAt
         (λ g m n. let o = bivariate-strip d t S g m n in (o .0, λ r l. value r l ⨾ o .1 r l)) sub
         (λ r l. eval-cong (suc (d - t)) (x r) (λ i k. new i (omega arith)) ⨾ ~sym (value r l))
         (λ t′ r l m _. eval-cong (suc (d - t′)) (x r) λ i k. old t′ i l (omega arith))
@@ -105,6 +105,6 @@ module _ {q F a b d : ℕ} (x : ℕ → ℕ) {y : ℕ → ℕ} {u : ℕ → ℕ 
     grid-cost C h e = costs-last C (lines d x h) λ t r _ m _. eval-cong (suc (d - t)) (x r) λ i k. e t i (omega arith)
 
     -- where every record under the radius is the one found, and that is not under it, there is none
-    pub grid-over : GridLeft q F a b d x y u 0 s left found → F * radius a b d ≤ remaining F a b u left →
+    pub grid-over : GridLeft q F a b d x y u 0 s left found → F * gridDistance a b d ≤ remaining F a b u left →
         (h : ℕ → ℕ → ℕ) → GridNear q F a b d x y u s h → ⊥
     grid-over L m h n = omega (arith, costs-last (L .costs) (lines d x h) (L .agrees (lines d x h) ((h, λ t r. refl), n)))

@@ -4,7 +4,7 @@ use mathlib.Core.List.{List}
 use Prim.Native.Nat.{ℕ, _+_, _-_, _<_}
 use native.Mathlib.Omega.{arith}
 use native.Mathlib.Decide.{ℕ-discrete}
-use Rattle.definitions.specs.Code.{start}
+use Rattle.polynomial.specs.Record.{start}
 use Rattle.polynomial.proofs.Record.{start-below}
 use Rattle.reed_muller.specs.Groups.{Grouped, Flat}
 

@@ -5,10 +5,8 @@ pub mod Unique
 pub mod Loops
 pub mod Groups
 pub mod Last
-pub mod Mark
 pub mod Answers
 pub mod Rest
 pub mod Drawn
 pub mod Steps
 pub mod Outcome
-pub mod Square

@@ -12,13 +12,13 @@ use borrow.Author.Tests.{eq-eqb}
 use Rattle.bounded.proofs.Sum.{sum-eq}
 use Rattle.field.specs.Congruence.{Cong}
 use Rattle.field.proofs.Congruence.{same, to-mod, _⨾_, ~add, ~mul-right}
-use Rattle.definitions.specs.Cost.{cell, cost, changed}
+use Rattle.distance.specs.Cost.{cell, cost, changed}
 use Rattle.polynomial.specs.Eval.{eval, values, Apart}
 use Rattle.polynomial.proofs.Eval.{same-or-far}
-use Rattle.distance.proofs.Cost.{cost-two-words, cost-cong, cell-full, cell-less}
-use Rattle.distance.proofs.Unique.{near-one}
+use Rattle.distance.proofs.Cost.{cost-two-words, cell-full, cell-less}
+use Rattle.polynomial.proofs.Unique.{cost-cong, near-one}
 use Rattle.reed_solomon.specs.Strip.{Strip}
-use Rattle.reed_muller.specs.Line.{Entered, Subtracted}
+use Rattle.reed_muller.specs.Line.{HandsOn, Subtracted}
 
 -- the cell of an answer that is another polynomial than the one that costs c
 cell-other : (R c e v w : ℕ) → v < R → 2 * R ≤ c + v → cell R e v w ≤ c
@@ -30,7 +30,7 @@ cell-other R c e v w l h = go (eqb e w)
 
 module _ {q F n k : ℕ} {y s u : ℕ → ℕ} (ay : Apart q n y) (du : (j : ℕ) → j < n → u j ≤ F) where
   -- an answered line: the answer's leading coefficient, and its cost as the doubt
-  pub line-answered : {w : ℕ → ℕ} {g : ℕ} → Strip q F n k y s u true w g → Entered q F n k y s u (w k % suc q) g
+  pub line-answered : {w : ℕ → ℕ} {g : ℕ} → Strip q F n k y s u true w g → HandsOn q F n k y s u (w k % suc q) g
   line-answered {w} {g} S = record { below = omega (arith, S .sound refl .1); cheap = λ h. kind h (same-or-far ay k w h) }
     where
       kind : (h : ℕ → ℕ) → ((i : ℕ) → i ≤ k → Cong q (w i) (h i)) ⊎ (n - k ≤ changed n (values q (suc k) w y) (values q (suc k) h y)) →
@@ -56,7 +56,7 @@ module _ {q F n k : ℕ} {y s u : ℕ → ℕ} (ay : Apart q n y) (du : (j : ℕ
           (~add (same refl) (~mul-right (y j ^ suc k) c) ⨾ T .term j l))
 
 -- an unanswered line: any symbol, with the full doubt
-pub line-unanswered : {q F n k : ℕ} {y s u : ℕ → ℕ} {w : ℕ → ℕ} {g : ℕ} (e : ℕ) → Strip q F n k y s u false w g → Entered q F n k y s u e (F * (n - k))
+pub line-unanswered : {q F n k : ℕ} {y s u : ℕ → ℕ} {w : ℕ → ℕ} {g : ℕ} (e : ℕ) → Strip q F n k y s u false w g → HandsOn q F n k y s u e (F * (n - k))
 line-unanswered {q} {F} {n} {k} {y} {s} {u} e S = record { below = omega arith; cheap = λ h. rw (cell-full (F * (n - k)) e (h k % suc q)) (over h) }
   where
     over : (h : ℕ → ℕ) → F * (n - k) ≤ cost F n s u (values q (suc k) h y)

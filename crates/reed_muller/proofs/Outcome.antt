@@ -9,13 +9,13 @@ use borrow.Author.Tests.{lt-ltb, le-ltb}
 use Rattle.bounded.specs.Bounded.{at}
 use Rattle.bounded.proofs.Sum.{sum-eq, sum-more}
 use Rattle.field.proofs.Congruence.{same}
-use Rattle.definitions.specs.Cost.{cell, cost}
+use Rattle.distance.specs.Cost.{cell, cost}
 use Rattle.polynomial.specs.Record.{coef}
 use Rattle.reed_muller.specs.declared.grid.Grid.{Grid}
 use Rattle.reed_muller.specs.Degree.{remaining}
 use Rattle.reed_muller.specs.Fit.{Fit}
 use Rattle.reed_muller.specs.Groups.{Flat}
-use Rattle.reed_muller.specs.Loops.{cells}
+use Rattle.reed_muller.specs.Loops.{cellAt}
 use Rattle.reed_muller.specs.Outcome.{Outcome, under}
 use Rattle.reed_muller.specs.Steps.{found, limit, Solved}
 use Rattle.reed_muller.proofs.Last.{decoded-none, decoded-found}
@@ -23,9 +23,9 @@ use Rattle.reed_muller.proofs.Rest.{rest-whole}
 
 -- a row more of what is left, against a row of zeros
 pub remaining-more : (F r b : ℕ) (u left : List (List ℕ)) → b ≤ 16 →
-    remaining F (r + 1) b (cells u) (cells left) ≡ remaining F r b (cells u) (cells left) + cost F b (cells left r) (cells u r) (at (replicate 16 0))
-remaining-more F r b u left h = sum-more r _ ∙ ap (λ n. remaining F r b (cells u) (cells left) + n)
-    (sum-eq b λ c l. ap (cell F (cells left r c) (cells u r c)) (sym (getD-replicate {A = ℕ} 16 c 0 0 (omega arith))))
+    remaining F (r + 1) b (cellAt u) (cellAt left) ≡ remaining F r b (cellAt u) (cellAt left) + cost F b (cellAt left r) (cellAt u r) (at (replicate 16 0))
+remaining-more F r b u left h = sum-more r _ ∙ ap (λ n. remaining F r b (cellAt u) (cellAt left) + n)
+    (sum-eq b λ c l. ap (cell F (cellAt left r c) (cellAt u r c)) (sym (getD-replicate {A = ℕ} 16 c 0 0 (omega arith))))
 
 module _ {g : Grid} {s u left columns : List (List ℕ)} {cost : ℕ} (S : Solved g s u left columns cost) where
   -- the cost is not under the radius

@@ -21,10 +21,10 @@ use Rattle.polynomial.specs.Powers.{Rows}
 use Rattle.polynomial.proofs.Eval.{eval-cong}
 use Rattle.reed_solomon.specs.Strip.{Strip}
 use Rattle.reed_muller.specs.declared.grid.Grid.{Grid}
-use Rattle.reed_muller.specs.Line.{Entered}
+use Rattle.reed_muller.specs.Line.{HandsOn}
 use Rattle.reed_muller.specs.Degree.{lines}
 use Rattle.reed_muller.specs.Fit.{Fit, DoubtRows}
-use Rattle.reed_muller.specs.Loops.{line, cells}
+use Rattle.reed_muller.specs.Loops.{line, cellAt}
 use Rattle.reed_muller.specs.Answers.{unknown, Answer, kept, KnownRows, AnsweredRows}
 use Rattle.reed_muller.specs.Steps.{found, Without, Lessened, limit, left-over, Stepped, Solving, Solved}
 use Rattle.reed_muller.proofs.Answers.{positive, column-row}
@@ -74,7 +74,7 @@ kept-from e z v R = go (eqb e z) (ltb v R) refl refl
     go false b i j h = absurd (h refl)
 
 module _ {g : Grid} {j : ℕ} (f : Fit g) (left u left′ ws : List (List ℕ)) (column : List ℕ) {e z v v′ : List ℕ} (du : DoubtRows g u)
-    (A : AnsweredRows g (suc j) left u ws v) (leading : e ≡ row λ r. cells ws r (suc j)) (values : z ≡ row λ r. eval (suc (g .d - suc j)) (at column) (at (g .x) r) % g .p)
+    (A : AnsweredRows g (suc j) left u ws v) (leading : e ≡ row λ r. cellAt ws r (suc j)) (values : z ≡ row λ r. eval (suc (g .d - suc j)) (at column) (at (g .x) r) % g .p)
     (carried : v′ ≡ row λ r. kept (at e r) (at z r) (at v r) (g .full * (g .b - suc j))) (S : (r : ℕ) → r < g .a → Lessened g (suc j) column left left′ r) where
   -- an answer whose leading coefficient was found is the answer of what is left
   answer-kept : (r : ℕ) → r < g .a → at v′ r ≢ unknown → Answer g j (line left′ r) (line u r) (line ws r) (at v′ r)
@@ -94,12 +94,12 @@ module _ {g : Grid} {j : ℕ} (f : Fit g) (left u left′ ws : List (List ℕ)) 
 
 -- what the lines hand on is a strip: its symbols are a row, its doubts at most the full one
 module _ {g : Grid} {t : ℕ} (f : Fit g) (left u ws : List (List ℕ)) {e v : List ℕ} (A : AnsweredRows g t left u ws v)
-    (leading : e ≡ row λ r. cells ws r t) where
+    (leading : e ≡ row λ r. cellAt ws r t) where
   pub leading-row : Row (g .p) e
   leading-row = column-row t (positive f) (A .rows) leading
 
-  pub leading-entered : (r : ℕ) → r < g .a → Entered (g .p - 1) (g .full) (g .b) t (at (g .y)) (cells left r) (cells u r) (at e r) (at v r)
-  leading-entered r l = rw (leading, row-at (λ r. cells ws r t) r (omega (arith, f .rows))) (A .answered r l .entered)
+  pub leading-entered : (r : ℕ) → r < g .a → HandsOn (g .p - 1) (g .full) (g .b) t (at (g .y)) (cellAt left r) (cellAt u r) (at e r) (at v r)
+  leading-entered r l = rw (leading, row-at (λ r. cellAt ws r t) r (omega (arith, f .rows))) (A .answered r l .entered)
 
   module _ {column : List ℕ} {cost : ℕ} {ok : Bool} (good : Row (g .p) column)
       (S : Strip (g .p - 1) (g .full * (g .b - t)) (g .a) (g .d - t) (at (g .x)) (at e) (at v) ok (at column) cost) where

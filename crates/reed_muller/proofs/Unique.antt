@@ -5,10 +5,10 @@ use native.Mathlib.Omega.{arith}
 use native.Mathlib.Nat.{mul-le-mul-left}
 use Rattle.bounded.proofs.Sum.{sum-le, sum-add, sum-mul}
 use Rattle.field.specs.Congruence.{Cong}
-use Rattle.definitions.specs.Cost.{cost, changed}
+use Rattle.distance.specs.Cost.{cost, changed}
 use Rattle.polynomial.specs.Eval.{values, Apart}
-use Rattle.polynomial.specs.Record.{row}
-use Rattle.polynomial.specs.Grid.{radius, apart}
+use Rattle.polynomial.specs.Record.{onRow}
+use Rattle.polynomial.specs.Grid.{gridDistance, apart}
 use Rattle.polynomial.proofs.Grid.{grid-same-or-far}
 use Rattle.distance.proofs.Cost.{cost-two-words}
 use Rattle.reed_muller.specs.Degree.{gridCost, GridNear}
@@ -18,15 +18,15 @@ pub grid-two : (q F a b d : ℕ) (x y : ℕ → ℕ) (u s g h : ℕ → ℕ → 
     2 * F * apart q a b d x y (suc d) g h ≤ gridCost q F a b d x y u s g + gridCost q F a b d x y u s h
 grid-two q F a b d x y u s g h du = omega (
   arith,
-  sum-mul a (2 * F) (λ r. changed b (values q (suc d) (row d g (x r)) y) (values q (suc d) (row d h (x r)) y)),
-  sum-add a (λ r. cost F b (s r) (u r) (values q (suc d) (row d g (x r)) y)) (λ r. cost F b (s r) (u r) (values q (suc d) (row d h (x r)) y)),
-  sum-le a λ r l. cost-two-words F b (s r) (u r) (values q (suc d) (row d g (x r)) y) (values q (suc d) (row d h (x r)) y) (λ c m. du r c l m),
+  sum-mul a (2 * F) (λ r. changed b (values q (suc d) (onRow d g (x r)) y) (values q (suc d) (onRow d h (x r)) y)),
+  sum-add a (λ r. cost F b (s r) (u r) (values q (suc d) (onRow d g (x r)) y)) (λ r. cost F b (s r) (u r) (values q (suc d) (onRow d h (x r)) y)),
+  sum-le a λ r l. cost-two-words F b (s r) (u r) (values q (suc d) (onRow d g (x r)) y) (values q (suc d) (onRow d h (x r)) y) (λ c m. du r c l m),
 )
 
 module _ {q F a b d : ℕ} {x y : ℕ → ℕ} {u : ℕ → ℕ → ℕ} (ax : Apart q a x) (ay : Apart q b y) (small : d < min a b)
     (du : (r c : ℕ) → r < a → c < b → u r c ≤ F) (s g h : ℕ → ℕ → ℕ) where
   -- two polynomials are the same, or where one is under the radius the other is over it
-  pub grid-same-or-over : ((t i : ℕ) → i + t ≤ d → Cong q (g i t) (h i t)) ⊎ (GridNear q F a b d x y u s g → F * radius a b d < gridCost q F a b d x y u s h)
+  pub grid-same-or-over : ((t i : ℕ) → i + t ≤ d → Cong q (g i t) (h i t)) ⊎ (GridNear q F a b d x y u s g → F * gridDistance a b d < gridCost q F a b d x y u s h)
   grid-same-or-over = elim (grid-same-or-far ax ay d small g h) [
     | inl e ↦ inl e
     | inr l ↦ inr λ n. omega (arith, grid-two q F a b d x y u s g h du, mul-le-mul-left F l)

@@ -23,7 +23,7 @@ use Rattle.field.specs.Row.{Row}
 use Rattle.polynomial.specs.Powers.{Rows}
 use Rattle.reed_solomon.specs.Strip.{Strip}
 use Rattle.reed_muller.specs.declared.grid.Grid.{Grid}
-use Rattle.reed_muller.specs.Line.{Entered}
+use Rattle.reed_muller.specs.Line.{HandsOn}
 use Rattle.reed_muller.specs.Loops.{line}
 
 abbrev pub unknown : ℕ
@@ -38,7 +38,7 @@ pub record Known (g : Grid) (t : ℕ) (s u w : List ℕ) (v : ℕ) : Type 0 wher
 
 pub record Answered (g : Grid) (t : ℕ) (s u w : List ℕ) (v : ℕ) : Type 0 where
   pub good : Row (g .p) w
-  pub entered : Entered (g .p - 1) (g .full) (g .b) t (at (g .y)) (at s) (at u) (at w t) v
+  pub entered : HandsOn (g .p - 1) (g .full) (g .b) t (at (g .y)) (at s) (at u) (at w t) v
   pub strip : v < g .full * (g .b - t) → Answer g t s u w v
 
 pub record KnownRows (g : Grid) (t : ℕ) (left u ws : List (List ℕ)) (vs : List ℕ) : Type 0 where

@@ -3,7 +3,7 @@
 --
 --   total q F a b y u k s g    what the terms of g below Y^k cost against the symbols s; all terms for k = d + 1
 --   remaining F a b u left     what is left, measured against 0
---   Near .. s g                g is a message, and under the radius F D
+--   NearMessage .. s g                g is a message, and under the radius F D
 --   Agrees q a d k found g     g has the coefficients found, those of Y^k and higher
 --   Costs .. k s left found    whatever has them costs below Y^k, against what is left, what it costs in full against the symbols
 --   Left .. k s left found     the invariant of the steps, from Y^d down to Y^k
@@ -14,17 +14,17 @@
 --
 --   lines d x h, Bivariate d x g   the message of such a polynomial; and that g is one
 --   gridCost, GridNear, GridCosts, GridLeft
---                                  the same four for it, with the distance `radius a b d`
+--                                  the same four for it, with the distance `gridDistance a b d`
 --
 -- What this file is for: the coefficients of one power of Y form a word with one coordinate fewer; it is read, and subtracted.
 use mathlib.Core.Path.{_≡_}
 use Prim.Native.Nat.{ℕ, suc, _*_, _≤_, _<_}
 use Rattle.bounded.specs.Bounded.{sum}
 use Rattle.field.specs.Congruence.{Cong}
-use Rattle.definitions.specs.Cost.{cost}
+use Rattle.distance.specs.Cost.{cost}
 use Rattle.polynomial.specs.Eval.{values}
 use Rattle.polynomial.specs.Record.{column}
-use Rattle.polynomial.specs.Grid.{radius}
+use Rattle.polynomial.specs.Grid.{gridDistance}
 
 abbrev pub total : (q F a b : ℕ) (y : ℕ → ℕ) (u : ℕ → ℕ → ℕ) (k : ℕ) (s g : ℕ → ℕ → ℕ) → ℕ
 total q F a b y u k s g = sum a λ r. cost F b (s r) (u r) (values q k (λ t. g t r) y)
@@ -39,11 +39,11 @@ pub record Costs (q F a b d : ℕ) (y : ℕ → ℕ) (u : ℕ → ℕ → ℕ) (
   pub keeps : (g : ℕ → ℕ → ℕ) → Agrees q a d k found g → total q F a b y u k left g ≡ total q F a b y u (suc d) s g
 
 module _ (q F a b d D : ℕ) (y : ℕ → ℕ) (u : ℕ → ℕ → ℕ) (Code : (ℕ → ℕ → ℕ) → Type 0) where
-  abbrev pub Near : (s g : ℕ → ℕ → ℕ) → Type 0
-  Near s g = Code g × (total q F a b y u (suc d) s g < F * D)
+  abbrev pub NearMessage : (s g : ℕ → ℕ → ℕ) → Type 0
+  NearMessage s g = Code g × (total q F a b y u (suc d) s g < F * D)
 
   pub record Left (k : ℕ) (s left found : ℕ → ℕ → ℕ) : Type 0 where
-    pub agrees : (g : ℕ → ℕ → ℕ) → Near s g → Agrees q a d k found g
+    pub agrees : (g : ℕ → ℕ → ℕ) → NearMessage s g → Agrees q a d k found g
     pub costs : Costs q F a b d y u k s left found
 
 abbrev pub lines : (d : ℕ) (x : ℕ → ℕ) (h : ℕ → ℕ → ℕ) → ℕ → ℕ → ℕ
@@ -57,10 +57,10 @@ module _ (q F a b d : ℕ) (x y : ℕ → ℕ) (u : ℕ → ℕ → ℕ) where
   gridCost s h = total q F a b y u (suc d) s (lines d x h)
 
   abbrev pub GridNear : (s h : ℕ → ℕ → ℕ) → Type 0
-  GridNear s h = gridCost s h < F * radius a b d
+  GridNear s h = gridCost s h < F * gridDistance a b d
 
   abbrev pub GridCosts : (k : ℕ) (s left found : ℕ → ℕ → ℕ) → Type 0
   GridCosts k s left found = Costs q F a b d y u k s left (lines d x found)
 
   abbrev pub GridLeft : (k : ℕ) (s left found : ℕ → ℕ → ℕ) → Type 0
-  GridLeft k s left found = Left q F a b d (radius a b d) y u (Bivariate d x) k s left (lines d x found)
+  GridLeft k s left found = Left q F a b d (gridDistance a b d) y u (Bivariate d x) k s left (lines d x found)

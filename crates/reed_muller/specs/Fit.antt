@@ -13,7 +13,7 @@ use Rattle.field.specs.Row.{Row, Reciprocal}
 use Rattle.polynomial.specs.Eval.{Apart}
 use Rattle.distance.specs.Doubts.{Doubts}
 use Rattle.reed_muller.specs.declared.grid.Grid.{Grid}
-use Rattle.reed_muller.specs.Loops.{cells}
+use Rattle.reed_muller.specs.Loops.{cellAt}
 
 pub record Fit (g : Grid) : Type 0 where
   pub prime : Prime (g .p)
@@ -29,4 +29,4 @@ pub record Fit (g : Grid) : Type 0 where
   pub full : g .full < 4096
 
 abbrev pub DoubtRows : Grid → List (List ℕ) → Type 0
-DoubtRows g u = (r : ℕ) → r < g .a → Doubts (g .full) (g .b) (cells u r)
+DoubtRows g u = (r : ℕ) → r < g .a → Doubts (g .full) (g .b) (cellAt u r)

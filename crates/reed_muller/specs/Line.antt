@@ -1,16 +1,16 @@
 -- A line of a mark, as a row: n points y, symbols s, doubts u and full doubt F, modulo suc q. It is read as a strip of degree k.
 --
---   Entered q F n k y s u e v   the cell that the line becomes in the code with one coordinate fewer, symbol e and doubt v at most the
+--   HandsOn q F n k y s u e v   the cell that the line becomes in the code with one coordinate fewer, symbol e and doubt v at most the
 --                               full doubt F (n - k): for the leading coefficient of any polynomial h it costs at most what h costs in the line
 --   Subtracted q n t y e s s′   symbols s, all below the modulus, with the term e Y^t subtracted are s′
 --
 -- What this file is for: what a line hands on, and what is left of it; the degree step asks no more of a line.
 use Prim.Native.Nat.{ℕ, suc, _+_, _*_, _-_, _%_, _^_, _≤_, _<_}
 use Rattle.field.specs.Congruence.{Cong}
-use Rattle.definitions.specs.Cost.{cell, cost}
+use Rattle.distance.specs.Cost.{cell, cost}
 use Rattle.polynomial.specs.Eval.{values}
 
-pub record Entered (q F n k : ℕ) (y s u : ℕ → ℕ) (e v : ℕ) : Type 0 where
+pub record HandsOn (q F n k : ℕ) (y s u : ℕ → ℕ) (e v : ℕ) : Type 0 where
   pub below : v ≤ F * (n - k)
   pub cheap : (h : ℕ → ℕ) → cell (F * (n - k)) e v (h k % suc q) ≤ cost F n s u (values q (suc k) h y)
 

@@ -1,7 +1,7 @@
 -- Loops over more than one array, or over a part of one; loops over one array have `Upto` and `Passed` of the crate `field`.
 --
 --   line m r               row r of the rows m, and the empty row beyond their end
---   cells m r c            cell c of row r
+--   cellAt m r c           cell c of row r
 --   Both n z U T l k i     as `Passed`, of elements in pairs with numbers
 --   Stretch n a f old l j  of n numbers, the j from a on are those of f, and those before a are as in old
 --
@@ -15,8 +15,8 @@ use Rattle.bounded.specs.Bounded.{at}
 abbrev pub line : List (List ℕ) → ℕ → List ℕ
 line m r = getD m r []
 
-abbrev pub cells : List (List ℕ) → ℕ → ℕ → ℕ
-cells m r c = at (line m r) c
+abbrev pub cellAt : List (List ℕ) → ℕ → ℕ → ℕ
+cellAt m r c = at (line m r) c
 
 pub record Both {A : Type 0} (n : ℕ) (z : A) (U T : ℕ → A → ℕ → Type 0) (l : List A) (k : List ℕ) (i : ℕ) : Type 0 where
   pub size : length l ≡ 16

@@ -13,7 +13,7 @@ use mathlib.Core.Bool.{Bool, true}
 use mathlib.Core.List.{List}
 use Prim.Native.Nat.{ℕ, suc, _+_, _*_, _≤_, _<_}
 use Rattle.bounded.specs.Bounded.{at}
-use Rattle.polynomial.specs.Grid.{radius}
+use Rattle.polynomial.specs.Grid.{gridDistance}
 use Rattle.distance.specs.Loaded.{Loaded}
 use Rattle.reed_muller.specs.Degree.{gridCost, GridNear}
 
@@ -24,6 +24,6 @@ abbrev pub LoadedGrid : (F a b : ℕ) (s u : List ℕ) (s′ u′ : ℕ → ℕ 
 LoadedGrid F a b s u s′ u′ = (r c : ℕ) → r < a → c < b → Loaded F (grid b s r c) (grid b u r c) (s′ r c) (u′ r c)
 
 pub record Decoded (q F a b d : ℕ) (x y : ℕ → ℕ) (s u : ℕ → ℕ → ℕ) (found : Bool) (w : ℕ → ℕ → ℕ) (g : ℕ) : Type 0 where
-  pub sound : found ≡ true → (g ≡ gridCost q F a b d x y u s w) × (g < F * radius a b d)
+  pub sound : found ≡ true → (g ≡ gridCost q F a b d x y u s w) × (g < F * gridDistance a b d)
   pub below : found ≡ true → (t i : ℕ) → i + t ≤ d → w i t < suc q
   pub only : (h : ℕ → ℕ → ℕ) → GridNear q F a b d x y u s h → found ≡ true

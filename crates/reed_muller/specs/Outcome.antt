@@ -15,7 +15,7 @@ use lib.Dec.{ltb}
 use Rattle.bounded.specs.Bounded.{at}
 use Rattle.polynomial.specs.Record.{coef}
 use Rattle.reed_muller.specs.declared.grid.Grid.{Grid}
-use Rattle.reed_muller.specs.Loops.{cells}
+use Rattle.reed_muller.specs.Loops.{cellAt}
 use Rattle.reed_muller.specs.Mark.{Decoded}
 use Rattle.reed_muller.specs.Rest.{Remains}
 use Rattle.reed_muller.specs.Steps.{limit}
@@ -24,5 +24,5 @@ abbrev pub under : Grid → ℕ → Bool
 under g cost = ltb cost (limit g)
 
 pub record Outcome (g : Grid) (s u left : List (List ℕ)) (found : Bool) (m : List ℕ) (cost : ℕ) : Type 0 where
-  pub decoded : Decoded (g .p - 1) (g .full) (g .a) (g .b) (g .d) (at (g .x)) (at (g .y)) (cells s) (cells u) found (coef m) cost
-  pub remains : found ≡ true → Remains (g .p - 1) (g .a) (g .b) (g .d) (at (g .x)) (at (g .y)) (cells s) (cells left) (coef m)
+  pub decoded : Decoded (g .p - 1) (g .full) (g .a) (g .b) (g .d) (at (g .x)) (at (g .y)) (cellAt s) (cellAt u) found (coef m) cost
+  pub remains : found ≡ true → Remains (g .p - 1) (g .a) (g .b) (g .d) (at (g .x)) (at (g .y)) (cellAt s) (cellAt left) (coef m)

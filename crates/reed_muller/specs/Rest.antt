@@ -8,7 +8,7 @@
 use Prim.Native.Nat.{ℕ, suc, _+_, _<_}
 use Rattle.field.specs.Congruence.{Cong}
 use Rattle.polynomial.specs.Eval.{eval}
-use Rattle.polynomial.specs.Record.{row}
+use Rattle.polynomial.specs.Record.{onRow}
 use Rattle.reed_muller.specs.Degree.{Agrees}
 
 pub record Rest (q a b d : ℕ) (y : ℕ → ℕ) (k : ℕ) (s left found : ℕ → ℕ → ℕ) : Type 0 where
@@ -17,4 +17,4 @@ pub record Rest (q a b d : ℕ) (y : ℕ → ℕ) (k : ℕ) (s left found : ℕ 
 
 pub record Remains (q a b d : ℕ) (x y : ℕ → ℕ) (s left h : ℕ → ℕ → ℕ) : Type 0 where
   pub below : (r c : ℕ) → r < a → c < b → left r c < suc q
-  pub whole : (r c : ℕ) → r < a → c < b → Cong q (left r c + eval (suc d) (row d h (x r)) (y c)) (s r c)
+  pub whole : (r c : ℕ) → r < a → c < b → Cong q (left r c + eval (suc d) (onRow d h (x r)) (y c)) (s r c)

@@ -4,10 +4,10 @@ use distance::word;
 ghost use mathlib.Core.Path.{_≡_};
 ghost use Prim.Native.Nat.{_*_, _≤_, _<_};
 ghost use Rattle.field.specs.Row.{Row};
-ghost use Rattle.polynomial.specs.Grid.{radius as radiusOf};
+ghost use Rattle.polynomial.specs.Grid.{gridDistance};
 ghost use Rattle.polynomial.specs.Powers.{Rows};
 ghost use Rattle.reed_muller.specs.Fit.{Fit, DoubtRows};
-ghost use Rattle.reed_muller.specs.Loops.{cells};
+ghost use Rattle.reed_muller.specs.Loops.{cellAt};
 ghost use Rattle.reed_muller.specs.Degree.{remaining};
 ghost use Rattle.reed_muller.specs.Steps.{Without};
 
@@ -31,7 +31,7 @@ pub fn subtract(g: Grid, left: &mut [[u16; 16]; 16], v: [u16; 16], power: [u16; 
 // What is left, measured against 0.
 pub fn measure(g: Grid, left: &[[u16; 16]; 16], doubts: &[[u32; 16]; 16]) -> u32
     requires { ⌜ Fit g × DoubtRows g (now doubts) ⌝ }
-    ensures { λ r. ⌜ r ≡ remaining (g .full) (g .a) (g .b) (cells (now (doubts .entry))) (cells (now (left .entry))) ⌝ }
+    ensures { λ r. ⌜ r ≡ remaining (g .full) (g .a) (g .b) (cellAt (now (doubts .entry))) (cellAt (now (left .entry))) ⌝ }
 {
     let a = g.a;
     let mut sum = 0;
@@ -54,7 +54,7 @@ fn area(full: u32, m: usize, n: usize) -> u32
 // The full doubt times the least number of cells in which two records differ, max(a, b) (min(a, b) - d).
 pub fn radius(g: Grid) -> u32
     requires { ⌜ Fit g ⌝ }
-    ensures { λ r. ⌜ r ≡ g .full * radiusOf (g .a) (g .b) (g .d) ⌝ }
+    ensures { λ r. ⌜ r ≡ g .full * gridDistance (g .a) (g .b) (g .d) ⌝ }
 {
     if g.a < g.b {
         return area(g.full, g.b, g.a - g.d);

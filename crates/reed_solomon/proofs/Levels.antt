@@ -19,23 +19,23 @@ use Rattle.field.proofs.Row.{row-at}
 use Rattle.distance.specs.Level.{erased, weight}
 use Rattle.distance.proofs.Cost.{doubts-cost}
 use Rattle.distance.proofs.Level.{some-cell}
-use Rattle.distance.proofs.Unique.{near-one}
-use Rattle.definitions.specs.Cost.{cost}
+use Rattle.polynomial.proofs.Unique.{near-one}
+use Rattle.distance.specs.Cost.{cost}
 use Rattle.polynomial.specs.Eval.{values}
 use Rattle.welch_berlekamp.specs.declared.newton.Newton.{Newton}
 use Rattle.reed_solomon.specs.declared.decoder.Decoded.{Decoded}
 use Rattle.welch_berlekamp.specs.Order.{taken, key, Placed, Least, Entering}
 use Rattle.welch_berlekamp.specs.Pairs.{Pairs, Holds, Enters}
-use Rattle.reed_solomon.specs.Near.{missed, Near, Refuted, Passed}
+use Rattle.reed_solomon.specs.Near.{missed, Near, Refuted, RefutedBelow}
 use Rattle.welch_berlekamp.specs.Newton.{pairsOf, Fits}
-use Rattle.reed_solomon.specs.Decoded.{Received, StripDecoded, None, Found, Tried, hit, miss}
+use Rattle.reed_solomon.specs.Decoded.{Received, StripDecoded, None, Confirmed, Tried, hit, miss}
 use Rattle.welch_berlekamp.proofs.Cursor.{zeros-at, key-in, key-out, keys-placed, without-most, left-most, next-cell, entered-below, left-above, entering-next}
 use Rattle.welch_berlekamp.proofs.State.{zeros-row}
 use Rattle.reed_solomon.proofs.Trial.{cost-values}
 
 -- what a trial says, by its answer
 module _ {p F n k : ℕ} {x s u w : List ℕ} {r : Decoded} where
-  pub tried-found : Tried p F n k x s u w r → r .found ≡ true → Found p F n k x s u r
+  pub tried-found : Tried p F n k x s u w r → r .found ≡ true → Confirmed p F n k x s u r
   tried-found (hit D) e = D
   tried-found (miss N D) e = absurd (false≢true (sym (N .found) ∙ e))
 
@@ -175,7 +175,7 @@ module _ {p m n k F : ℕ} {x s : List ℕ} (u : List ℕ) (R : Received p m x n
             omega (arith, d .1, entered-below (G′ .entering) placed (G′ .next) (c % 16) (mod-lt c (omega arith)) λ z. omega (arith, o, z))
 
     -- after a level its cells and those below have entered
-    pub going-passed : {level : ℕ} → Within n u level t → level < c / 16 → Passed (p - 1) F n k (at x) (at s) (at u) level → Passed (p - 1) F n k (at x) (at s) (at u) (c / 16)
+    pub going-passed : {level : ℕ} → Within n u level t → level < c / 16 → RefutedBelow (p - 1) F n k (at x) (at s) (at u) level → RefutedBelow (p - 1) F n k (at x) (at s) (at u) (c / 16)
     going-passed {level} W h P = record {
       far = λ g j i o w. elim (decLt (at u j) level) [
         | yes b ↦ P .far g j i b w
@@ -196,7 +196,7 @@ module _ {p m n k F : ℕ} {x s : List ℕ} (u : List ℕ) (R : Received p m x n
         ]
 
     -- of the first k + 1 cells none can be missed
-    pub first-passed : t .a + t .b ≤ suc k → Passed (p - 1) F n k (at x) (at s) (at u) (c / 16)
+    pub first-passed : t .a + t .b ≤ suc k → RefutedBelow (p - 1) F n k (at x) (at s) (at u) (c / 16)
     first-passed h = record {
       far = λ g j i o w. G .now .far g (near-more n k (λ i. keep (at u j) (at u i)) (at (t .entered)) (at s) (values (p - 1) (suc k) g (at x)) (less j o)
           (omega (arith, G .holds .state .count)) (weight-near n k (at u j) (at s) (at u) (values (p - 1) (suc k) g (at x)) w));
@@ -243,7 +243,7 @@ module _ {p m n k F : ℕ} {x s : List ℕ} (u : List ℕ) (R : Received p m x n
   doubtful-decoded N l = none-of N λ h. omega (arith, doubts-cost F n (at s) (at u) (values (p - 1) (suc k) h (at x)) (R .8))
 
   -- after the last level
-  pub none-decoded : None r → {level : ℕ} → F ≤ level → Passed (p - 1) F n k (at x) (at s) (at u) level →
+  pub none-decoded : None r → {level : ℕ} → F ≤ level → RefutedBelow (p - 1) F n k (at x) (at s) (at u) level →
       StripDecoded p F n k x s u (r .found) (r .message) (r .values) (r .cost)
   none-decoded N l P = none-of N λ h. elim (decLe (F * (n - k)) (cost F n (at s) (at u) (values (p - 1) (suc k) h (at x)))) [
     | yes i ↦ i
@@ -252,7 +252,7 @@ module _ {p m n k F : ℕ} {x s : List ℕ} (u : List ℕ) (R : Received p m x n
         P .far h (c .0) (c .1) (omega (arith, c .2)) (omega (arith, c .3, R .5))
   ]
 
-  pub found-decoded : Found p F n k x s u r → StripDecoded p F n k x s u (r .found) (r .message) (r .values) (r .cost)
+  pub found-decoded : Confirmed p F n k x s u r → StripDecoded p F n k x s u (r .found) (r .message) (r .values) (r .cost)
   found-decoded D = record {
     strip = record {
       sound = λ _. (cost, D .under);
@@ -264,5 +264,5 @@ module _ {p m n k F : ℕ} {x s : List ℕ} (u : List ℕ) (R : Received p m x n
     none = λ e. absurd (true≢false (sym (D .found) ∙ e));
   }
     where
-      cost : r .cost ≡ Rattle.definitions.specs.Cost.cost F n (at s) (at u) (values (p - 1) (suc k) (at (r .message)) (at x))
+      cost : r .cost ≡ Rattle.distance.specs.Cost.cost F n (at s) (at u) (values (p - 1) (suc k) (at (r .message)) (at x))
       cost = D .measured ∙ cost-values F u (r .message) R (D .values)

@@ -18,7 +18,7 @@ use Rattle.field.specs.Prime.{Prime}
 use Rattle.field.specs.Row.{row}
 use Rattle.field.proofs.Congruence.{same, ~sym, _⨾_, remainder, below-eq, cancel, mod-cong, cong-mod}
 use Rattle.field.proofs.Row.{row-at, beyond}
-use Rattle.definitions.specs.Cost.{cell, cost}
+use Rattle.distance.specs.Cost.{cell, cost}
 use Rattle.polynomial.specs.Eval.{eval, values}
 use Rattle.polynomial.specs.Lead.{Lead}
 use Rattle.polynomial.proofs.Eval.{eval-lead}
@@ -29,7 +29,7 @@ use Rattle.welch_berlekamp.specs.Order.{taken, key}
 use Rattle.welch_berlekamp.specs.Pairs.{Pairs, pairs, Holds}
 use Rattle.reed_solomon.specs.Near.{missed, Near, usable, suspect, Refuted}
 use Rattle.welch_berlekamp.specs.Newton.{Enough, Fits, Coefficients}
-use Rattle.reed_solomon.specs.Decoded.{Received, Found, Tried, hit, miss, Hoped, Candidate}
+use Rattle.reed_solomon.specs.Decoded.{Received, Confirmed, Tried, hit, miss, Hoped, Candidate}
 use Rattle.welch_berlekamp.proofs.Cursor.{zeros-at, key-in, key-out, keys-placed, marked-placed}
 use Rattle.welch_berlekamp.proofs.State.{ones-at}
 use Rattle.reed_solomon.proofs.Near.{first-over, usable-all, usable-right, suspect-right, eqb-same}
@@ -203,7 +203,7 @@ module _ {p m n k F : ℕ} {x s l : List ℕ} (u : List ℕ) {f : Newton} (R : R
       one j o e = omega (arith, ones-at j (omega (arith, R .4)))
 
   pub found-rest : {r : Decoded} → r .found ≡ true → Coefficients p k (f .slopes) (f .nodes) (r .message) → r .values ≡ row (λ j. (at (f .rest) j + 1 * at s j) % p) →
-      r .cost ≡ cost F n (at (f .rest)) (at u) (at (replicate 16 0)) → r .cost < F * (n - k) → Found p F n k x s u r
+      r .cost ≡ cost F n (at (f .rest)) (at u) (at (replicate 16 0)) → r .cost < F * (n - k) → Confirmed p F n k x s u r
   found-rest {r} t C e c b = record {
     found = t;
     message = C .row;

@@ -6,12 +6,12 @@
 --     values                   where it found one, v are its values at all sixteen points
 --     none                     where not, all that is handed back is 0
 --   None r                     the answer r is that there is none
---   Found p F n k x s u r      the answer r was measured, and costs under the radius F (n - k)
+--   Confirmed p F n k x s u r      the answer r was measured, and costs under the radius F (n - k)
 --   Tried p F n k x s u w r    a trial at the cells that w marks: what it found was measured, or no near polynomial is under the radius
 --   Hoped k t                  the pairs t may have a candidate: a is over b + k, and there are a usable cells
 --   Candidate p n k x s e w    some pairs that hold, with E2 = e and the marks w, may have a candidate
 --   Hope F n k u t r           r says whether they may: if so they are hoped, if not no near polynomial is under the radius
---   Measured p m F n k s u f r the answer r is the trial of the polynomial f, which goes through k + 1 cells at some points x
+--   TrialOf p m F n k s u f r the answer r is the trial of the polynomial f, which goes through k + 1 cells at some points x
 --
 -- What this file is for: the decoder's contract, on which the readers of strips and of marks rest, and those of its parts.
 use mathlib.Core.Path.{_≡_}
@@ -22,7 +22,7 @@ use lib.ListN.{replicate}
 use Rattle.bounded.specs.Bounded.{at, sum}
 use Rattle.field.specs.Prime.{Prime}
 use Rattle.field.specs.Row.{row, Row, Reciprocal}
-use Rattle.definitions.specs.Cost.{cost}
+use Rattle.distance.specs.Cost.{cost}
 use Rattle.polynomial.specs.Eval.{eval, Apart}
 use Rattle.distance.specs.Doubts.{Doubts}
 use Rattle.reed_solomon.specs.declared.decoder.Decoded.{Decoded}
@@ -49,7 +49,7 @@ pub record None (r : Decoded) : Type 0 where
   pub values : r .values ≡ replicate 16 0
   pub cost : r .cost ≡ 0
 
-pub record Found (p F n k : ℕ) (x s u : List ℕ) (r : Decoded) : Type 0 where
+pub record Confirmed (p F n k : ℕ) (x s u : List ℕ) (r : Decoded) : Type 0 where
   pub found : r .found ≡ true
   pub message : Row p (r .message)
   pub above : (i : ℕ) → k < i → at (r .message) i ≡ 0
@@ -58,10 +58,10 @@ pub record Found (p F n k : ℕ) (x s u : List ℕ) (r : Decoded) : Type 0 where
   pub under : r .cost < F * (n - k)
 
 pub data Tried (p F n k : ℕ) (x s u w : List ℕ) (r : Decoded) : Type 0 where
-  hit : Found p F n k x s u r → Tried p F n k x s u w r
+  hit : Confirmed p F n k x s u r → Tried p F n k x s u w r
   miss : None r → Refuted (p - 1) F n k (at x) (at s) (at u) (at w) → Tried p F n k x s u w r
 
-pub record Measured (p m F n k : ℕ) (s u : List ℕ) (f : Newton) (r : Decoded) : Type 0 where
+pub record TrialOf (p m F n k : ℕ) (s u : List ℕ) (f : Newton) (r : Decoded) : Type 0 where
   pub tried : (x l : List ℕ) → Received p m x n k F s u → Fits p n k x s l (suc k) f → Tried p F n k x s u (f .entered) r
 
 pub record Hoped (k : ℕ) (t : Pairs) : Type 0 where

@@ -6,7 +6,7 @@
 --   suspect d e j     not 0 where e is 0 or d is not: there a near polynomial Q / E is missed
 --   Refuted q F n k x s u w
 --                     whatever polynomial of degree at most k is near costs F (n - k) or more
---   Passed q F n k x s u t
+--   RefutedBelow q F n k x s u t
 --                     the same at each level that is a cell's doubt below t, the cells over that level being erased
 --
 -- What this file is for: what a failed trial says of the cells that have entered, and what all of them say together.
@@ -14,7 +14,7 @@ use mathlib.Core.Bool.{cond}
 use Prim.Native.Nat.{ℕ, suc, _+_, _*_, _-_, _≤_, _<_}
 use lib.Dec.{eqb}
 use Rattle.bounded.specs.Bounded.{sum}
-use Rattle.definitions.specs.Cost.{cost}
+use Rattle.distance.specs.Cost.{cost}
 use Rattle.polynomial.specs.Eval.{values}
 use Rattle.distance.specs.Level.{weight}
 
@@ -33,5 +33,5 @@ suspect d e j = cond (eqb (e j) 0) 1 (d j)
 pub record Refuted (q F n k : ℕ) (x s u w : ℕ → ℕ) : Type 0 where
   pub far : (h : ℕ → ℕ) → Near n k w s (values q (suc k) h x) → F * (n - k) ≤ cost F n s u (values q (suc k) h x)
 
-pub record Passed (q F n k : ℕ) (x s u : ℕ → ℕ) (t : ℕ) : Type 0 where
+pub record RefutedBelow (q F n k : ℕ) (x s u : ℕ → ℕ) (t : ℕ) : Type 0 where
   pub far : (h : ℕ → ℕ) (j : ℕ) → j < n → u j < t → weight n (u j) s u (values q (suc k) h x) + k < n → F * (n - k) ≤ cost F n s u (values q (suc k) h x)

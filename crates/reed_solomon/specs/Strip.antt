@@ -10,7 +10,7 @@ use mathlib.Core.Path.{_≡_}
 use mathlib.Core.Bool.{Bool, true}
 use Prim.Native.Nat.{ℕ, suc, _*_, _-_, _≤_, _<_}
 use Rattle.field.specs.Congruence.{Cong}
-use Rattle.definitions.specs.Cost.{cost}
+use Rattle.distance.specs.Cost.{cost}
 use Rattle.polynomial.specs.Eval.{values}
 
 pub record Strip (q F n k : ℕ) (x s u : ℕ → ℕ) (found : Bool) (w : ℕ → ℕ) (g : ℕ) : Type 0 where

@@ -2,7 +2,6 @@
 // interpolation one by one, and after each the candidate, if there may be one, is measured against the whole strip. A measured one
 // under the radius is the only one, so that it ends the trial. The first k + 1 cells have one polynomial through them, which is
 // measured first.
-use distance::summary;
 use distance::word;
 use field::rows;
 use welch_berlekamp::interpolation;
@@ -22,7 +21,7 @@ ghost use Rattle.welch_berlekamp.specs.Newton.{Whole};
 ghost use Rattle.welch_berlekamp.specs.Order.{key};
 ghost use Rattle.welch_berlekamp.specs.Pairs.{pairs};
 ghost use Rattle.reed_solomon.specs.Near.{usable, suspect};
-ghost use Rattle.reed_solomon.specs.Decoded.{Received, StripDecoded, None, Tried, Measured, Hope, Candidate};
+ghost use Rattle.reed_solomon.specs.Decoded.{Received, StripDecoded, None, Tried, TrialOf, Hope, Candidate};
 
 // Of an answer that there is none, all else is 0.
 pub struct Decoded {
@@ -121,11 +120,11 @@ fn measured(
     u: [u32; 16],
 ) -> Decoded
     requires { ⌜ Reciprocal p m × Whole p f × Row p s × (n ≤ 16) × (k < n) × (full < 65536) × Doubts full n (at u) ⌝ }
-    ensures { λ r. ⌜ Measured p m full n k s u f r ⌝ }
+    ensures { λ r. ⌜ TrialOf p m full n k s u f r ⌝ }
 {
     let rest = f.rest;
     let cost = word::word_cost(n, rest, u, [0; 16], full);
-    if cost >= summary::radius(full, 1, n, k) {
+    if cost >= word::radius(full, 1, n, k) {
         return none();
     }
     let slopes = f.slopes;
@@ -163,7 +162,7 @@ fn hopeful(
         return false;
     }
     let cost = word::word_cost(n, suspect_cells(d, e), u, [0; 16], full);
-    cost < summary::radius(full, 1, n, k)
+    cost < word::radius(full, 1, n, k)
 }
 
 // The candidate, measured: a near polynomial goes through all usable cells.
@@ -204,7 +203,7 @@ pub fn decode(
     requires { ⌜ Received p m x n k full s u × Inverses p (now inverses) ⌝ }
     ensures { λ r. ⌜ StripDecoded p full n k x s u (r .found) (r .message) (r .values) (r .cost) ⌝ }
 {
-    if doubt_sum(n, u) >= summary::radius(full, 1, n, k) {
+    if doubt_sum(n, u) >= word::radius(full, 1, n, k) {
         return none();
     }
     let all = order::keys(n, u);

@@ -4,7 +4,7 @@ use Prim.Native.Nat.{_-_, _≤_}
 use native.Mathlib.Omega.{arith}
 use Rattle.bounded.specs.Bounded.{at}
 use Rattle.bounded.proofs.Sum.{sum-more}
-use Rattle.definitions.specs.Cost.{changed}
+use Rattle.distance.specs.Cost.{changed}
 use Rattle.distance.specs.Level.{differ}
 use borrow.Author.Needs.{needs}
 use Rattle.distance.proofs.word.word_changed.Statement.{statement}

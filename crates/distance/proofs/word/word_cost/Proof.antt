@@ -4,7 +4,7 @@ use Prim.Native.Nat.{_*_, _-_, _≤_}
 use native.Mathlib.Omega.{arith}
 use Rattle.bounded.specs.Bounded.{at}
 use Rattle.bounded.proofs.Sum.{sum-more}
-use Rattle.definitions.specs.Cost.{cell, cost}
+use Rattle.distance.specs.Cost.{cell, cost}
 use borrow.Author.Needs.{needs}
 use Rattle.distance.proofs.word.word_cost.Statement.{statement}
 use Rattle.distance.proofs.word.word_cost.Tie as tie

@@ -5,7 +5,7 @@ use native.Mathlib.Omega.{arith}
 use lib.ListN.{length}
 use Rattle.bounded.specs.Bounded.{at}
 use Rattle.bounded.proofs.Sum.{sum-more}
-use Rattle.definitions.specs.Cost.{changed}
+use Rattle.distance.specs.Cost.{changed}
 use Rattle.distance.specs.Level.{differ}
 use Rattle.marks.specs.Changed.{flag}
 use borrow.Author.Needs.{needs}

@@ -4,7 +4,8 @@ use Prim.Native.Nat.{_*_, _-_, _≤_}
 use native.Mathlib.Omega.{arith}
 use Rattle.bounded.specs.Bounded.{at}
 use Rattle.bounded.proofs.Sum.{sum-more}
-use Rattle.definitions.specs.Cost.{full, cell}
+use Rattle.definitions.specs.Cost.{full}
+use Rattle.distance.specs.Cost.{cell}
 use Rattle.distance.specs.Level.{differ}
 use Rattle.records.specs.Measured.{Measured}
 use borrow.Author.Needs.{needs}

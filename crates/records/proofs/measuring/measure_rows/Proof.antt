@@ -5,7 +5,7 @@ use Prim.Native.Nat.{ℕ, _+_, _*_, _-_, _≤_}
 use native.Mathlib.Omega.{arith}
 use native.Mathlib.Nat.{zero-mul}
 use Rattle.bounded.specs.Bounded.{at}
-use Rattle.definitions.specs.Code.{gridValue}
+use Rattle.polynomial.specs.Record.{gridValue}
 use Rattle.polynomial.specs.Powers.{Powers, Columns}
 use Rattle.records.specs.Measured.{Measured}
 use Rattle.records.proofs.Square.{row-in, grid-row}

@@ -7,7 +7,7 @@ use native.Mathlib.Nat.{zero-mul, add-sub-cancel-left}
 use lib.ListN.{length, drop}
 use Rattle.bounded.specs.Bounded.{at, tab}
 use Rattle.bounded.proofs.Tab.{tab-eq, tab-whole}
-use Rattle.definitions.specs.Code.{gridValue}
+use Rattle.polynomial.specs.Record.{gridValue}
 use Rattle.polynomial.specs.Powers.{Powers, Columns}
 use Rattle.records.proofs.Square.{row-in, grid-row}
 use Rattle.records.proofs.Written.{row-more}

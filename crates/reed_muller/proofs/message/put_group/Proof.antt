@@ -2,16 +2,16 @@
 use mathlib.Core.Path.{refl}
 use Prim.Native.Nat.{_+_, _-_, _≤_}
 use native.Mathlib.Omega.{arith}
-use Rattle.definitions.specs.Code.{start}
+use Rattle.polynomial.specs.Record.{start}
 use Rattle.polynomial.proofs.Record.{start-most}
-use Rattle.reed_muller.specs.Loops.{cells, Stretch}
+use Rattle.reed_muller.specs.Loops.{cellAt, Stretch}
 use Rattle.reed_muller.proofs.Loops.{stretch-start, stretch-step}
 use borrow.Author.Needs.{needs}
 use Rattle.reed_muller.proofs.message.put_group.Statement.{statement}
 use Rattle.reed_muller.proofs.message.put_group.Tie as tie
 
 abbrev Inv-loop : tie.InvT-loop
-Inv-loop message₀ columns k first j₀ message j = (j ≤ k + 1) × Stretch 136 first (λ j. cells columns j (k - j)) message₀ message j
+Inv-loop message₀ columns k first j₀ message j = (j ≤ k + 1) × Stretch 136 first (λ j. cellAt columns j (k - j)) message₀ message j
 
 abbrev μ-loop : tie.MeasureT-loop
 μ-loop message₀ columns k first j₀ message j = k + 1 - j

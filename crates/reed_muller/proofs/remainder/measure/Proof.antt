@@ -3,14 +3,14 @@ use mathlib.Core.Path.{_≡_, refl}
 use Prim.Native.Nat.{_*_, _-_, _≤_}
 use native.Mathlib.Omega.{arith}
 use Rattle.reed_muller.specs.Degree.{remaining}
-use Rattle.reed_muller.specs.Loops.{cells}
+use Rattle.reed_muller.specs.Loops.{cellAt}
 use Rattle.reed_muller.proofs.Outcome.{remaining-more}
 use borrow.Author.Needs.{needs}
 use Rattle.reed_muller.proofs.remainder.measure.Statement.{statement}
 use Rattle.reed_muller.proofs.remainder.measure.Tie as tie
 
 abbrev Inv-loop : tie.InvT-loop
-Inv-loop g left doubts a sum₀ r₀ sum r = (a ≡ g .a) × (r ≤ a) × (sum ≡ remaining (g .full) r (g .b) (cells doubts) (cells left)) × (sum ≤ 2097152 * r)
+Inv-loop g left doubts a sum₀ r₀ sum r = (a ≡ g .a) × (r ≤ a) × (sum ≡ remaining (g .full) r (g .b) (cellAt doubts) (cellAt left)) × (sum ≤ 2097152 * r)
 
 abbrev μ-loop : tie.MeasureT-loop
 μ-loop g left doubts a sum₀ r₀ sum r = a - r

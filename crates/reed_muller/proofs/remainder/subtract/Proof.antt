@@ -13,7 +13,7 @@ use Rattle.field.proofs.Congruence.{cong-mod, less}
 use Rattle.field.proofs.Loop.{upto-put, passed-step, passed-over}
 use Rattle.field.proofs.Row.{result-row}
 use Rattle.polynomial.specs.Powers.{Rows}
-use Rattle.reed_muller.specs.Loops.{line, cells}
+use Rattle.reed_muller.specs.Loops.{line, cellAt}
 use Rattle.reed_muller.proofs.Answers.{positive}
 use borrow.Author.Needs.{needs}
 use Rattle.reed_muller.proofs.remainder.subtract.Statement.{statement}
@@ -29,7 +29,7 @@ unchanged {p} {z} {l} w R b e = tab-is 16 _ l (R .size) λ c _. sym (cong-mod b 
 abbrev Inv-loop : tie.InvT-loop
 Inv-loop g left₀ power v a r₀ left r =
     (a ≡ g .a) × (r ≤ a) × Rows (g .p) left ×
-    Passed (g .a) [] (λ r l. l ≡ line left₀ r) (λ r l. l ≡ row λ c. (cells left₀ r c + (g .p - at v r) * at power c) % g .p) left r
+    Passed (g .a) [] (λ r l. l ≡ line left₀ r) (λ r l. l ≡ row λ c. (cellAt left₀ r c + (g .p - at v r) * at power c) % g .p) left r
 
 abbrev μ-loop : tie.MeasureT-loop
 μ-loop g left₀ power v a r₀ left r = a - r

@@ -4,7 +4,7 @@ use native.Mathlib.Omega.{arith}
 use native.Mathlib.Nat.{mod-lt}
 use Rattle.bounded.specs.Bounded.{at}
 use Rattle.welch_berlekamp.specs.Pairs.{pairs}
-use Rattle.reed_solomon.specs.Near.{Passed}
+use Rattle.reed_solomon.specs.Near.{RefutedBelow}
 use Rattle.reed_solomon.specs.Decoded.{None}
 use Rattle.reed_solomon.proofs.Trial.{holds-few, candidate, enough-all}
 use Rattle.reed_solomon.proofs.Levels.{Going, Within, first-keys, going-keys, going-first, going-within, going-holds, going-enter, going-later, going-passed, within-enter, first-passed, tried-found, tried-none, none-decoded, found-decoded, doubtful-decoded}
@@ -22,7 +22,7 @@ abbrev μ-loop : tie.MeasureT-loop
 
 abbrev Inv-levels : tie.InvT-levels
 Inv-levels p m inverses x n k full s u all answer₀ d1₀ e1₀ d2₀ e2₀ a₀ b₀ entered₀ keys₀ next₀ answer d1 e1 d2 e2 a b entered keys next =
-    None answer × Going p full n k x s u all keys next (pairs d1 e1 d2 e2 a b entered) × Passed (p - 1) full n k (at x) (at s) (at u) (next / 16)
+    None answer × Going p full n k x s u all keys next (pairs d1 e1 d2 e2 a b entered) × RefutedBelow (p - 1) full n k (at x) (at s) (at u) (next / 16)
 
 abbrev μ-levels : tie.MeasureT-levels
 μ-levels p m inverses x n k full s u all answer₀ d1₀ e1₀ d2₀ e2₀ a₀ b₀ entered₀ keys₀ next₀ answer d1 e1 d2 e2 a b entered keys next =

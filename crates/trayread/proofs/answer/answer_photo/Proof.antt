@@ -9,7 +9,8 @@ use lib.ListN.{length, take, drop, replicate, length-replicate, length-drop}
 use lib.Seq.{take-all}
 use borrow.Author.Needs.{needs}
 use Rattle.definitions.specs.Plan.{degree}
-use Rattle.definitions.specs.Code.{square, start, size, cells}
+use Rattle.definitions.specs.Code.{square, size, cells}
+use Rattle.polynomial.specs.Record.{start}
 use Rattle.definitions.specs.Sound.{Sound}
 use Rattle.definitions.specs.Tray.{planOf, bufferOf, trayReading, trayRecord}
 use Rattle.definitions.specs.Printed.{trayText}

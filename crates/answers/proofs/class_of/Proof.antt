@@ -1,9 +1,9 @@
--- `distance::summary::class_of` meets its contract: each arm answers to one bound of the class. Assumes nothing.
+-- `answers::class_of` meets its contract: each arm answers to one bound of the class. Assumes nothing.
 use Prim.Native.Nat.{_≤_}
 use native.Mathlib.Omega.{arith}
 use borrow.Author.Tests.{lt-ltb, le-ltb}
-use Rattle.distance.proofs.summary.class_of.Statement.{statement}
-use Rattle.distance.proofs.summary.class_of.Tie as tie
+use Rattle.answers.proofs.class_of.Statement.{statement}
+use Rattle.answers.proofs.class_of.Tie as tie
 
 returns : tie.Need-returns
 returns c = rw (c .match .keys1)

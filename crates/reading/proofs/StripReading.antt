@@ -13,10 +13,12 @@ use Rattle.field.specs.Congruence.{Cong}
 use Rattle.field.proofs.Congruence.{same, below-eq}
 use Rattle.definitions.specs.Refusals.{first}
 use Rattle.definitions.specs.Plan.{modulus, side, degree, point}
-use Rattle.definitions.specs.Code.{strip, size, valueX}
-use Rattle.definitions.specs.Cost.{full, cell, cost}
+use Rattle.definitions.specs.Code.{strip, size}
+use Rattle.polynomial.specs.Record.{valueX}
+use Rattle.definitions.specs.Cost.{full}
+use Rattle.distance.specs.Cost.{cell, cost}
 use Rattle.definitions.specs.Calls.{photoRows, costOf, within, refused, readingOf}
-use Rattle.definitions.specs.Word.{IsRecord}
+use Rattle.definitions.specs.Code.{IsRecord}
 use Rattle.definitions.specs.Sound.{Sound}
 use Rattle.definitions.specs.Photograph.{Photograph}
 use Rattle.definitions.specs.Reads.{Reads}
@@ -25,11 +27,12 @@ use Rattle.definitions.proofs.Photograph.{accepted-photo}
 use Rattle.definitions.proofs.Nearest.{within-cost, cost-within, cost-without, reads-none, reads-the}
 use Rattle.definitions.proofs.Demands.{AtMostOne}
 use Rattle.polynomial.specs.Eval.{eval, values}
-use Rattle.polynomial.proofs.Plan.{plan-modulus, plan-apart, value-strip}
+use Rattle.definitions.proofs.Plan.{plan-modulus, plan-apart}
+use Rattle.polynomial.proofs.Record.{value-strip}
 use Rattle.distance.specs.Loaded.{Loaded}
 use Rattle.distance.proofs.Loaded.{cost-loaded}
-use Rattle.distance.proofs.Cost.{cost-cong}
-use Rattle.distance.proofs.Unique.{near-one}
+use Rattle.polynomial.proofs.Unique.{cost-cong}
+use Rattle.polynomial.proofs.Unique.{near-one}
 use Rattle.reed_solomon.specs.Strip.{Strip}
 
 module _ {P : List ℕ} (S : Sound P) where

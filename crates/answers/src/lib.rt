@@ -1,9 +1,9 @@
-// What is told of a record beside its cost: the class of its changed count, and its margin; and the readings that calls return.
+// What calls answer of a record: the class of its changed count, its margin, and the readings that they return.
 ghost use mathlib.Core.Path.{_≡_};
-ghost use Prim.Native.Nat.{_*_, _-_, _≤_, _<_};
+ghost use Prim.Native.Nat.{_<_};
 ghost use Rattle.definitions.specs.Calls.{refused as refusedWith};
 ghost use Rattle.definitions.specs.Cost.{margin as marginOf, class};
-ghost use Rattle.distance.specs.Summary.{summary};
+ghost use Rattle.answers.specs.Summary.{summary};
 
 // The class of a changed count.
 pub fn class_of(changed: u32) -> u32
@@ -15,14 +15,6 @@ pub fn class_of(changed: u32) -> u32
         4..=15 => 2,
         _ => 3,
     }
-}
-
-// R for so many rows of n points: a strip is one row, a mark has n.
-pub fn radius(full: u32, rows: usize, n: usize, d: usize) -> u32
-    requires { ⌜ (full < 65536) × (rows ≤ 16) × (n ≤ 16) × (d ≤ n) ⌝ }
-    ensures { λ r. ⌜ (r ≡ full * rows * (n - d)) × (r < 2147483648) ⌝ }
-{
-    full * rows as u32 * (n - d) as u32
 }
 
 // R - D: negative where the record is beyond the radius, 0 exactly on it.

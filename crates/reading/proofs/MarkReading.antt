@@ -14,11 +14,14 @@ use Rattle.bounded.proofs.Sum.{sum-eq, sum-rows, cell-row, cell-column}
 use Rattle.field.specs.Congruence.{Cong}
 use Rattle.definitions.specs.Refusals.{first}
 use Rattle.definitions.specs.Plan.{modulus, side, degree, point}
-use Rattle.definitions.specs.Code.{square, size, start, gridValue}
+use Rattle.definitions.specs.Code.{square, size}
+use Rattle.polynomial.specs.Record.{start, gridValue}
 use Rattle.definitions.specs.Cost as definition
-use Rattle.definitions.specs.Cost.{full, cell, cost}
+use Rattle.definitions.specs.Cost.{full}
+use Rattle.distance.specs.Cost.{cell, cost}
 use Rattle.definitions.specs.Calls.{photoRows, costOf, within, refused, readingOf}
-use Rattle.definitions.specs.Word.{Word, IsRecord}
+use Rattle.field.specs.Word.{Word}
+use Rattle.definitions.specs.Code.{IsRecord}
 use Rattle.definitions.specs.Sound.{Sound}
 use Rattle.definitions.specs.Photograph.{Photograph}
 use Rattle.definitions.specs.Reads.{Reads}
@@ -27,11 +30,11 @@ use Rattle.definitions.proofs.Photograph.{accepted-photo}
 use Rattle.definitions.proofs.Nearest.{within-cost, cost-within, cost-without, reads-none, reads-the}
 use Rattle.definitions.proofs.Demands.{AtMostOne}
 use Rattle.polynomial.specs.Eval.{values}
-use Rattle.polynomial.specs.Record.{coef, row}
-use Rattle.polynomial.specs.Grid.{radius}
-use Rattle.polynomial.proofs.Plan.{plan-modulus, plan-apart}
+use Rattle.polynomial.specs.Record.{coef, onRow}
+use Rattle.polynomial.specs.Grid.{gridDistance}
+use Rattle.definitions.proofs.Plan.{plan-modulus, plan-apart}
 use Rattle.polynomial.proofs.Record.{value-rows, start-below, place, record-eq}
-use Rattle.polynomial.proofs.Grid.{radius-square}
+use Rattle.polynomial.proofs.Grid.{distance-square}
 use Rattle.distance.proofs.Loaded.{cell-loaded}
 use Rattle.reed_muller.specs.Degree.{gridCost, GridNear}
 use Rattle.reed_muller.specs.Mark.{grid, LoadedGrid, Decoded}
@@ -42,7 +45,7 @@ pub flat-cost : (q F a b d : ℕ) (x y : ℕ → ℕ) (s u R : List ℕ) →
     cost F (a * b) (at s) (at u) (gridValue (suc q) d b x y R) ≡ gridCost q F a b d x y (grid b u) (grid b s) (coef R)
 flat-cost q F a b d x y s u R = sum-rows a b _ ∙ sum-eq a λ r _. sum-eq b λ c m. ap (cell F (grid b s r c) (grid b u r c)) (there r c m)
   where
-    there : (r c : ℕ) → c < b → gridValue (suc q) d b x y R (r * b + c) ≡ values q (suc d) (row d (coef R) (x r)) y c
+    there : (r c : ℕ) → c < b → gridValue (suc q) d b x y R (r * b + c) ≡ values q (suc d) (onRow d (coef R) (x r)) y c
     there r c m = rw (cell-row b r c m, cell-column b r c m) (value-rows (suc q) d R (x r) (y c))
 
 -- the cost looks at the points of the grid and at the coefficients alone, and loaded cells stand for their own
@@ -53,8 +56,8 @@ grid-same q F a b d {x} {x′} {y} {y′} s u {s′} {u′} {g} {h} ex ey L e = 
     cell-loaded _ (L r c l m) ∙ ap (λ v. cell F (s′ r c) (u′ r c) (v % suc q))
     (rw (ex r l, ey c m) (sum-eq (suc d) λ t k. ap (λ v. v * y c ^ t) (sum-eq (suc (d - t)) λ i n. ap (λ v. v * x r ^ i) (e t i (omega arith)))))
 
-radius-of : (P : List ℕ) → definition.radius full square P ≡ full * radius (side P) (side P) (degree P)
-radius-of P = omega (arith, ap (λ n. full * n) (radius-square (side P) (degree P)))
+radius-of : (P : List ℕ) → definition.radius full square P ≡ full * gridDistance (side P) (side P) (degree P)
+radius-of P = omega (arith, ap (λ n. full * n) (distance-square (side P) (degree P)))
 
 module _ {P : List ℕ} (S : Sound P) where
   -- the cost of a record is that of its polynomial, against the cells as they are loaded; h has the record's coefficients

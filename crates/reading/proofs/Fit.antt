@@ -8,7 +8,7 @@ use Rattle.field.specs.Row.{Row, Reciprocal}
 use Rattle.definitions.specs.Plan.{modulus, side, degree, point}
 use Rattle.definitions.specs.Sound.{Sound}
 use Rattle.polynomial.specs.Eval.{Apart}
-use Rattle.polynomial.proofs.Plan.{plan-apart}
+use Rattle.definitions.proofs.Plan.{plan-apart}
 use Rattle.reed_muller.specs.Fit.{Fit}
 
 -- points that are others' are apart where those are

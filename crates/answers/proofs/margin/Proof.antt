@@ -1,8 +1,8 @@
--- `distance::summary::margin` meets its contract, by the law on the difference of two numbers below 2^31. Assumes nothing.
+-- `answers::margin` meets its contract, by the law on the difference of two numbers below 2^31. Assumes nothing.
 use borrow.Author.Needs.{needs}
-use Rattle.distance.proofs.Margin.{margin-fits, margin-is}
-use Rattle.distance.proofs.summary.margin.Statement.{statement}
-use Rattle.distance.proofs.summary.margin.Tie as tie
+use Rattle.answers.proofs.Difference.{margin-fits, margin-is}
+use Rattle.answers.proofs.margin.Statement.{statement}
+use Rattle.answers.proofs.margin.Tie as tie
 
 returns : tie.Need-returns
 returns c = margin-is (c .args .radius) (c .args .cost) (c .pre .0) (c .pre .1)

@@ -1,8 +1,8 @@
--- `distance::summary::reading` meets its contract: the margin is read back from its bits. Assumes nothing.
-use Rattle.distance.proofs.Margin.{read-back}
+-- `answers::reading` meets its contract: the margin is read back from its bits. Assumes nothing.
+use Rattle.answers.proofs.Difference.{read-back}
 use borrow.Author.Needs.{needs}
-use Rattle.distance.proofs.summary.reading.Statement.{statement}
-use Rattle.distance.proofs.summary.reading.Tie as tie
+use Rattle.answers.proofs.reading.Statement.{statement}
+use Rattle.answers.proofs.reading.Tie as tie
 
 returns : tie.Need-returns
 returns c = rw (read-back (c .before .margin .result) (c .before .margin .ok), c .before .margin .ensures, c .class-of .ensures)

@@ -1,11 +1,11 @@
--- `distance::summary::radius` meets its contract: no product is above 65535 * 16 * 16. Assumes nothing.
+-- `distance::word::radius` meets its contract: no product is above 65535 * 16 * 16. Assumes nothing.
 use mathlib.Core.Path.{refl}
 use Prim.Native.Nat.{ℕ, _*_, _-_, _≤_, _<_}
 use native.Mathlib.Omega.{arith}
 use native.Mathlib.Nat.{mul-le-mul}
 use borrow.Author.Needs.{needs}
-use Rattle.distance.proofs.summary.radius.Statement.{statement}
-use Rattle.distance.proofs.summary.radius.Tie as tie
+use Rattle.distance.proofs.word.radius.Statement.{statement}
+use Rattle.distance.proofs.word.radius.Tie as tie
 
 row-most : (f r : ℕ) → f < 65536 → r ≤ 16 → f * r ≤ 1048576
 row-most f r h i = mul-le-mul {n₁ = f} {m₁ = r} {n₂ = 65536} {m₂ = 16} (omega arith) i

@@ -1,0 +1,2 @@
+-- The laws of the answers.
+pub mod Difference

@@ -1,0 +1,2 @@
+-- What the contracts of the answers say.
+pub mod Summary
