@@ -2,3 +2,4 @@
 pub mod Sum
 pub mod Any
 pub mod Tab
+pub mod Part

@@ -4,3 +4,4 @@ pub mod Prime
 pub mod Loop
 pub mod Reciprocal
 pub mod Row
+pub mod Filled

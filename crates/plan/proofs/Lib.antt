@@ -1,2 +1,3 @@
--- What follows from a plan's soundness.
+-- The laws of what a plan says.
 pub mod Residues
+pub mod Ready

@@ -1,11 +1,31 @@
-// The season plan, 24 bytes of document 01's first table: checking one, finding one in a plan file, and its points as a row of
-// residues. A plan may be any bytes of any length; what the table asks of it is found out here and nowhere else.
+// The season plan, 24 bytes of document 01's first table: checking one, what a sound one says, finding one in a plan file. A plan may
+// be any bytes of any length. Its bytes are read here and nowhere else; everything above takes the struct that `parse` makes.
+use definitions::FULL;
+use field::bytes;
+use field::rows::reciprocal;
 ghost use mathlib.Core.Path.{_≡_};
 ghost use Prim.Native.Nat.{_+_, _*_, _-_, _≤_, _<_};
 ghost use lib.ListN.{length};
-ghost use Rattle.field.specs.Row.{row};
-ghost use Rattle.definitions.specs.Plan.{filled, large, unordered, checkNumber, side, point};
+ghost use Rattle.definitions.specs.Plan.{filled, large, unordered, checkNumber, side};
+ghost use Rattle.definitions.specs.Sound.{Sound};
 ghost use Rattle.definitions.specs.Finder.{Finding, FindingAt};
+ghost use Rattle.plan.specs.Says.{Says};
+
+// What a sound plan says. X takes the a row points x, Y the b column points y, modulo the prime p; the places beyond a and b are 0.
+pub struct Plan {
+    pub season: u16,
+    pub p: u16,
+    // the reciprocal of p (crate `field`)
+    pub m: u16,
+    pub x: [u16; 16],
+    pub a: usize,
+    pub y: [u16; 16],
+    pub b: usize,
+    // the degree
+    pub d: usize,
+    // the doubt of a cell of which nothing is known
+    pub full: u32,
+}
 
 // The number of the first refusal, 1 to 5, that applies to the plan; 0 where it is sound. The tests are the rows of
 // `planRows`, one for one.
@@ -92,18 +112,25 @@ fn is_unordered(plan: &[u8]) -> bool
     false
 }
 
-// The points as a row. The unused bytes of a sound plan are 0, so the row of such a plan holds residues alone (proofs/Residues).
-pub fn points(plan: &[u8]) -> [u16; 16]
-    requires { ⌜ length (now plan) ≡ 24 ⌝ }
-    ensures { λ r. ⌜ r ≡ row (point (now (plan .entry))) ⌝ }
+// What a sound plan says. Rows and columns have the same points.
+pub fn parse(plan: &[u8]) -> Plan
+    requires { ⌜ Sound (now plan) ⌝ }
+    ensures { λ r. ⌜ Says (now (plan .entry)) r ⌝ }
 {
-    let mut out = [0u16; 16];
-    let mut j = 0;
-    while j < 16 {
-        out[j] = plan[5 + j] as u16;
-        j += 1;
+    let p = plan[2] as u16;
+    let n = plan[3] as usize;
+    let x = bytes::row(&plan[5..21]);
+    Plan {
+        season: season_of(plan[0], plan[1]),
+        p,
+        m: reciprocal(p),
+        x,
+        a: n,
+        y: x,
+        b: n,
+        d: plan[4] as usize,
+        full: FULL,
     }
-    out
 }
 
 // Where a record of the season begins in the plan file: answers 0 and sets the offset, a multiple of 24. Of several it is the

@@ -1,0 +1,19 @@
+-- A part of n bytes of a list, from byte a on, as a slice of it is lent: its bytes and its length. Assumes nothing.
+use mathlib.Core.Path.{_≡_, _∙_}
+use mathlib.Core.List.{List}
+use Prim.Native.Nat.{ℕ, _+_, _*_, _-_, _≤_, _<_}
+use native.Mathlib.Omega.{arith}
+use native.Mathlib.Nat.{suc-mul, add-sub-cancel-left, mul-le-mul-right}
+use lib.ListN.{length, take, drop, length-drop}
+use lib.Seq.{getD-take, getD-drop, length-take-le}
+use Rattle.bounded.specs.Bounded.{at}
+
+pub part-at : (a n : ℕ) (s : List ℕ) (i : ℕ) → i < n → at (take (a + n - a) (drop a s)) i ≡ at s (a + i)
+part-at a n s i l = rw (add-sub-cancel-left a n) (getD-take n (drop a s) i 0 l ∙ getD-drop a s i 0)
+
+pub part-length : (a n : ℕ) (s : List ℕ) → a + n ≤ length s → length (take (a + n - a) (drop a s)) ≡ n
+part-length a n s h = rw (add-sub-cancel-left a n) (length-take-le n (drop a s) (omega (arith, length-drop a s)))
+
+-- row r of a rows of n bytes
+pub row-in : (r a n : ℕ) → r < a → r * n + n ≤ a * n
+row-in r a n h = omega (arith, mul-le-mul-right n h, suc-mul r n)

@@ -1,0 +1,26 @@
+-- `plan::parse` meets its contract: each field is what the plan's bytes say, and the points are sixteen of them. Assumes nothing.
+use mathlib.Core.Path.{refl}
+use Rattle.plan.proofs.Ready.{points-loaded}
+use borrow.Author.Needs.{needs}
+use Rattle.plan.proofs.parse.Statement.{statement}
+use Rattle.plan.proofs.parse.Tie as tie
+
+returns : tie.Need-returns
+returns c =
+    let inverse = c .before in
+    let season = inverse .before in
+    let points = season .before .before .before in
+    let P = points .before .before .before .before .before .args .plan .now in record {
+      m = inverse .reciprocal .result;
+      fields = rw (season .season-of .ensures, points-loaded P (points .row .ensures)) refl;
+      reciprocal = inverse .reciprocal .ensures;
+    }
+
+pub parse-spec : {M : Type 1} → statement M
+parse-spec =
+    tie.close
+    (tie.spec
+    (λ c. search needs) (λ c. search needs) (λ c. search needs) (λ c. search needs) (λ c. search needs) (λ c. search needs)
+    (λ c. search needs) (λ c κs. search needs) (λ c. search needs) (λ c. search needs) (λ c κs. search needs)
+    (λ c κs. search needs) (λ c. search needs) (λ c. search needs)
+    returns)

@@ -1,0 +1,2 @@
+-- What a plan says, as a struct.
+pub mod Says
