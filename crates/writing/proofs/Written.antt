@@ -11,11 +11,11 @@ use borrow.Rule.Slice.PartMut.{putMid}
 use Rattle.bounded.specs.Bounded.{at, tab}
 use Rattle.bounded.proofs.Sum.{cell-row, cell-column}
 use Rattle.bounded.proofs.Tab.{length-tab, tab-at, tab-append}
+use Rattle.bounded.proofs.Part.{row-in}
 use Rattle.definitions.specs.Plan.{modulus, side, degree, point}
 use Rattle.definitions.specs.Code.{Code, strip, square, cells, value, mark}
 use Rattle.polynomial.specs.Record.{valueXY}
 use Rattle.definitions.specs.Demands.{Written}
-use Rattle.records.proofs.Square.{row-in}
 
 -- the part from r * n on has come back with row r in it
 pub row-more : (n r : ℕ) (f : ℕ → ℕ) (d mark last : List ℕ) → mark ≡ tab (r * n) f ++ drop (r * n) d → last ≡ tab n (λ j. f (r * n + j)) →
@@ -34,6 +34,6 @@ mark-written strip P F = (length-tab _ _, λ j l. mark-at strip P F j l)
 mark-written square P F = (
   length-tab _ _,
   λ i j k l.
-      mark-at square P F (i * side P + j) (omega (arith, row-in i (side P) k))
+      mark-at square P F (i * side P + j) (omega (arith, row-in i (side P) (side P) k))
       ∙ ap₂ (λ r c. valueXY (modulus P) (degree P) F (point P r) (point P c)) (cell-row (side P) i j l) (cell-column (side P) i j l),
 )
