@@ -3,13 +3,14 @@
 --   record-word     a square's record is a word of the struct's prime and degree
 --   record-row      a strip's record, loaded as a row, is a row of residues
 --   mark-cells      a mark has a row of cells for each row point
---   mark-is         the values on the grid of the struct's points are the mark
+--   mark-value, mark-is   the values on the grid of the struct's points are the mark
+--   mark-radius, strip-radius   the radius by the struct is the plan's
 --   strip-values    the values of a row that has a strip's coefficients are the strip's
 --
 -- Assumes nothing.
-use mathlib.Core.Path.{_≡_, refl, ap, ap₂}
+use mathlib.Core.Path.{_≡_, refl, ap, ap₂, _∙_}
 use mathlib.Core.List.{List}
-use Prim.Native.Nat.{ℕ, suc, _+_, _*_, _/_, _%_, _^_, _<_}
+use Prim.Native.Nat.{ℕ, suc, _+_, _*_, _-_, _/_, _%_, _^_, _<_}
 use native.Mathlib.Numerals.{add-one}
 use native.Mathlib.Omega.{arith}
 use native.Mathlib.Decide.{decLt}
@@ -22,9 +23,12 @@ use Rattle.field.specs.Word.{Word}
 use Rattle.field.proofs.Row.{row-at, row-of, beyond}
 use Rattle.polynomial.specs.Eval.{eval}
 use Rattle.polynomial.specs.Record.{start, valueXY, gridValue}
+use Rattle.polynomial.specs.Grid.{gridDistance}
 use Rattle.polynomial.proofs.Record.{value-strip}
+use Rattle.polynomial.proofs.Grid.{distance-square}
 use Rattle.definitions.specs.Plan.{modulus, side, degree, point}
 use Rattle.definitions.specs.Code.{strip, square, cells, value, mark, IsRecord}
+use Rattle.definitions.specs.Cost.{full, radius}
 use Rattle.definitions.specs.Sound.{Sound}
 use Rattle.plan.specs.declared.Plan.{Plan}
 use Rattle.plan.specs.Says.{said, Says}
@@ -47,14 +51,25 @@ module _ {P : List ℕ} {g : Plan} (S : Sound P) (says : Says P g) where
       residue i (yes l) = f .below i l
       residue i (no l) = rw (beyond F i (omega (arith, f .size))) z
 
-  -- the flat grid of the struct's points is the mark
-  pub mark-is : (F : List ℕ) → tab (g .a * g .b) (gridValue (g .p) (g .d) (g .b) (at (g .x)) (at (g .y)) F) ≡ mark square P F
-  unfolding mark
-  mark-is F = rw (says .fields) (tab-eq (side P * side P) λ c l.
-      ap₂ (valueXY (modulus P) (degree P) F) (point-at S (c / side P) (div-lt-iff-lt-mul z .1 l)) (point-at S (c % side P) (mod-lt c z)))
+  -- the value in a cell of the grid of the struct's points is the mark's
+  pub mark-value : (F : List ℕ) (c : ℕ) → c < side P * side P →
+      gridValue (g .p) (g .d) (g .b) (at (g .x)) (at (g .y)) F c ≡ value square P F c
+  mark-value F c l = rw (says .fields)
+      (ap₂ (valueXY (modulus P) (degree P) F) (point-at S (c / side P) (div-lt-iff-lt-mul z .1 l)) (point-at S (c % side P) (mod-lt c z)))
     where
       z : 0 < side P
       z = omega (arith, S .some)
+
+  pub mark-is : (F : List ℕ) → tab (g .a * g .b) (gridValue (g .p) (g .d) (g .b) (at (g .x)) (at (g .y)) F) ≡ mark square P F
+  unfolding mark
+  mark-is F = rw (← mark-cells says) (tab-eq (side P * side P) (mark-value F))
+
+  -- how far a record may be
+  pub mark-radius : {R : ℕ} → R ≡ g .full * gridDistance (g .a) (g .b) (g .d) → R ≡ radius full square P
+  mark-radius e = rw (says .fields) at e ∙ omega (arith, ap (λ n. full * n) (distance-square (side P) (degree P)))
+
+  pub strip-radius : {R : ℕ} → R ≡ g .full * 1 * (g .a - g .d) → R ≡ radius full strip P
+  strip-radius e = rw (says .fields) at e ∙ omega arith
 
   -- the values v of the polynomial with the coefficients w
   pub strip-values : (F : List ℕ) {w v : List ℕ} → w ≡ row (at F) → v ≡ row (λ j. eval (suc (g .d)) (at w) (at (g .x) j) % g .p) →
