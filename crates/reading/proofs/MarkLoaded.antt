@@ -1,0 +1,167 @@
+-- A mark that is loaded, decoded and stored is the reading that document 01 defines. Assumes nothing.
+use mathlib.Core.Path.{_≡_, refl, sym, ap, _∙_}
+use mathlib.Core.Logic.{_⊎_, inl}
+use mathlib.Core.Bool.{true, cond}
+use mathlib.Core.List.{List}
+use Prim.Native.Nat.{ℕ, suc, _+_, _*_, _-_, _%_, _^_, _≤_, _<_}
+use native.Mathlib.Omega.{arith}
+use native.Mathlib.Numerals.{add-one}
+use native.Mathlib.Decide.{decLt}
+use native.Mathlib.Nat.{mul-le-mul-right, mod-lt}
+use lib.Dec.{eqb}
+use lib.ListN.{length}
+use borrow.Author.Tests.{lt-ltb, le-ltb}
+use Rattle.bounded.specs.Bounded.{at, tab}
+use Rattle.bounded.proofs.Sum.{sum-eq, sum-rows, cell-row, cell-column}
+use Rattle.bounded.proofs.Tab.{length-tab, tab-at}
+use Rattle.field.specs.Row.{row, Reciprocal}
+use Rattle.field.proofs.Congruence.{same, ~add, mod-cong, _⨾_}
+use Rattle.field.proofs.Row.{row-at, row-of, beyond}
+use Rattle.definitions.specs.Plan.{modulus, side, degree, point}
+use Rattle.definitions.specs.Code.{square, size, value}
+use Rattle.polynomial.specs.Record.{start}
+use Rattle.definitions.specs.Cost.{full, unread, radius}
+use Rattle.definitions.specs.Calls.{changedOf, refused, readingOf}
+use Rattle.definitions.specs.Reads.{Reads}
+use Rattle.polynomial.specs.Eval.{eval}
+use Rattle.polynomial.specs.Record as polynomial
+use Rattle.polynomial.specs.Record.{coef}
+use Rattle.polynomial.specs.Powers.{Rows}
+use Rattle.polynomial.proofs.Record.{value-rows, start-next, start-most, start-below}
+use Rattle.polynomial.proofs.Grid.{distance-square}
+use Rattle.plan.proofs.Residues.{points-row}
+use Rattle.answers.specs.Summary.{summary}
+use Rattle.reed_muller.specs.declared.grid.Grid.{Grid}
+use Rattle.reed_muller.specs.Fit.{Fit, DoubtRows}
+use Rattle.reed_muller.specs.Loops.{cellAt}
+use Rattle.reed_muller.specs.Mark.{LoadedGrid}
+use Rattle.reed_muller.specs.Outcome.{Outcome, under}
+use Rattle.reed_muller.specs.Steps.{limit}
+use Rattle.reading.proofs.Fit.{square-fits}
+use Rattle.reading.proofs.MarkReading.{mark-none, mark-record, mark-cost, mark-found}
+use Rattle.reading.specs.Loading.{residue, gridCell, SymbolRows, DoubtLines, Taken}
+use Rattle.reading.specs.Changed.{flag, changedCells}
+use Rattle.reading.proofs.Loading.{residue-below, residue-loaded}
+use Rattle.reading.proofs.Square.{cell-at, flag-differ}
+
+abbrev gridOf : (P x : List ℕ) (m : ℕ) → Grid
+gridOf P x m = record { p = modulus P; m = m; x = x; a = side P; y = x; b = side P; d = degree P; full = full }
+
+-- a record has a byte at least, and at most as many as a message has numbers
+pub record-room : {P s u B : List ℕ} → Taken square P s u B → (0 < length B) × (length B ≤ 136)
+record-room {P} t =
+    let l : degree P < 16 = omega (arith, t .sound .most, t .sound .low) in
+    let e = start-next (degree P) l in
+    rw (t .room, add-one (degree P)) (omega (arith, e), omega (arith, e, start-most (degree P) l))
+
+module _ {P s u B : List ℕ} {left : List (List ℕ)} (t : Taken square P s u B) (es : SymbolRows (side P) s left) where
+  positive : 0 < modulus P
+  positive = omega (arith, t .sound .prime .least)
+
+  inside : (r c : ℕ) → r < side P → c < side P → r * side P + c < side P * side P
+  inside r c l m = omega (arith, mul-le-mul-right (side P) l)
+
+  symbol-at : (r c : ℕ) → r < side P → c < side P → cellAt left r c ≡ residue (at s (r * side P + c))
+  symbol-at r c l m =
+      ap (λ v. at v c) (es .done r (omega (arith, t .sound .most)))
+      ∙ row-at (λ c. residue (gridCell (side P) s r c)) c (omega (arith, t .sound .most))
+      ∙ ap residue (cell-at (side P) s r c m)
+
+  known : (r c : ℕ) → (gridCell (side P) s r c < modulus P) ⊎ (gridCell (side P) s r c ≡ unread)
+  known r c = column (decLt c (side P)) (decLt r (side P))
+    where
+      column : Dec (c < side P) → Dec (r < side P) → (gridCell (side P) s r c < modulus P) ⊎ (gridCell (side P) s r c ≡ unread)
+      column (yes m) (yes l) = rw (cell-at (side P) s r c m) (t .photo .symbol (r * side P + c) (inside r c l m))
+      column (yes m) (no l) =
+          let k : side P ≤ r = omega arith in
+          let h : length s ≤ r * side P + c = omega (arith, t .photo .symbols, mul-le-mul-right (side P) k) in
+          inl (rw (cell-at (side P) s r c m, beyond s (r * side P + c) h) positive)
+      column (no m) l = let k : side P ≤ c = omega arith in inl (rw (le-ltb c (side P) k) positive)
+
+  pub symbol-rows : Rows (modulus P) left
+  symbol-rows = record {
+    size = es .size;
+    done = λ r k. rw (es .done r k) (row-of positive (length-tab 16 _) λ c m.
+        rw (row-at (λ c. residue (gridCell (side P) s r c)) c m) (residue-below positive (known r c)));
+  }
+
+module _ {P s u B x : List ℕ} {left u′ : List (List ℕ)} (t : Taken square P s u B)
+    (ex : x ≡ row (point P)) (es : SymbolRows (side P) s left) (eu : DoubtLines (side P) u u′) where
+  point-at : (i : ℕ) → i < side P → at x i ≡ point P i
+  point-at i l = let k : i < 16 = omega (arith, t .sound .most) in rw ex (row-at (point P) i k)
+
+  doubt-at : (r c : ℕ) → r < side P → c < side P → cells u′ r c ≡ at u (r * side P + c)
+  doubt-at r c l m =
+      ap (λ v. at v c) (eu .done r (omega (arith, t .sound .most)))
+      ∙ row-at (gridCell (side P) u r) c (omega (arith, t .sound .most))
+      ∙ cell-at (side P) u r c m
+
+  loaded : LoadedGrid full (side P) (side P) s u (cellAt left) (cells u′)
+  loaded r c l m = rw (symbol-at t es r c l m, doubt-at r c l m)
+      (residue-loaded (at s (r * side P + c)) (at u (r * side P + c)) (t .photo .erased (r * side P + c) (inside t es r c l m)))
+
+  pub mark-received : {m : ℕ} → Reciprocal (modulus P) m →
+      Fit (gridOf P x m) × Rows (modulus P) left × DoubtRows (gridOf P x m) u′
+  mark-received R = (
+    square-fits (t .sound) R (rw ex (points-row (t .sound))) point-at (omega arith),
+    symbol-rows t es,
+    λ r l c m. rw (doubt-at r c l m) (t .photo .doubt (r * side P + c) (inside t es r c l m)),
+  )
+
+  -- what the decoder answers, and what it leaves
+  module _ {m g : ℕ} {after : List (List ℕ)} {w : List ℕ}
+      (D : Outcome (gridOf P x m) left u′ after (under (gridOf P x m) g) w g) where
+    limit-is : limit (gridOf P x m) ≡ radius full square P
+    limit-is = omega (arith, ap (λ n. full * n) (distance-square (side P) (degree P)))
+
+    pub mark-refused : radius full square P ≤ g → Reads square P s u B (refused 10) B
+    mark-refused h = mark-none P s u B (t .clear) point-at loaded w (D .decoded) (le-ltb g _ (omega (arith, limit-is)))
+
+    found : g < radius full square P → under (gridOf P x m) g ≡ true
+    found h = lt-ltb g _ (omega (arith, limit-is))
+
+    -- the message fits into bytes
+    pub message-small : g < radius full square P → (j : ℕ) → j < length B → at w j < 256
+    message-small h j l =
+        let z = found h in
+        let k : j < size square P = omega (arith, t .room) in
+        let W = tab (size square P) (at w) in
+        let n = size square P in
+        let F = mark-record P s u B (t .clear) point-at loaded w (D .decoded) z W (length-tab n (at w)) (tab-at n (at w)) in
+        omega (arith, F .below j k, tab-at (size square P) (at w) j k, t .sound .small)
+
+    module _ (h : g < radius full square P) {W : List ℕ} (stored : W ≡ tab (length B) (at w)) where
+      word-length : length W ≡ size square P
+      word-length = rw stored (length-tab (length B) (at w)) ∙ t .room
+
+      word-at : (i : ℕ) → i < size square P → at W i ≡ at w i
+      word-at i l = rw stored (tab-at (length B) (at w) i (omega (arith, t .room)))
+
+      coefficients : (k i : ℕ) → i + k ≤ degree P → coef W i k ≡ coef w i k
+      coefficients k i l = word-at (start (i + k) + k) (start-below (i + k) (degree P + 1) k (omega arith) (omega (arith, t .sound .most, t .sound .low)) (omega arith))
+
+      abbrev line-value : (r c : ℕ) → ℕ
+      line-value r c = eval (suc (degree P)) (polynomial.onRow (degree P) (coef w) (at x r)) (at x c)
+
+      value-at : (r c : ℕ) → r < side P → c < side P → value square P W (r * side P + c) ≡ line-value r c % modulus P
+      value-at r c l m = rw (cell-row (side P) r c m, cell-column (side P) r c m, point-at r l, point-at c m)
+          (value-rows (modulus P) (degree P) W (point P r) (point P c) ∙ ap (λ e. e % modulus P)
+          (sum-eq (suc (degree P)) λ k a. ap (λ e. e * point P c ^ k) (sum-eq (suc (degree P - k)) λ i b. ap (λ e. e * point P r ^ i) (coefficients k i (omega arith)))))
+
+      cell-changed : (r c : ℕ) → r < side P → c < side P →
+          _≡_ {A = ℕ} (cond (eqb (flag (gridCell (side P) s r c) (cellAt after r c)) 0) 0 1) (cond (eqb (at s (r * side P + c)) (value square P W (r * side P + c))) 0 1)
+      cell-changed r c l m =
+          let R = D .remains (found h) in
+          rw (cell-at (side P) s r c m, value-at r c l m)
+          (flag-differ (t .sound .small) (t .photo .symbol (r * side P + c) (inside t es r c l m)) (omega (arith, R .below r c l m, positive t es)) (mod-lt (line-value r c) (positive t es))
+          (~add (same refl) (mod-cong (positive t es) (line-value r c)) ⨾ R .whole r c l m ⨾ same (symbol-at t es r c l m)))
+
+      changed-of : changedCells (side P) (side P) s after ≡ changedOf square P s W
+      changed-of = sym (sum-rows (side P) (side P) _ ∙ sum-eq (side P) λ r l. sum-eq (side P) λ c m. sym (cell-changed r c l m))
+
+      pub mark-reading : {k : ℕ} → k ≡ changedCells (side P) (side P) s after → Reads square P s u B (summary (radius full square P) g k) W
+      unfolding readingOf
+      mark-reading e =
+          let z = found h in
+          rw (e, changed-of, mark-cost P s u B (t .clear) point-at loaded w (D .decoded) z W word-length word-at)
+          (mark-found P s u B (t .clear) point-at loaded w (D .decoded) z W word-length word-at)
