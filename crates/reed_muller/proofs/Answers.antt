@@ -3,7 +3,7 @@ use mathlib.Core.Logic.{_≢_}
 use mathlib.Core.Path.{_≡_, refl}
 use mathlib.Core.Bool.{Bool, true, false}
 use mathlib.Core.List.{List, []}
-use Prim.Native.Nat.{ℕ, suc, _*_, _-_, _<_}
+use Prim.Native.Nat.{ℕ, suc, _*_, _-_, _≤_, _<_}
 use native.Mathlib.Omega.{arith}
 use native.Mathlib.Nat.{mod-eq-of-lt, mul-le-mul}
 use lib.ListN.{replicate, getD-replicate}
@@ -14,6 +14,7 @@ use Rattle.field.proofs.Row.{row-at, row-of}
 use Rattle.polynomial.specs.Powers.{Rows}
 use Rattle.distance.specs.Doubts.{Doubts}
 use Rattle.reed_solomon.specs.Strip.{Strip}
+use Rattle.reed_solomon.specs.Axis.{Valid}
 use Rattle.reed_muller.specs.declared.grid.Grid.{Grid}
 use Rattle.reed_muller.specs.Fit.{Fit}
 use Rattle.reed_muller.specs.Loops.{cellAt}
@@ -33,6 +34,30 @@ positive f = omega (arith, f .prime .least)
 -- the full doubt of a line at the degree t
 pub line-full : {g : Grid} (t : ℕ) → Fit g → g .full * (g .b - t) < 65536
 line-full {g} t f = omega (arith, mul-le-mul {n₁ = g .full} {m₁ = g .b - t} {n₂ = 4095} {m₂ = 16} (omega (arith, f .full)) (omega (arith, f .columns)))
+
+-- the axis of a line, read at the degree t, and that of what the lines hand on
+module _ {g : Grid} {t : ℕ} (f : Fit g) (low : t ≤ g .d) where
+  pub line-valid : Valid (record { p = g .p; m = g .m; x = g .y; n = g .b; k = t; full = g .full })
+  line-valid = record {
+    prime = f .prime;
+    reciprocal = f .reciprocal;
+    points = f .columnPoints;
+    apart = f .columnsApart;
+    most = f .columns;
+    low = omega (arith, f .narrow);
+    full = omega (arith, f .full);
+  }
+
+  pub strip-valid : Valid (record { p = g .p; m = g .m; x = g .x; n = g .a; k = g .d - t; full = g .full * (g .b - t) })
+  strip-valid = record {
+    prime = f .prime;
+    reciprocal = f .reciprocal;
+    points = f .rowPoints;
+    apart = f .rowsApart;
+    most = f .rows;
+    low = omega (arith, f .low);
+    full = line-full t f;
+  }
 
 module _ {g : Grid} {t : ℕ} {s u : List ℕ} (f : Fit g) where
   module _ {w : List ℕ} {v : ℕ} (du : Doubts (g .full) (g .b) (at u)) (good : Row (g .p) w) where

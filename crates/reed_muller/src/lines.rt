@@ -1,5 +1,6 @@
 // The lines of a mark: each row of what is left, read as a strip over the column points.
 use crate::grid::Grid;
+use reed_solomon::axis::Axis;
 ghost use mathlib.Core.Path.{_≡_};
 ghost use Prim.Native.Nat.{_≤_, _<_};
 ghost use lib.ListN.{length};
@@ -26,17 +27,15 @@ fn read(g: Grid, inverses: &[u16; 251], t: usize, symbols: [u16; 16], doubts: [u
     ensures { λ r. ⌜ Answered g t symbols doubts (r .message) (r .cost) ⌝ }
 {
     let y = g.y;
-    let strip = reed_solomon::decoder::decode(
-        g.p,
-        g.m,
-        inverses,
-        y,
-        g.b,
-        t,
-        g.full,
-        symbols,
-        doubts,
-    );
+    let axis = Axis {
+        p: g.p,
+        m: g.m,
+        x: y,
+        n: g.b,
+        k: t,
+        full: g.full,
+    };
+    let strip = reed_solomon::decoder::decode(axis, inverses, symbols, doubts);
     if strip.found {
         let w = strip.message;
         return Line {

@@ -6,6 +6,7 @@ use crate::remainder;
 use crate::trial;
 use polynomial::bivariate;
 use polynomial::evaluation;
+use reed_solomon::axis::Axis;
 ghost use Prim.Native.Nat.{_≤_};
 ghost use Rattle.field.specs.Prime.{Inverses};
 ghost use Rattle.polynomial.specs.Powers.{Rows};
@@ -38,17 +39,15 @@ fn step(
     let leading = bivariate::place_of_each(messages, t);
     let radius = g.full * ((g.b - t) as u32);
     let x = g.x;
-    let strip = reed_solomon::decoder::decode(
-        g.p,
-        g.m,
-        inverses,
+    let axis = Axis {
+        p: g.p,
+        m: g.m,
         x,
-        g.a,
-        g.d - t,
-        radius,
-        leading,
-        costs,
-    );
+        n: g.a,
+        k: g.d - t,
+        full: radius,
+    };
+    let strip = reed_solomon::decoder::decode(axis, inverses, leading, costs);
     let message = strip.message;
     if !strip.found {
         return Column {
