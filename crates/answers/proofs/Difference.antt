@@ -1,4 +1,5 @@
--- The difference of two numbers below 2^31 at an i32: it fits, it is the margin, and bits that keep it are read back. Assumes nothing.
+-- The difference of two numbers below 2^31 at an i32: it fits, it is the margin, and bits that keep it are read back.
+-- Assumes nothing.
 use mathlib.Core.Path.{_≡_}
 use mathlib.Core.Bool.{Bool, true, false, cond}
 use Prim.Native.Nat.{ℕ, zero, suc, _-_, _<_, _^_}
@@ -11,7 +12,8 @@ use mir.Val.{SFits, toZ, ofZ}
 use mir.Facts.{toZ-pos, toZ-ofZ}
 use Rattle.definitions.specs.Cost.{margin}
 
-by-sign : (t : Bool) (a b : ℕ) → a < 2147483648 → suc b < 2147483648 → mag (cond t (negsuc (suc b - suc a)) (pos (a - suc b))) < 2 ^ 31
+by-sign : (t : Bool) (a b : ℕ) → a < 2147483648 → suc b < 2147483648 →
+    mag (cond t (negsuc (suc b - suc a)) (pos (a - suc b))) < 2 ^ 31
 by-sign true a b i l = omega arith
 by-sign false a b i l = omega arith
 

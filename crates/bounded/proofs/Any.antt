@@ -1,4 +1,5 @@
--- The laws of bounded tests: what a true and a false answer say, and the steps of a loop that looks for a true one. Assumes nothing.
+-- The laws of bounded tests: what a true and a false answer say, and the steps of a loop that looks for a true one.
+-- Assumes nothing.
 use mathlib.Core.Path.{_≡_, refl, sym, _∙_}
 use mathlib.Core.Bool.{Bool, true, false, _||_, true≢false, false≢true}
 use Prim.Native.Nat.{ℕ, zero, suc, _+_, _<_}

@@ -1,11 +1,13 @@
--- The laws of bounded sums: equal and smaller terms, sums and multiples of terms, exchange, parts, rows, one term changed, and the pigeonhole. Assumes nothing.
+-- The laws of bounded sums: equal and smaller terms, sums and multiples of terms, exchange, parts, rows, one term changed, and
+-- the pigeonhole. Assumes nothing.
 use mathlib.Core.Logic.{_≢_, _⊎_, inl, inr}
 use mathlib.Core.Path.{_≡_, refl, ap, ap₂, _∙_}
 use Prim.Native.Nat.{ℕ, zero, suc, _+_, _*_, _/_, _%_, _≤_, _<_}
 use native.Mathlib.Numerals.{add-one}
 use native.Mathlib.Omega.{arith}
 use native.Mathlib.Decide.{ℕ-discrete, decLt}
-use native.Mathlib.Nat.{add-zero, add-suc, zero-mul, suc-mul, mul-add-div-right, mul-add-mod-self-right, div-eq-of-lt, mod-eq-of-lt}
+use native.Mathlib.Nat.{add-zero, add-suc, zero-mul, suc-mul, mul-add-div-right, mul-add-mod-self-right, div-eq-of-lt}
+use native.Mathlib.Nat.{mod-eq-of-lt}
 use Rattle.bounded.specs.Bounded.{sum}
 
 pub sum-eq : (n : ℕ) {f g : ℕ → ℕ} → ((i : ℕ) → i < n → f i ≡ g i) → sum n f ≡ sum n g
@@ -52,7 +54,8 @@ sum-append a (suc b) f = rw (add-suc a b) (omega (arith, sum-append a b f))
 -- a sum over the cells of a grid, row by row
 pub sum-rows : (n m : ℕ) (f : ℕ → ℕ) → sum (n * m) f ≡ sum n (λ r. sum m λ c. f (r * m + c))
 sum-rows zero m f = rw (zero-mul m)
-sum-rows (suc n) m f = ap (λ t. sum t f) (suc-mul n m) ∙ sum-append (n * m) m f ∙ ap (λ t. t + sum m (λ c. f (n * m + c))) (sum-rows n m f)
+sum-rows (suc n) m f = ap (λ t. sum t f) (suc-mul n m) ∙ sum-append (n * m) m f
+    ∙ ap (λ t. t + sum m (λ c. f (n * m + c))) (sum-rows n m f)
 
 -- row and column of the cell at r * m + c
 pub cell-row : (m r c : ℕ) → c < m → (r * m + c) / m ≡ r

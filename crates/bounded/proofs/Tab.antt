@@ -1,4 +1,5 @@
--- The laws of tables: length, entries, when a list is one, equal entries, a table in two parts, and one written from the front. Assumes nothing.
+-- The laws of tables: length, entries, when a list is one, equal entries, a table in two parts, and one written from the front.
+-- Assumes nothing.
 use mathlib.Core.Path.{_≡_, refl, sym, ap₂, _∙_}
 use mathlib.Core.List.{List, [], _∷_, _++_, append-assoc, append-nil}
 use Prim.Native.Nat.{ℕ, zero, suc, _+_, _<_}
@@ -48,10 +49,12 @@ tab-append a zero f = rw (add-zero a) (sym (append-nil (tab a f)))
 tab-append a (suc b) f = rw (add-suc a b, tab-append a b f) (append-assoc (tab a f) _ _)
 
 -- a table written from the front of the list d: one entry more, and all
-pub tab-more : (n : ℕ) (f : ℕ → ℕ) (d : List ℕ) → n < length d → set (tab n f ++ drop n d) n (f n) ≡ tab (n + 1) f ++ drop (n + 1) d
+pub tab-more : (n : ℕ) (f : ℕ → ℕ) (d : List ℕ) → n < length d →
+    set (tab n f ++ drop n d) n (f n) ≡ tab (n + 1) f ++ drop (n + 1) d
 unfolding tab
 tab-more n f d h =
-    rw (add-one n, drop-cons d n 0 h) (set-at (tab n f) (getD d n 0) (drop (suc n) d) (f n) n (length-tab n f) ∙ sym (append-assoc (tab n f) (f n ∷ []) (drop (suc n) d)))
+    rw (add-one n, drop-cons d n 0 h) (set-at (tab n f) (getD d n 0) (drop (suc n) d) (f n) n (length-tab n f)
+    ∙ sym (append-assoc (tab n f) (f n ∷ []) (drop (suc n) d)))
 
 pub tab-whole : (n : ℕ) (f : ℕ → ℕ) (d : List ℕ) → length d ≡ n → tab n f ++ drop n d ≡ tab n f
 tab-whole n f d e = rw (← e, drop-length, append-nil)

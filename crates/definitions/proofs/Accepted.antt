@@ -17,13 +17,15 @@ use Rattle.definitions.specs.Code.{IsRecord}
 use Rattle.definitions.specs.Sound.{Sound}
 use Rattle.definitions.specs.Photograph.{Photograph}
 use Rattle.definitions.specs.Accepted.{Writing}
-use Rattle.definitions.proofs.Refusals.{testAt, first-clear, first-both, Stops, numberAt, first-at, first-refuses, first-passes}
+use Rattle.definitions.proofs.Refusals.{testAt, first-clear, first-both, Stops, numberAt, first-at, first-refuses}
+use Rattle.definitions.proofs.Refusals.{first-passes}
 use Rattle.definitions.proofs.Sound.{sound}
 use Rattle.definitions.proofs.Photograph.{photo-accepted, accepted-photo, accepted-buffer}
 
 -- the tests after those of the plan, for n cells and k coefficients
 abbrev pub photoTests : (P s u F : List ℕ) (n k : ℕ) → List Refusal
-photoTests P s u F n k = lengthRow s n ∷ lengthRow u n ∷ lengthRow F k ∷ (7 when strange P s n) ∷ (8 when excessive u n) ∷ (8 when halfRead s u n) ∷ []
+photoTests P s u F n k =
+    lengthRow s n ∷ lengthRow u n ∷ lengthRow F k ∷ (7 when strange P s n) ∷ (8 when excessive u n) ∷ (8 when halfRead s u n) ∷ []
 
 abbrev pub writeTests : (P F B : List ℕ) (n k : ℕ) → List Refusal
 writeTests P F B n k = lengthRow F k ∷ lengthRow B n ∷ (9 when overflowing P F k) ∷ []
@@ -31,7 +33,10 @@ writeTests P F B n k = lengthRow F k ∷ lengthRow B n ∷ (9 when overflowing P
 module _ (C : Code) (P : List ℕ) where
   -- the record of a call that row 9 does not refuse
   record-is : (F : List ℕ) → length F ≡ size C P → first (recordRow C P F ∷ []) ≡ 0 → IsRecord C P F
-  record-is F e h = record { size = e; below = λ i l. leb-false _ _ (any-none _ _ (first-clear (recordRow C P F ∷ []) tt h 0) i l) }
+  record-is F e h = record {
+    size = e;
+    below = λ i l. leb-false _ _ (any-none _ _ (first-clear (recordRow C P F ∷ []) tt h 0) i l);
+  }
 
   pub accepted-measuring : (s u F : List ℕ) → measureNumber C P s u F ≡ 0 → Sound P × Photograph C P s u × IsRecord C P F
   unfolding measureNumber measureRows photoRows planRows
@@ -47,7 +52,11 @@ module _ (C : Code) (P : List ℕ) where
 
   pub accepted-writing : (F B : List ℕ) → writeNumber C P F B ≡ 0 → Writing C P F B
   unfolding writeNumber writeRows planRows checkNumber first
-  accepted-writing F B e = record { sound = sound P (b .0); given = record-is F (eqb-true _ _ (not-false _ (c 0))) (rest (c 2)); room = eqb-true _ _ (not-false _ (c 1)) }
+  accepted-writing F B e = record {
+    sound = sound P (b .0);
+    given = record-is F (eqb-true _ _ (not-false _ (c 0))) (rest (c 2));
+    room = eqb-true _ _ (not-false _ (c 1));
+  }
     where
       b : (first (planRows P) ≡ 0) × (first (writeTests P F B (cells C P) (size C P)) ≡ 0)
       b = first-both (planRows P) (writeTests P F B (cells C P) (size C P)) tt e
@@ -64,20 +73,22 @@ module _ (C : Code) (P : List ℕ) where
     unfolding photoRows planRows checkNumber
     photo-refused k e h = first-refuses (planRows P) (photoTests P s u F (cells C P) (size C P)) tt k e h
 
-    pub photo-at : {m n k : ℕ} (i : ℕ) → m ≡ checkNumber P → m ≡ 0 → n ≡ cells C P → k ≡ size C P → Stops (photoTests P s u F n k) i →
-        numberAt (photoTests P s u F n k) i ≡ first (photoRows C P s u F)
+    pub photo-at : {m n k : ℕ} (i : ℕ) → m ≡ checkNumber P → m ≡ 0 → n ≡ cells C P → k ≡ size C P →
+        Stops (photoTests P s u F n k) i → numberAt (photoTests P s u F n k) i ≡ first (photoRows C P s u F)
     unfolding photoRows planRows checkNumber
-    photo-at {n} {k} i e z f g h = first-at (photoTests P s u F n k) i h ∙ rw (f, g) (first-passes (planRows P) (photoTests P s u F (cells C P) (size C P)) tt (sym e ∙ z))
+    photo-at {n} {k} i e z f g h = first-at (photoTests P s u F n k) i h
+        ∙ rw (f, g) (first-passes (planRows P) (photoTests P s u F (cells C P) (size C P)) tt (sym e ∙ z))
 
   module _ (F B : List ℕ) where
     pub write-refused : (k : ℕ) → k ≡ checkNumber P → (k ≡ 0 → ⊥) → k ≡ writeNumber C P F B
     unfolding writeNumber writeRows planRows checkNumber
     write-refused k e h = first-refuses (planRows P) (writeTests P F B (cells C P) (size C P)) tt k e h
 
-    pub write-at : {m n k : ℕ} (i : ℕ) → m ≡ checkNumber P → m ≡ 0 → n ≡ cells C P → k ≡ size C P → Stops (writeTests P F B n k) i →
-        numberAt (writeTests P F B n k) i ≡ writeNumber C P F B
+    pub write-at : {m n k : ℕ} (i : ℕ) → m ≡ checkNumber P → m ≡ 0 → n ≡ cells C P → k ≡ size C P →
+        Stops (writeTests P F B n k) i → numberAt (writeTests P F B n k) i ≡ writeNumber C P F B
     unfolding writeNumber writeRows planRows checkNumber
-    write-at {n} {k} i e z f g h = first-at (writeTests P F B n k) i h ∙ rw (f, g) (first-passes (planRows P) (writeTests P F B (cells C P) (size C P)) tt (sym e ∙ z))
+    write-at {n} {k} i e z f g h = first-at (writeTests P F B n k) i h
+        ∙ rw (f, g) (first-passes (planRows P) (writeTests P F B (cells C P) (size C P)) tt (sym e ∙ z))
 
   -- measuring: the photograph's number, and the test after it
   module _ (s u F : List ℕ) where
@@ -85,11 +96,13 @@ module _ (C : Code) (P : List ℕ) where
     unfolding measureNumber measureRows photoRows planRows
     measure-refused k e n = first-refuses (photoRows C P s u F) (recordRow C P F ∷ []) tt k e n
 
-    pub measure-at : {m k : ℕ} (i : ℕ) → m ≡ first (photoRows C P s u F) → m ≡ 0 → k ≡ size C P → Stops ((9 when overflowing P F k) ∷ []) i →
-        numberAt ((9 when overflowing P F k) ∷ []) i ≡ measureNumber C P s u F
+    pub measure-at : {m k : ℕ} (i : ℕ) → m ≡ first (photoRows C P s u F) → m ≡ 0 → k ≡ size C P →
+        Stops ((9 when overflowing P F k) ∷ []) i → numberAt ((9 when overflowing P F k) ∷ []) i ≡ measureNumber C P s u F
     unfolding measureNumber measureRows photoRows planRows
-    measure-at {k} i e z f h = first-at ((9 when overflowing P F k) ∷ []) i h ∙ rw f (first-passes (photoRows C P s u F) (recordRow C P F ∷ []) tt (sym e ∙ z))
+    measure-at {k} i e z f h = first-at ((9 when overflowing P F k) ∷ []) i h
+        ∙ rw f (first-passes (photoRows C P s u F) (recordRow C P F ∷ []) tt (sym e ∙ z))
 
     -- a photograph and a record of its plan are measured
     pub measuring-accepted : Photograph C P s u → IsRecord C P F → measureNumber C P s u F ≡ 0
-    measuring-accepted h r = sym (measure-at 1 refl (photo-accepted C P s u F h (r .size)) refl (none-any _ _ (λ i l. lt-leb _ _ (r .below i l)), tt))
+    measuring-accepted h r =
+        sym (measure-at 1 refl (photo-accepted C P s u F h (r .size)) refl (none-any _ _ (λ i l. lt-leb _ _ (r .below i l)), tt))

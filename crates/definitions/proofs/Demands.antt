@@ -34,7 +34,8 @@ module _ (C : Code) (P s u B : List ℕ) (photo : Photograph C P s u) (buffer : 
   unfolding within
   far F l = le-ltb _ _ l
 
-  found : (F : List ℕ) → IsRecord C P F → costOf C P s u F < radius full C P → (readReading C P s u B ≡ readingOf C P s u F) × (readBuffer C P s u B ≡ F)
+  found : (F : List ℕ) → IsRecord C P F → costOf C P s u F < radius full C P →
+      (readReading C P s u B ≡ readingOf C P s u F) × (readBuffer C P s u B ≡ F)
   found F r l = let h = reads-the C P s u B clear one F r (near F l) in (sym (h .reading), sym (h .buffer))
 
   -- the number stands in the reading

@@ -1,4 +1,5 @@
--- A season is that of two bytes of the file, and a search of the file that stops at row i of its refusals has that row's number. Assumes nothing.
+-- A season is that of two bytes of the file, and a search of the file that stops at row i of its refusals has that row's number.
+-- Assumes nothing.
 use mathlib.Core.Path.{_≡_, ap, ap₂, _∙_}
 use mathlib.Core.List.{List}
 use Prim.Native.Nat.{ℕ, _+_, _*_}

@@ -45,7 +45,8 @@ module _ (C : Code) (P s u B : List ℕ) where
   abbrev last : Option (List ℕ) → List Refusal
   last o = (10 when missing o) ∷ []
 
-  number : {k : ℕ} {o : Option (List ℕ)} → first (photoRows C P s u B) ≡ k → nearest C P s u ≡ o → readNumber C P s u B ≡ accepted k (first (last o)) k
+  number : {k : ℕ} {o : Option (List ℕ)} → first (photoRows C P s u B) ≡ k → nearest C P s u ≡ o →
+      readNumber C P s u B ≡ accepted k (first (last o)) k
   unfolding first planRows photoRows readRows readNumber
   number e m = first-append (photoRows C P s u B) (last (nearest C P s u)) tt ∙ ap₂ (λ k o. accepted k (first (last o)) k) e m
 
@@ -60,8 +61,8 @@ module _ (C : Code) (P s u B : List ℕ) where
         m : nearest C P s u ≡ none
         m = search-none (modulus P) (size C P) (within C P s u) h
 
-    pub reads-the : ((F G : List ℕ) → IsRecord C P F → IsRecord C P G → within C P s u F ≡ true → within C P s u G ≡ true → F ≡ G) →
-        (F : List ℕ) → IsRecord C P F → within C P s u F ≡ true → Reads C P s u B (readingOf C P s u F) F
+    pub reads-the : ((F G : List ℕ) → IsRecord C P F → IsRecord C P G → within C P s u F ≡ true → within C P s u G ≡ true →
+        F ≡ G) → (F : List ℕ) → IsRecord C P F → within C P s u F ≡ true → Reads C P s u B (readingOf C P s u F) F
     unfolding first nearest
     reads-the one F x t = reads (number e m) m
       where

@@ -1,5 +1,5 @@
--- A record against its own mark with all doubts 0: the mark is a photograph of the plan, and the record costs 0 with no cell changed. So
--- demand 2 follows from demand 3. Assumes nothing.
+-- A record against its own mark with all doubts 0: the mark is a photograph of the plan, and the record costs 0 with no cell
+-- changed. So demand 2 follows from demand 3. Assumes nothing.
 use mathlib.Core.Path.{_≡_, refl, ap, _∙_}
 use mathlib.Core.Logic.{inl}
 use mathlib.Core.Bool.{true, cond}
@@ -57,7 +57,8 @@ module _ (C : Code) (P F : List ℕ) where
 
   pub own-reading : readingOf C P (mark C P F) (sure (cells C P)) F ≡ clean C P
   unfolding readingOf margin
-  own-reading = rw (own-cost, own-changed) (ap (λ m. record { number = 0; cost = 0; margin = pos m; changed = 0; class = 0 }) (add-zero (radius full C P)))
+  own-reading = rw (own-cost, own-changed)
+      (ap (λ m. record { number = 0; cost = 0; margin = pos m; changed = 0; class = 0 }) (add-zero (radius full C P)))
 
 module _ (P : List ℕ) (S : Sound P) where
   value-below : (C : Code) (F : List ℕ) (c : ℕ) → value C P F c < modulus P
@@ -78,7 +79,10 @@ module _ (P : List ℕ) (S : Sound P) where
 
   pub radius-positive : (C : Code) → 0 < radius full C P
   radius-positive strip = omega (arith, S .low)
-  radius-positive square = omega (arith, mul-le-mul {n₁ = 1} {m₁ = 1} {n₂ = side P} {m₂ = side P - degree P} (omega (arith, S .low)) (omega (arith, S .low)))
+  radius-positive square = omega (
+    arith,
+    mul-le-mul {n₁ = 1} {m₁ = 1} {n₂ = side P} {m₂ = side P - degree P} (omega (arith, S .low)) (omega (arith, S .low)),
+  )
 
   -- reading it back
   pub own-read : (C : Code) (F B : List ℕ) → IsRecord C P F → Nearest C P (mark C P F) (sure (cells C P)) B →

@@ -1,4 +1,5 @@
--- Refusals 1 to 8 do not apply exactly to the photographs of a sound plan with a record buffer of the right length. Assumes nothing.
+-- Refusals 1 to 8 do not apply exactly to the photographs of a sound plan with a record buffer of the right length.
+-- Assumes nothing.
 use mathlib.Core.Path.{_≡_, refl, sym, ap, _∙_}
 use mathlib.Core.Logic.{_⊎_, inl, inr}
 use mathlib.Core.Bool.{Bool, true, false, not, _&&_, true≢false}
@@ -44,7 +45,8 @@ module _ (C : Code) (P s u B : List ℕ) where
       symbol = none-any _ _ λ c m. one c (h .symbol c m)
         where
           one : (c : ℕ) → (at s c < modulus P) ⊎ (at s c ≡ unread) → leb (modulus P) (at s c) && not (eqb (at s c) unread) ≡ false
-          one c (inl k) = both-false (leb (modulus P) (at s c)) (not (eqb (at s c) unread)) λ t. absurd (true≢false (sym t ∙ lt-leb _ _ k))
+          one c (inl k) = both-false (leb (modulus P) (at s c)) (not (eqb (at s c) unread)) λ t.
+              absurd (true≢false (sym t ∙ lt-leb _ _ k))
           one c (inr k) = both-false (leb (modulus P) (at s c)) (not (eqb (at s c) unread)) λ t. equal (at s c) unread k
 
       doubt : excessive u (cells C P) ≡ false
@@ -78,7 +80,8 @@ module _ (C : Code) (P s u B : List ℕ) where
       erased = λ c m k. eqb-true _ _ (not-not _ (not-both _ _ (any-none _ _ (clear 5) c m) (eq-eqb _ _ k)));
     }
       where
-        one : (c : ℕ) (b : Bool) → leb (modulus P) (at s c) ≡ b → b && not (eqb (at s c) unread) ≡ false → (at s c < modulus P) ⊎ (at s c ≡ unread)
+        one : (c : ℕ) (b : Bool) → leb (modulus P) (at s c) ≡ b → b && not (eqb (at s c) unread) ≡ false →
+            (at s c < modulus P) ⊎ (at s c ≡ unread)
         one c true t h = inr (eqb-true _ _ (not-not _ h))
         one c false t h = inl (leb-false _ _ t)
 

@@ -1,5 +1,5 @@
--- The law of the search: what it finds is a word that passes, and where it finds none, none passes; where at most one word passes,
--- it finds that one. Assumes nothing.
+-- The law of the search: what it finds is a word that passes, and where it finds none, none passes; where at most one word
+-- passes, it finds that one. Assumes nothing.
 use mathlib.Core.Path.{_≡_, refl, sym, ap, _∙_}
 use mathlib.Core.Bool.{Bool, true, false, false≢true}
 use mathlib.Core.List.{List, [], _∷_}
@@ -50,13 +50,15 @@ search-says p (suc k) test = finish (firstOf p f) (tried (λ c. search-says p k 
     next n l none (some v) h g = (word-cons l (g .0), g .1)
     next n l none none h g = λ c w m x. elim (ℕ-discrete c n) [ yes e ↦ rw e (g w x) | no e ↦ h c w (omega arith) x ]
 
-    tried : ((c : ℕ) → Says p k (λ w. test (c ∷ w)) (search p k λ w. test (c ∷ w))) → (n : ℕ) → n ≤ p → SaysBelow p k n test (firstOf n f)
+    tried : ((c : ℕ) → Says p k (λ w. test (c ∷ w)) (search p k λ w. test (c ∷ w))) → (n : ℕ) → n ≤ p →
+        SaysBelow p k n test (firstOf n f)
     tried r zero l = λ c w m. absurd (omega arith)
     tried r (suc n) l = next n l (firstOf n f) (search p k λ w. test (n ∷ w)) (tried r n (omega arith)) (r n)
 
     apart : SaysBelow p k p test none → Says p (suc k) test none
     apart h [] x = absurd (omega (arith, x .size))
-    apart h (c ∷ w) x = h c w (x .below 0 (omega arith)) (record { size = omega (arith, x .size); below = λ i l. x .below (suc i) (omega arith) })
+    apart h (c ∷ w) x = h c w (x .below 0 (omega arith))
+        (record { size = omega (arith, x .size); below = λ i l. x .below (suc i) (omega arith) })
 
     finish : (o : Option (List ℕ)) → SaysBelow p k p test o → Says p (suc k) test o
     finish (some w) h = h
@@ -70,7 +72,8 @@ module _ (p k : ℕ) (test : List ℕ → Bool) where
       go none s = refl
       go (some w) s = absurd (false≢true (sym (h w (s .0)) ∙ s .1))
 
-  pub search-the : ((v w : List ℕ) → Word p k v → Word p k w → test v ≡ true → test w ≡ true → v ≡ w) → (w : List ℕ) → Word p k w → test w ≡ true → search p k test ≡ some w
+  pub search-the : ((v w : List ℕ) → Word p k v → Word p k w → test v ≡ true → test w ≡ true → v ≡ w) → (w : List ℕ) →
+      Word p k w → test w ≡ true → search p k test ≡ some w
   search-the one w x t = go (search p k test) (search-says p k test)
     where
       go : (o : Option (List ℕ)) → Says p k test o → o ≡ some w

@@ -1,11 +1,12 @@
--- What each call returns, and what it leaves in the buffer lent for its result. A call is given a plan P and, of these, symbols s,
--- doubts u, a record F, a buffer B. Everything is decided from these bytes alone; a refusal leaves B as it was.
+-- What each call returns, and what it leaves in the buffer lent for its result. A call is given a plan P and, of these, symbols
+-- s, doubts u, a record F, a buffer B. Everything is decided from these bytes alone; a refusal leaves B as it was.
 --
 --   writeNumber, writeBuffer     WRITING the mark of the record F into B
 --   measureNumber, measureReading   MEASURING the record F against a photograph
 --   readNumber, readReading, readBuffer   READING a photograph, the record into B
 --
--- What this file is for: the contracts of the calls are equalities with these. Checking is `checkNumber` of Plan, finding is Finder.
+-- What this file is for: the contracts of the calls are equalities with these.
+-- Checking is `checkNumber` of Plan, finding is Finder.
 use mathlib.Core.Bool.{Bool, true, false, not, _&&_}
 use mathlib.Core.List.{List, [], _∷_, _++_}
 use mathlib.Core.Option.{Option, some, none}
@@ -117,7 +118,8 @@ unfoldable pub readNumber : Code → (P s u B : List ℕ) → ℕ
 readNumber C P s u B = first (readRows C P s u B)
 
 unfoldable pub readReading : Code → (P s u B : List ℕ) → Reading
-readReading C P s u B = accepted (readNumber C P s u B) (readingOf C P s u (the (nearest C P s u))) (refused (readNumber C P s u B))
+readReading C P s u B = accepted (readNumber C P s u B) (readingOf C P s u (the (nearest C P s u)))
+    (refused (readNumber C P s u B))
 
 unfoldable pub readBuffer : Code → (P s u B : List ℕ) → List ℕ
 readBuffer C P s u B = accepted (readNumber C P s u B) (the (nearest C P s u)) B

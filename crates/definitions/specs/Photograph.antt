@@ -1,7 +1,7 @@
 -- A photograph as facts: what refusals 1 to 8 leave.
 --
---   Photograph C P s u   the plan P is sound, and s and u are symbols and doubts of its strip or mark, in buffers of the right lengths:
---                        a symbol is below p or 255, a doubt is 0 to 100, and exactly 100 where the cell is unread
+--   Photograph C P s u   the plan P is sound, and s and u are symbols and doubts of its strip or mark, in buffers of the right
+--                        lengths: a symbol is below p or 255, a doubt is 0 to 100, and exactly 100 where the cell is unread
 --   sure n               n doubts of 0
 --
 -- What this file is for: "every photograph in buffers of the right lengths, whatever the points, symbols and doubts".

@@ -1,5 +1,6 @@
--- The laws of cost, for any full doubt F: of two words at most one is under F times the cells in which they differ; the doubts are a
--- lower bound; a cell of full doubt costs the same whatever its symbol; a term subtracted from symbol and value. Assumes nothing.
+-- The laws of cost, for any full doubt F: of two words at most one is under F times the cells in which they differ; the doubts
+-- are a lower bound; a cell of full doubt costs the same whatever its symbol; a term subtracted from symbol and value. Assumes
+-- nothing.
 use mathlib.Core.Path.{_≡_, refl, sym, ap, _∙_}
 use mathlib.Core.Bool.{Bool, true, false, cond}
 use Prim.Native.Nat.{ℕ, suc, _+_, _*_, _-_, _%_, _≤_, _<_}
@@ -18,7 +19,8 @@ use Rattle.distance.specs.Level.{differ}
 pub cell-two-values : (F s u v w : ℕ) → u ≤ F → 2 * F * differ v w ≤ cell F s u v + cell F s u w
 cell-two-values F s u v w h = go (eqb s v) (eqb s w) (eqb v w) refl refl refl
   where
-    go : (a b c : Bool) → eqb s v ≡ a → eqb s w ≡ b → eqb v w ≡ c → 2 * F * cond c 0 1 ≤ cond a u (2 * F - u) + cond b u (2 * F - u)
+    go : (a b c : Bool) → eqb s v ≡ a → eqb s w ≡ b → eqb v w ≡ c →
+        2 * F * cond c 0 1 ≤ cond a u (2 * F - u) + cond b u (2 * F - u)
     go a b true i j k = omega arith
     go true true false i j k = absurd (eqb-false v w k (sym (eqb-true s v i) ∙ eqb-true s w j))
     go true false false i j k = omega arith
@@ -26,7 +28,8 @@ cell-two-values F s u v w h = go (eqb s v) (eqb s w) (eqb v w) refl refl refl
     go false false false i j k = omega arith
 
 -- two words
-pub cost-two-words : (F n : ℕ) (s u v w : ℕ → ℕ) → ((i : ℕ) → i < n → u i ≤ F) → 2 * F * changed n v w ≤ cost F n s u v + cost F n s u w
+pub cost-two-words : (F n : ℕ) (s u v w : ℕ → ℕ) → ((i : ℕ) → i < n → u i ≤ F) →
+    2 * F * changed n v w ≤ cost F n s u v + cost F n s u w
 cost-two-words F n s u v w h = omega (
   arith,
   sum-mul n (2 * F) (λ i. differ (v i) (w i)),
@@ -35,7 +38,8 @@ cost-two-words F n s u v w h = omega (
 )
 
 -- where two words differ in D cells and one is under F D, the other is over it
-pub cost-far : (F D n : ℕ) (s u v w : ℕ → ℕ) → ((i : ℕ) → i < n → u i ≤ F) → D ≤ changed n v w → cost F n s u v < F * D → F * D < cost F n s u w
+pub cost-far : (F D n : ℕ) (s u v w : ℕ → ℕ) → ((i : ℕ) → i < n → u i ≤ F) → D ≤ changed n v w → cost F n s u v < F * D →
+    F * D < cost F n s u w
 cost-far F D n s u v w h d c = omega (arith, cost-two-words F n s u v w h, mul-le-mul-left F d)
 
 -- a word costs at least the doubts
@@ -58,7 +62,8 @@ cell-full F s v = go (eqb s v)
     go false = omega arith
 
 -- a cell from which the term e was subtracted costs for the rest a what it cost for the whole
-pub cell-less : {q : ℕ} (F s s′ u a e : ℕ) → s < suc q → s′ < suc q → Cong q (s′ + e) s → cell F s′ u (a % suc q) ≡ cell F s u ((a + e) % suc q)
+pub cell-less : {q : ℕ} (F s s′ u a e : ℕ) → s < suc q → s′ < suc q → Cong q (s′ + e) s →
+    cell F s′ u (a % suc q) ≡ cell F s u ((a + e) % suc q)
 cell-less {q} F s s′ u a e l l′ c = go (eqb s′ (a % suc q)) (eqb s ((a + e) % suc q)) refl refl
   where
     whole : s′ ≡ a % suc q → s ≡ (a + e) % suc q

@@ -1,5 +1,5 @@
--- Levels of doubt: over all levels below F a word weighs what it costs, so a word under F D weighs less than D at some level, and at one
--- that is some cell's doubt. Assumes nothing.
+-- Levels of doubt: over all levels below F a word weighs what it costs, so a word under F D weighs less than D at some level, and
+-- at one that is some cell's doubt. Assumes nothing.
 use mathlib.Core.Logic.{_≢_, inl, inr}
 use mathlib.Core.Path.{_≡_, refl, _∙_}
 use mathlib.Core.Bool.{Bool, true, false, cond}
@@ -17,7 +17,11 @@ abbrev weigh : (t s u v : ℕ) → ℕ
 weigh t s u v = 2 * wrong t s u v + erased t u
 
 weight-sum : (n t : ℕ) (s u v : ℕ → ℕ) → weight n t s u v ≡ sum n λ i. weigh t (s i) (u i) (v i)
-weight-sum n t s u v = omega (arith, sum-mul n 2 (λ i. wrong t (s i) (u i) (v i)), sum-add n (λ i. 2 * wrong t (s i) (u i) (v i)) (λ i. erased t (u i)))
+weight-sum n t s u v = omega (
+  arith,
+  sum-mul n 2 (λ i. wrong t (s i) (u i) (v i)),
+  sum-add n (λ i. 2 * wrong t (s i) (u i) (v i)) (λ i. erased t (u i)),
+)
 
 -- over the levels below F
 levels : (F s u v : ℕ) → sum F (λ t. weigh t s u v) ≡ min F u + cond (eqb s v) 0 (2 * (F - u))
@@ -48,14 +52,16 @@ levels-cost F n s u v h =
     ∙ sum-swap F n (λ t i. weigh t (s i) (u i) (v i))
     ∙ sum-eq n (λ i l. cell-levels F (s i) (u i) (v i) (h i l))
 
-pub some-level : (F D n : ℕ) (s u v : ℕ → ℕ) → ((i : ℕ) → i < n → u i ≤ F) → cost F n s u v < F * D → (t : ℕ) × (t < F) × (weight n t s u v < D)
+pub some-level : (F D n : ℕ) (s u v : ℕ → ℕ) → ((i : ℕ) → i < n → u i ≤ F) → cost F n s u v < F * D →
+    (t : ℕ) × (t < F) × (weight n t s u v < D)
 some-level F D n s u v h c = sum-some F D (λ t. weight n t s u v) (rw (levels-cost F n s u v h) c)
 
 -- a level that is no cell's doubt weighs what the one below weighs; at level 0 all cells are erased then
 lower : (t s u v : ℕ) → u ≢ suc t → weigh (suc t) s u v ≡ weigh t s u v
 lower t s u v h = go (leb u (suc t)) (leb u t) refl refl
   where
-    go : (a b : Bool) → leb u (suc t) ≡ a → leb u t ≡ b → 2 * cond a (differ s v) 0 + cond a 0 1 ≡ 2 * cond b (differ s v) 0 + cond b 0 1
+    go : (a b : Bool) → leb u (suc t) ≡ a → leb u t ≡ b →
+        2 * cond a (differ s v) 0 + cond a 0 1 ≡ 2 * cond b (differ s v) 0 + cond b 0 1
     go true true i j = refl
     go true false i j = absurd (omega (arith, leb-true u (suc t) i, leb-false u t j))
     go false true i j = absurd (omega (arith, leb-false u (suc t) i, leb-true u t j))
@@ -72,7 +78,11 @@ cell-level : (F D n t : ℕ) (s u v : ℕ → ℕ) → D ≤ n → t < F → sum
     (k : ℕ) × (k < n) × (u k < F) × (sum n (λ i. weigh (u k) (s i) (u i) (v i)) < D)
 cell-level F D n zero s u v d l w = elim (find n u zero) [
   | inl r ↦ (r .0, r .1, omega (arith, r .2), rw (r .2) w)
-  | inr r ↦ absurd (omega (arith, sum-eq n {f = λ i. weigh 0 (s i) (u i) (v i)} {g = λ i. 1} (λ i l. lowest (s i) (u i) (v i) (r i l)), sum-const n 1))
+  | inr r ↦ absurd (omega (
+    arith,
+    sum-eq n {f = λ i. weigh 0 (s i) (u i) (v i)} {g = λ i. 1} (λ i l. lowest (s i) (u i) (v i) (r i l)),
+    sum-const n 1,
+  ))
 ]
 cell-level F D n (suc t) s u v d l w = elim (find n u (suc t)) [
   | inl r ↦ (r .0, r .1, omega (arith, r .2), rw (r .2) w)

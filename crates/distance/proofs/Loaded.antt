@@ -14,5 +14,6 @@ cell-loaded {F} {s} {u} {s′} v L = rw (L .doubt) (go (L .symbol))
     go (inl e) = rw e
     go (inr e) = rw e (cell-full F s v ∙ sym (cell-full F s′ v))
 
-pub cost-loaded : {F n : ℕ} {s u s′ u′ : ℕ → ℕ} (v : ℕ → ℕ) → ((i : ℕ) → i < n → Loaded F (s i) (u i) (s′ i) (u′ i)) → cost F n s u v ≡ cost F n s′ u′ v
+pub cost-loaded : {F n : ℕ} {s u s′ u′ : ℕ → ℕ} (v : ℕ → ℕ) → ((i : ℕ) → i < n → Loaded F (s i) (u i) (s′ i) (u′ i)) →
+    cost F n s u v ≡ cost F n s′ u′ v
 cost-loaded {n} v L = sum-eq n λ i l. cell-loaded (v i) (L i l)

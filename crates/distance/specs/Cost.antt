@@ -1,4 +1,5 @@
--- The weighted distance of values v from symbols s with doubts u, for any full doubt f. A doubt is an uncertainty in whole numbers.
+-- The weighted distance of values v from symbols s with doubts u, for any full doubt f.
+-- A doubt is an uncertainty in whole numbers.
 --
 --   cell f s u v    what one cell costs: its doubt where the symbol is the value, else twice the full doubt less its doubt
 --   cost f n s u v  the sum over n cells

@@ -1,7 +1,7 @@
 -- Cells as a reader loads them.
 --
---   Loaded F s u s′ u′   the symbol s′ with the doubt u′ stands for s with u: the doubt is the same, and so is the symbol unless the
---                        doubt is the full doubt F
+--   Loaded F s u s′ u′   the symbol s′ with the doubt u′ stands for s with u: the doubt is the same, and so is the symbol unless
+--                        the doubt is the full doubt F
 --
 -- What this file is for: the symbol of an unread cell is no residue, and any residue may stand for it.
 use mathlib.Core.Path.{_≡_}

@@ -1,5 +1,5 @@
--- The loop that loads lent bytes into a row of zeros: the places below i hold the bytes, the others 0; after the last byte it is the row of
--- the bytes. Assumes nothing.
+-- The loop that loads lent bytes into a row of zeros: the places below i hold the bytes, the others 0; after the last byte it is
+-- the row of the bytes. Assumes nothing.
 use mathlib.Core.Path.{_≡_, sym, _∙_}
 use mathlib.Core.List.{List}
 use Prim.Native.Nat.{ℕ, _+_, _≤_, _<_}
@@ -21,7 +21,8 @@ module _ {bytes : List ℕ} where
   pub filled-start : Filled bytes (replicate 16 0) 0
   filled-start = record { loaded = upto-start (length-replicate {A = ℕ} 16 0); rest = λ j _ l. getD-replicate 16 j 0 0 l }
 
-  pub filled-step : {out : List ℕ} {i : ℕ} (v : ℕ) → i < 16 → v ≡ at bytes i → Filled bytes out i → Filled bytes (set out i v) (i + 1)
+  pub filled-step : {out : List ℕ} {i : ℕ} (v : ℕ) → i < 16 → v ≡ at bytes i → Filled bytes out i →
+      Filled bytes (set out i v) (i + 1)
   filled-step {out} {i} v l e f = record {
     loaded = upto-step v l e (f .loaded);
     rest = λ j k b. getD-set-other out i j v 0 (λ z. omega arith) ∙ f .rest j (omega arith) b;

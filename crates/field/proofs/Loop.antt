@@ -1,5 +1,5 @@
--- The laws of the loop over an array: its start, one element more, an element set anew, and fewer elements; start and one element more
--- where the array is changed as it stands. Assumes nothing.
+-- The laws of the loop over an array: its start, one element more, an element set anew, and fewer elements; start and one element
+-- more where the array is changed as it stands. Assumes nothing.
 use mathlib.Core.Logic.{_≢_}
 use mathlib.Core.Path.{_≡_, refl, _∙_}
 use mathlib.Core.List.{List}
@@ -35,7 +35,8 @@ module _ {A : Type 0} {n : ℕ} {z : A} {T : ℕ → A → Type 0} where
   pub upto-less : {l : List A} {i m : ℕ} → m ≤ i → Upto n z T l i → Upto n z T l m
   upto-less h p = record { size = p .size; done = λ j k. p .done j (omega arith) }
 
-pub passed-start : {A : Type 0} {n : ℕ} {z : A} {T : ℕ → A → Type 0} {l : List A} → length l ≡ 16 → Passed n z (λ j v. v ≡ getD l j z) T l 0
+pub passed-start : {A : Type 0} {n : ℕ} {z : A} {T : ℕ → A → Type 0} {l : List A} → length l ≡ 16 →
+    Passed n z (λ j v. v ≡ getD l j z) T l 0
 passed-start e = record { size = e; done = λ j k. absurd (omega arith); todo = λ j k m. refl }
 
 module _ {A : Type 0} {n : ℕ} {z : A} {U T : ℕ → A → Type 0} where

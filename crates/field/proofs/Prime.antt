@@ -5,7 +5,8 @@ use mathlib.Core.Path.{_≡_, refl, ap, _∙_}
 use mathlib.Core.Bool.{Bool, true, false, not, _&&_, false≢true}
 use Prim.Native.Nat.{ℕ, zero, suc, _+_, _*_, _-_, _/_, _%_, _≤_, _<_}
 use native.Mathlib.Omega.{arith}
-use native.Mathlib.Nat.{le-of-lt, div-add-mod, mod-lt, zero-mod, mul-le-mul, mul-le-mul-left, mul-mod-left, div-le-self, sub-add-cancel}
+use native.Mathlib.Nat.{le-of-lt, div-add-mod, mod-lt, zero-mod, mul-le-mul, mul-le-mul-left, mul-mod-left, div-le-self}
+use native.Mathlib.Nat.{sub-add-cancel}
 use native.Mathlib.Decide.{ℕ-discrete, decLe}
 use lib.Dec.{eqb, leb}
 use borrow.Author.Tests.{eqb-false, ne-eqb, le-leb, leb-true}
@@ -59,7 +60,10 @@ is-prime p e = go (leb 2 p) (divided p (p - 2)) refl refl e
 
 pub prime-is : (p : ℕ) → Prime p → isPrime p ≡ true
 unfolding isPrime
-prime-is p r = rw (le-leb 2 p (r .least), none-any (p - 2) (λ i. eqb (p % (2 + i)) 0) λ i l. ne-eqb _ _ (r .alone (2 + i) (omega arith) (omega (arith, r .least))))
+prime-is p r = rw (
+  le-leb 2 p (r .least),
+  none-any (p - 2) (λ i. eqb (p % (2 + i)) 0) λ i l. ne-eqb _ _ (r .alone (2 + i) (omega arith) (omega (arith, r .least))),
+)
 
 pub not-prime : (p : ℕ) → ¬ (Prime p) → isPrime p ≡ false
 not-prime p n = go (isPrime p) refl
@@ -76,7 +80,8 @@ root-prime p s h l d = prime-is p (record { least = h; alone = below-root p s l 
 pub inverse-step : {p a s : ℕ} → 0 < p → Inverse p (p % a) s → Inverse p a ((p - p / a) * s % p)
 inverse-step {p} {a} {s} z h = record {
   below = mod-lt (d * s) z;
-  one = cong-mod z (~mul-right a (mod-cong z (d * s)) ⨾ same {a = d * s * a} {b = s * (d * a)} (omega arith) ⨾ ~mul s {a = d * a} (record { k = 1; l = a; eq = rw whole down })) ∙ h .one;
+  one = cong-mod z (~mul-right a (mod-cong z (d * s)) ⨾ same {a = d * s * a} {b = s * (d * a)} (omega arith)
+      ⨾ ~mul s {a = d * a} (record { k = 1; l = a; eq = rw whole down })) ∙ h .one;
 }
   where
     d : ℕ
@@ -99,7 +104,8 @@ inverse-positive {p} {a} {s} h = elim (ℕ-discrete s 0) [
 pub inverse-minus : {p a s : ℕ} → a ≤ p → Inverse p a s → Inverse p (p - a) (p - s)
 inverse-minus {p} {a} {s} l h = record {
   below = omega (arith, h .below, inverse-positive h);
-  one = cong-mod (omega (arith, h .below)) {a = (p - s) * (p - a)} {b = s * a} (record { k = a; l = p - s; eq = rw whole turned }) ∙ h .one;
+  one = cong-mod (omega (arith, h .below)) {a = (p - s) * (p - a)} {b = s * a}
+      (record { k = a; l = p - s; eq = rw whole turned }) ∙ h .one;
 }
   where
     whole : suc (p - 1) ≡ p
@@ -117,15 +123,18 @@ module _ {q : ℕ} (prime : Prime (suc q)) where
   euclid zero a b h i l z = absurd (omega arith)
   euclid (suc f) a b h i l z = elim (ℕ-discrete a 1) [
     | yes e ↦ same (omega (arith, ap (λ t. t * b) e)) ⨾ z
-    | no e ↦ euclid f (suc q % a) b (omega (arith, mod-lt (suc q) i)) (omega (arith, prime .alone a (omega arith) l)) (omega (arith, mod-lt (suc q) i))
-        (rest {a = suc q * b} {b = suc q / a * (a * b)} (same (omega (arith, ap (λ t. t * b) (div-add-mod (suc q) a)))) (less b (omega arith)) (~mul (suc q / a) z ⨾ same (omega arith)))
+    | no e ↦ euclid f (suc q % a) b (omega (arith, mod-lt (suc q) i)) (omega (arith, prime .alone a (omega arith) l))
+        (omega (arith, mod-lt (suc q) i))
+        (rest {a = suc q * b} {b = suc q / a * (a * b)} (same (omega (arith, ap (λ t. t * b) (div-add-mod (suc q) a))))
+        (less b (omega arith)) (~mul (suc q / a) z ⨾ same (omega arith)))
   ]
 
   -- Euclid's lemma
   pub divide-out : (a b : ℕ) → ¬ (Cong q b 0) → Cong q (a * b) 0 → Cong q a 0
   divide-out a b nz z = elim (ℕ-discrete (b % suc q) 0) [
     | yes e ↦ absurd (nz (~sym (remainder b) ⨾ same e))
-    | no e ↦ euclid (suc q) (b % suc q) a (omega (arith, mod-lt b {m = suc q} (omega arith))) (omega arith) (mod-lt b (omega arith)) (same (omega arith) ⨾ ~mul a (remainder b) ⨾ z)
+    | no e ↦ euclid (suc q) (b % suc q) a (omega (arith, mod-lt b {m = suc q} (omega arith))) (omega arith)
+        (mod-lt b (omega arith)) (same (omega arith) ⨾ ~mul a (remainder b) ⨾ z)
   ]
 
   -- the difference of two unlike residues is no divisor of zero

@@ -1,4 +1,5 @@
--- The quotient of t < 65536 by the reciprocal, t * m / 65536, is t / p or 1 less, so that one subtraction is left; larger t go by two quotients. Assumes nothing.
+-- The quotient of t < 65536 by the reciprocal, t * m / 65536, is t / p or 1 less, so that one subtraction is left;
+-- larger t go by two quotients. Assumes nothing.
 use mathlib.Core.Path.{_≡_, refl, sym, ap, _∙_}
 use Prim.Native.Nat.{ℕ, _+_, _*_, _/_, _%_, _≤_, _<_}
 use native.Mathlib.Omega.{arith}
@@ -30,4 +31,5 @@ product-fits {p} {x} {y} h a b = mul-le-mul {n₁ = x} {m₁ = y} {n₂ = 251} {
 -- a number of three bytes by its high two and its low one
 pub fold-is : {p : ℕ} (t h c : ℕ) → 0 < p → h ≡ t / 256 % p → c ≡ 256 % p → (h * c + t % 256) % p ≡ t % p
 fold-is {p} t h c z e f =
-    cong-mod z (~add (~mul h (same f ⨾ mod-cong z 256) ⨾ ~mul-right 256 (same e ⨾ mod-cong z (t / 256))) (same {a = t % 256} refl) ⨾ same (omega (arith, div-add-mod t 256)))
+    cong-mod z (~add (~mul h (same f ⨾ mod-cong z 256) ⨾ ~mul-right 256 (same e ⨾ mod-cong z (t / 256))) (same {a = t % 256} refl)
+    ⨾ same (omega (arith, div-add-mod t 256)))

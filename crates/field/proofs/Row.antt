@@ -1,4 +1,5 @@
--- The laws of rows: the number at a place, rows of remainders and what they stand for, and the row that a loop has set. Assumes nothing.
+-- The laws of rows: the number at a place, rows of remainders and what they stand for, and the row that a loop has set.
+-- Assumes nothing.
 use mathlib.Core.Path.{_≡_, refl, _∙_}
 use mathlib.Core.List.{List, [], _∷_}
 use Prim.Native.Nat.{ℕ, zero, suc, _-_, _%_, _≤_, _<_}

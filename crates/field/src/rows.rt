@@ -60,7 +60,8 @@ pub fn multiply(a: [u16; 16], b: [u16; 16], p: u16, m: u16) -> [u16; 16]
 // The step of an interpolation by values: a + c b in the place of a, and b w in that of b.
 pub fn advance(a: &mut [u16; 16], c: u16, b: &mut [u16; 16], w: [u16; 16], p: u16, m: u16)
     requires { ⌜ Reciprocal p m × Row p (now a) × Row p (now b) × Row p w × (c ≤ p) ⌝ }
-    ensures { λ _. ⌜ (now (a .exit) ≡ row (λ j. (at (now (a .entry)) j + c * at (now (b .entry)) j) % p)) × (now (b .exit) ≡ row (λ j. at (now (b .entry)) j * at w j % p)) ⌝ }
+    ensures { λ _. ⌜ (now (a .exit) ≡ row (λ j. (at (now (a .entry)) j + c * at (now (b .entry)) j) % p))
+        × (now (b .exit) ≡ row (λ j. at (now (b .entry)) j * at w j % p)) ⌝ }
 {
     let mut j = 0;
     while j < 16 {

@@ -1,5 +1,5 @@
--- A record with X put in, and then Y: the coefficients of a power of Y are residues and have that power's column as their values; place r
--- of the columns has the values of row r. Assumes nothing.
+-- A record with X put in, and then Y: the coefficients of a power of Y are residues and have that power's column as their values;
+-- place r of the columns has the values of row r. Assumes nothing.
 use mathlib.Core.Path.{_≡_, refl, sym, ap, _∙_}
 use mathlib.Core.Bool.{Bool, true, false, cond}
 use mathlib.Core.List.{List, []}
@@ -23,22 +23,29 @@ use Rattle.polynomial.proofs.Eval.{eval-cong}
 use Rattle.polynomial.proofs.Record.{start-below, value-rows}
 
 -- the coefficients w of Y^t
-module _ {p : ℕ} (d t : ℕ) (F : List ℕ) {w : List ℕ} (z : 0 < p) (h : d < 16) (m : t ≤ d) (e : w ≡ row λ i. cond (leb (i + t) d) (coef F i t) 0) where
+module _ {p : ℕ} (d t : ℕ) (F : List ℕ) {w : List ℕ} (z : 0 < p) (h : d < 16) (m : t ≤ d)
+    (e : w ≡ row λ i. cond (leb (i + t) d) (coef F i t) 0) where
   pub coefficients-row : Word p (start (suc d)) F → Row p w
-  coefficients-row u = rw e (row-of z (length-tab 16 _) λ k l. rw (row-at (λ i. cond (leb (i + t) d) (coef F i t) 0) k l) (residue k (leb (k + t) d) refl))
+  coefficients-row u = rw e (row-of z (length-tab 16 _) λ k l.
+      rw (row-at (λ i. cond (leb (i + t) d) (coef F i t) 0) k l) (residue k (leb (k + t) d) refl))
     where
       residue : (k : ℕ) (b : Bool) → leb (k + t) d ≡ b → cond b (coef F k t) 0 < p
-      residue k true e = let l : k + t ≤ d = leb-true _ _ e in u .below (start (k + t) + t) (start-below (k + t) (suc d) t (omega arith) h (omega arith))
+      residue k true e =
+          let l : k + t ≤ d = leb-true _ _ e in
+          u .below (start (k + t) + t) (start-below (k + t) (suc d) t (omega arith) h (omega arith))
       residue k false e = z
 
-  pub column-values : (x : List ℕ) {l : List ℕ} → l ≡ row (λ j. eval (suc (d - t)) (at w) (at x j) % p) → l ≡ row (λ r. column d (coef F) t (at x r) % p)
-  column-values x f = f ∙ tab-eq 16 λ j k. ap (λ v. v % p) (sum-eq (suc (d - t)) λ i l. ap (λ v. v * at x j ^ i) (each i (omega arith)))
+  pub column-values : (x : List ℕ) {l : List ℕ} → l ≡ row (λ j. eval (suc (d - t)) (at w) (at x j) % p) →
+      l ≡ row (λ r. column d (coef F) t (at x r) % p)
+  column-values x f = f ∙ tab-eq 16 λ j k.
+      ap (λ v. v % p) (sum-eq (suc (d - t)) λ i l. ap (λ v. v * at x j ^ i) (each i (omega arith)))
     where
       each : (i : ℕ) → i + t ≤ d → at w i ≡ coef F i t
       each i l = let k : i < 16 = omega arith in rw (e, row-at (λ i. cond (leb (i + t) d) (coef F i t) 0) i k, le-leb _ _ l)
 
 -- the polynomial in Y whose coefficients are place r of the columns has the values of row r
-pub row-values-are : {p d r : ℕ} (columns : List (List ℕ)) (x y F : List ℕ) {v : List ℕ} → 0 < p → r < 16 → Columns p d x F columns →
+pub row-values-are : {p d r : ℕ} (columns : List (List ℕ)) (x y F : List ℕ) {v : List ℕ} → 0 < p →
+    r < 16 → Columns p d x F columns →
     v ≡ row (λ j. eval (suc d) (λ t. at (getD columns t []) r) (at y j) % p) → v ≡ row (λ j. valueXY p d F (at x r) (at y j))
 row-values-are {p} {d} {r} columns x y F z h C f = f ∙ tab-eq 16 λ j k.
     cong-mod z (eval-cong (suc d) (at y j) λ t m. result-cong _ z (C .done t m) r h) ∙ sym (value-rows p d F (at x r) (at y j))

@@ -1,5 +1,6 @@
--- The laws of polynomials by coefficients: the first coefficient taken off, the leading one, congruent coefficients; and the distance
--- of two words: two polynomials of degree at most k are the same, or their values differ in n - k places. Assumes nothing.
+-- The laws of polynomials by coefficients: the first coefficient taken off, the leading one, congruent coefficients; and the
+-- distance of two words: two polynomials of degree at most k are the same, or their values differ in n - k places. Assumes
+-- nothing.
 use mathlib.Core.Logic.{_≢_, _⊎_, inl, inr}
 use mathlib.Core.Path.{_≡_, refl, sym, ap, _∙_}
 use mathlib.Core.Bool.{Bool, true, false, cond}
@@ -40,7 +41,8 @@ eval-short i k a x h z = sum-short i k (λ l. a l * x ^ l) h λ l m. ap (λ t. t
 
 pub eval-cong : {q : ℕ} (k : ℕ) {a b : ℕ → ℕ} (x : ℕ) → ((i : ℕ) → i < k → Cong q (a i) (b i)) → Cong q (eval k a x) (eval k b x)
 eval-cong zero x h = same refl
-eval-cong (suc k) {a} {b} x h = ~add (eval-cong k x λ i l. h i (omega arith)) (same (omega arith) ⨾ ~mul (x ^ k) (h k (omega arith)) ⨾ same (omega arith))
+eval-cong (suc k) {a} {b} x h =
+    ~add (eval-cong k x λ i l. h i (omega arith)) (same (omega arith) ⨾ ~mul (x ^ k) (h k (omega arith)) ⨾ same (omega arith))
 
 -- 1 where two numbers are equal
 abbrev agree : (v w : ℕ) → ℕ
@@ -62,24 +64,34 @@ agree-eq v w = go (eqb v w) refl
 
 module _ {q n : ℕ} {x : ℕ → ℕ} (ax : Apart q n x) where
   -- as many zeros as coefficients: all coefficients are zero
-  zero-coefs : (k : ℕ) (a w : ℕ → ℕ) → ((j : ℕ) → j < n → w j ≤ 1) → ((j : ℕ) → j < n → w j ≢ 0 → Cong q (eval k a (x j)) 0) → k ≤ sum n w →
-      (i : ℕ) → i < k → Cong q (a i) 0
+  zero-coefs : (k : ℕ) (a w : ℕ → ℕ) → ((j : ℕ) → j < n → w j ≤ 1) → ((j : ℕ) → j < n → w j ≢ 0 → Cong q (eval k a (x j)) 0) →
+      k ≤ sum n w → (i : ℕ) → i < k → Cong q (a i) 0
   zero-coefs zero a w bit z s i l = absurd (omega arith)
   zero-coefs (suc k) a w bit z s i l =
       let top : Cong q (a k) 0 = roots ax n w (omega arith) (eval-lead k a) bit z s .0 in
       elim (ℕ-discrete i k) [
         | yes e ↦ rw e top
-        | no e ↦ zero-coefs k a w bit (λ j h m. rest {b = x j ^ k * a k} (same (omega arith)) (z j h m) (~mul (x j ^ k) top ⨾ same (omega arith))) (omega arith) i (omega arith)
+        | no e ↦ zero-coefs k a w bit
+            (λ j h m. rest {b = x j ^ k * a k} (same (omega arith)) (z j h m) (~mul (x j ^ k) top ⨾ same (omega arith)))
+            (omega arith) i (omega arith)
       ]
 
   -- the law of one row: two polynomials of degree at most k are the same, or their values differ in n - k places
-  pub same-or-far : (k : ℕ) (a b : ℕ → ℕ) → ((i : ℕ) → i ≤ k → Cong q (a i) (b i)) ⊎ (n - k ≤ changed n (values q (suc k) a x) (values q (suc k) b x))
+  pub same-or-far : (k : ℕ) (a b : ℕ → ℕ) →
+      ((i : ℕ) → i ≤ k → Cong q (a i) (b i)) ⊎ (n - k ≤ changed n (values q (suc k) a x) (values q (suc k) b x))
   same-or-far k a b = elim (decLe (n - k) (changed n v w)) [
     | yes l ↦ inr l
-    | no l ↦ inl λ i h. difference (a i) (b i) (zero-coefs (suc k) (λ i. a i + q * b i) (λ j. agree (v j) (w j)) (λ j _. omega (arith, agree-one (v j) (w j)))
-        (λ j _ m. same (eval-minus q (suc k) a b (x j)) ⨾ ~add (of-mod (eval (suc k) a (x j)) (eval (suc k) b (x j)) (agree-eq (v j) (w j) m)) (same {a = q * eval (suc k) b (x j)} refl)
+    | no l ↦ inl λ i h. difference (a i) (b i)
+        (zero-coefs (suc k) (λ i. a i + q * b i) (λ j. agree (v j) (w j)) (λ j _. omega (arith, agree-one (v j) (w j)))
+        (λ j _ m. same (eval-minus q (suc k) a b (x j)) ⨾ ~add
+        (of-mod (eval (suc k) a (x j)) (eval (suc k) b (x j)) (agree-eq (v j) (w j) m)) (same {a = q * eval (suc k) b (x j)} refl)
         ⨾ less (eval (suc k) b (x j)) (omega arith))
-        (omega (arith, sum-const n 1, sum-eq n {g = λ j. 1} (λ j _. agree-one (v j) (w j)), sum-add n (λ j. agree (v j) (w j)) (λ j. cond (eqb (v j) (w j)) 0 1))) i (omega arith))
+        (omega (
+          arith,
+          sum-const n 1,
+          sum-eq n {g = λ j. 1} (λ j _. agree-one (v j) (w j)),
+          sum-add n (λ j. agree (v j) (w j)) (λ j. cond (eqb (v j) (w j)) 0 1),
+        )) i (omega arith))
   ]
     where
       v : ℕ → ℕ

@@ -1,5 +1,6 @@
--- The distance on a grid, for two point lists of any sizes a and b: two polynomials of total degree d < min(a, b) are the same, or they
--- differ in max(a, b) (min(a, b) - d) cells. By rising powers of Y: a column that differs decides, else the lower terms do. Assumes nothing.
+-- The distance on a grid, for two point lists of any sizes a and b: two polynomials of total degree d < min(a, b) are the same,
+-- or they differ in max(a, b) (min(a, b) - d) cells. By rising powers of Y: a column that differs decides, else the lower terms
+-- do. Assumes nothing.
 use mathlib.Core.Logic.{_⊎_, inl, inr}
 use mathlib.Core.Path.{_≡_, refl, ap}
 use mathlib.Core.Bool.{Bool, true, false, cond}
@@ -25,7 +26,8 @@ tall M e r m i p q h = rw (p, q) (omega (arith, mul-le-mul-left i h))
 pub radius-le : (a b d i : ℕ) → i ≤ d → d < min a b → gridDistance a b d ≤ (b - d + i) * (a - i)
 radius-le a b d i h k = elim (decLe b a) [
   | yes l ↦ tall (max a b) (min a b - d) (b - d + i) (a - i) i (omega arith) (omega arith) (omega arith)
-  | no l ↦ rw (mul-comm (b - d + i) (a - i)) (tall (max a b) (min a b - d) (a - i) (b - d + i) (d - i) (omega arith) (omega arith) (omega arith))
+  | no l ↦ rw (mul-comm (b - d + i) (a - i))
+      (tall (max a b) (min a b - d) (a - i) (b - d + i) (d - i) (omega arith) (omega arith) (omega arith))
 ]
 
 -- the same, by the power t of Y that the rows lead with
@@ -60,7 +62,8 @@ differ-more {q} {e} {f} a b c = go (eqb (a % suc q) (b % suc q)) (eqb ((a + e) %
 
 module _ {q a b : ℕ} {x y : ℕ → ℕ} (ax : Apart q a x) (ay : Apart q b y) (d : ℕ) (small : d < min a b) (g h : ℕ → ℕ → ℕ) where
   -- a row whose coefficients of Y^t differ differs in b - t cells
-  row-far : (t r : ℕ) → (b - t) * differ (column d g t (x r) % suc q) (column d h t (x r) % suc q) ≤ changed b (values q (suc t) (onRow d g (x r)) y) (values q (suc t) (onRow d h (x r)) y)
+  row-far : (t r : ℕ) → (b - t) * differ (column d g t (x r) % suc q) (column d h t (x r) % suc q)
+      ≤ changed b (values q (suc t) (onRow d g (x r)) y) (values q (suc t) (onRow d h (x r)) y)
   row-far t r = elim (same-or-far ay t (onRow d g (x r)) (onRow d h (x r))) [
     | inl s ↦ rw (eq-eqb _ _ (to-mod (s t (omega arith)))) (omega arith)
     | inr l ↦ omega (arith, mul-le-mul-left (b - t) (differ-one (column d g t (x r) % suc q) (column d h t (x r) % suc q)))
@@ -68,12 +71,14 @@ module _ {q a b : ℕ} {x y : ℕ → ℕ} (ax : Apart q a x) (ay : Apart q b y)
 
   -- where the coefficients of Y^t agree, the lower terms decide
   lower-terms : (t : ℕ) → ((i : ℕ) → i ≤ d - t → Cong q (g i t) (h i t)) → apart q a b d x y t g h ≤ apart q a b d x y (suc t) g h
-  lower-terms t s = sum-le a λ r _. sum-le b λ c _. differ-more (eval t (onRow d g (x r)) (y c)) (eval t (onRow d h (x r)) (y c)) (agreed r c)
+  lower-terms t s = sum-le a λ r _. sum-le b λ c _.
+      differ-more (eval t (onRow d g (x r)) (y c)) (eval t (onRow d h (x r)) (y c)) (agreed r c)
     where
       agreed : (r c : ℕ) → Cong q (column d g t (x r) * y c ^ t) (column d h t (x r) * y c ^ t)
       agreed r c = ~mul-right (y c ^ t) (eval-cong (suc (d - t)) (x r) λ i w. s i (omega arith))
 
-  below-far : (k : ℕ) → k ≤ suc d → ((t i : ℕ) → t < k → i + t ≤ d → Cong q (g i t) (h i t)) ⊎ (gridDistance a b d ≤ apart q a b d x y k g h)
+  below-far : (k : ℕ) → k ≤ suc d →
+      ((t i : ℕ) → t < k → i + t ≤ d → Cong q (g i t) (h i t)) ⊎ (gridDistance a b d ≤ apart q a b d x y k g h)
   below-far zero l = inl λ t i m. absurd (omega arith)
   below-far (suc t) l = elim (same-or-far ax (d - t) (λ i. g i t) (λ i. h i t)) [
     | inl s ↦ elim (below-far t (omega arith)) [

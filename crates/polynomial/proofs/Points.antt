@@ -15,5 +15,7 @@ points-rise {x} P j (suc r) l i = elim (ℕ-discrete j r) [
 
 pub points-apart : {q n : ℕ} {x : ℕ → ℕ} → Prime (suc q) → Points (suc q) n x → Apart q n x
 points-apart {x} prime P = record {
-  cancel = λ j r b l i. let h = points-rise P j r l i in apart prime (x j) (x r) b (P .below j (omega arith)) (P .below r i) (λ e. omega arith);
+  cancel = λ j r b l i.
+      let h = points-rise P j r l i in
+      apart prime (x j) (x r) b (P .below j (omega arith)) (P .below r i) (λ e. omega arith);
 }

@@ -1,5 +1,5 @@
--- The laws of rows of powers: the first is all ones and each is the one before times the points; those up to a degree serve a lower one.
--- A sum of their multiples is small, and has a polynomial's values once it is reduced. Assumes nothing.
+-- The laws of rows of powers: the first is all ones and each is the one before times the points; those up to a degree serve a
+-- lower one. A sum of their multiples is small, and has a polynomial's values once it is reduced. Assumes nothing.
 use mathlib.Core.Path.{_≡_, refl, sym, ap, _∙_}
 use mathlib.Core.List.{List, []}
 use Prim.Native.Nat.{ℕ, zero, suc, _+_, _*_, _-_, _%_, _^_, _≤_, _<_}
@@ -23,7 +23,8 @@ use Rattle.polynomial.specs.Powers.{Rows, Powers}
 pub equal-rows : {p : ℕ} (v : ℕ) → v < p → Rows p (replicate 16 (replicate {A = ℕ} 16 v))
 equal-rows v h = record {
   size = refl;
-  done = λ t l. rw (getD-replicate 16 t (replicate {A = ℕ} 16 v) [] l) (row-of (omega arith) refl λ j k. rw (getD-replicate {A = ℕ} 16 j v 0 k) h);
+  done = λ t l. rw (getD-replicate 16 t (replicate {A = ℕ} 16 v) [] l)
+      (row-of (omega arith) refl λ j k. rw (getD-replicate {A = ℕ} 16 j v 0 k) h);
 }
 
 pub powers-less : (p : ℕ) (x : List ℕ) {d k : ℕ} {m : List (List ℕ)} → k ≤ d → Powers p x d m → Powers p x k m
@@ -33,9 +34,10 @@ pub powers-start : {p : ℕ} (x : List ℕ) → 1 < p → replicate 16 1 ≡ row
 powers-start {p} x h = tab-is 16 _ (replicate 16 1) refl λ j l.
     getD-replicate 16 j 1 0 l ∙ sym (ap (λ v. v % p) (pow-zero (at x j)) ∙ mod-eq-of-lt h)
 
-pub powers-step : {p : ℕ} (t : ℕ) (x : List ℕ) {v l : List ℕ} → 0 < p → v ≡ row (λ j. at x j ^ t % p) → l ≡ row (λ j. at v j * at x j % p) →
-    l ≡ row (λ j. at x j ^ (t + 1) % p)
-powers-step t x z e f = f ∙ rw (add-one t) (tab-eq 16 λ j k. cong-mod z (~mul-right (at x j) (result-cong _ z e j k) ⨾ same (sym (pow-suc (at x j) t))))
+pub powers-step : {p : ℕ} (t : ℕ) (x : List ℕ) {v l : List ℕ} → 0 < p → v ≡ row (λ j. at x j ^ t % p) →
+    l ≡ row (λ j. at v j * at x j % p) → l ≡ row (λ j. at x j ^ (t + 1) % p)
+powers-step t x z e f = f ∙ rw (add-one t)
+    (tab-eq 16 λ j k. cong-mod z (~mul-right (at x j) (result-cong _ z e j k) ⨾ same (sym (pow-suc (at x j) t))))
 
 -- the first i terms of the values at point j, by the rows m and the coefficients w, not reduced
 abbrev pub terms : (m : List (List ℕ)) (w : ℕ → ℕ) (i j : ℕ) → ℕ
@@ -47,7 +49,8 @@ terms-none m w = tab-is 16 _ (replicate 16 0) refl λ j k. getD-replicate 16 j 0
 
 pub terms-more : (m : List (List ℕ)) (w : ℕ → ℕ) (i : ℕ) {s l : List ℕ} → s ≡ row (terms m w i) →
     l ≡ row (λ j. at s j + w i * at (getD m i []) j) → l ≡ row (terms m w (i + 1))
-terms-more m w i e f = f ∙ rw e (tab-eq 16 λ j k. omega (arith, row-at (terms m w i) j k, sum-more i (λ t. w t * at (getD m t []) j)))
+terms-more m w i e f = f ∙ rw e
+    (tab-eq 16 λ j k. omega (arith, row-at (terms m w i) j k, sum-more i (λ t. w t * at (getD m t []) j)))
 
 -- each term is a product of two residues, so that the sums are small, and one term more can be added
 module _ {p : ℕ} {m : List (List ℕ)} {w : ℕ → ℕ} (h : p ≤ 251) (R : Rows p m) (W : (t : ℕ) → t < 16 → w t < p) where
@@ -58,7 +61,8 @@ module _ {p : ℕ} {m : List (List ℕ)} {w : ℕ → ℕ} (h : p ≤ 251) (R : 
       each t k = let s : t < 16 = omega arith in product-fits h (le-of-lt (W t s)) (R .done t s .small j)
 
   pub terms-row : (i : ℕ) {s : List ℕ} → i ≤ 16 → s ≡ row (terms m w i) → Row 16777216 s
-  terms-row i l e = rw e (row-of (omega arith) (length-tab 16 (terms m w i)) λ j k. rw (row-at (terms m w i) j k) (omega (arith, terms-most i j l)))
+  terms-row i l e = rw e
+      (row-of (omega arith) (length-tab 16 (terms m w i)) λ j k. rw (row-at (terms m w i) j k) (omega (arith, terms-most i j l)))
 
   pub term-fits : (i : ℕ) {s : List ℕ} → i < 16 → s ≡ row (terms m w i) → Row 16777216 s × (w i < 256) × Row 256 (getD m i [])
   term-fits i l e =
@@ -71,5 +75,7 @@ module _ {p d : ℕ} {m : List (List ℕ)} (w : ℕ → ℕ) (x : List ℕ) (z :
   terms-cong (suc i) j h k = ~add (terms-cong i j (omega arith) k) (~mul (w i) (result-cong _ z (P .done i (omega arith)) j k))
 
   -- reduced, they are the values
-  pub terms-values : {s l : List ℕ} → s ≡ row (terms m w (suc d)) → l ≡ row (λ j. at s j % p) → l ≡ row (λ j. eval (suc d) w (at x j) % p)
-  terms-values e f = f ∙ rw e (tab-eq 16 λ j k. cong-mod z (same (row-at (terms m w (suc d)) j k) ⨾ terms-cong (suc d) j (omega arith) k))
+  pub terms-values : {s l : List ℕ} → s ≡ row (terms m w (suc d)) → l ≡ row (λ j. at s j % p) →
+      l ≡ row (λ j. eval (suc d) w (at x j) % p)
+  terms-values e f = f
+      ∙ rw e (tab-eq 16 λ j k. cong-mod z (same (row-at (terms m w (suc d)) j k) ⨾ terms-cong (suc d) j (omega arith) k))

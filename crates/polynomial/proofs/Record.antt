@@ -1,5 +1,5 @@
--- The value of a record in X is that of the polynomial with its bytes as coefficients. From the flat record in X and Y, by groups of
--- one total degree, to the columns, by powers of Y: the record's value is that of its rows; the groups of the table follow one
+-- The value of a record in X is that of the polynomial with its bytes as coefficients. From the flat record in X and Y, by groups
+-- of one total degree, to the columns, by powers of Y: the record's value is that of its rows; the groups of the table follow one
 -- another; every place is in one group; congruent records are one. Assumes nothing.
 use mathlib.Core.Path.{_≡_, refl, sym, ap, _∙_}
 use mathlib.Core.List.{List}
@@ -26,9 +26,16 @@ unfolding valueX
 value-strip p d F x = ap (λ n. sum n (λ k. at F k * x ^ k) % p) (add-one d)
 
 -- a triangle summed by diagonals and by columns
-triangle : (d : ℕ) (f : ℕ → ℕ → ℕ) → sum (suc d) (λ k. sum (suc k) λ j. f (k - j) j) ≡ sum (suc d) (λ t. sum (suc (d - t)) λ i. f i t)
+triangle : (d : ℕ) (f : ℕ → ℕ → ℕ) →
+    sum (suc d) (λ k. sum (suc k) λ j. f (k - j) j) ≡ sum (suc d) (λ t. sum (suc (d - t)) λ i. f i t)
 triangle zero f = refl
-triangle (suc d) f = omega (arith, triangle d f, last, sum-eq (suc d) longer, sum-add (suc d) (λ t. sum (suc (d - t)) λ i. f i t) (λ j. f (suc d - j) j))
+triangle (suc d) f = omega (
+  arith,
+  triangle d f,
+  last,
+  sum-eq (suc d) longer,
+  sum-add (suc d) (λ t. sum (suc (d - t)) λ i. f i t) (λ j. f (suc d - j) j),
+)
   where
     longer : (t : ℕ) → t < suc d → sum (suc (suc d - t)) (λ i. f i t) ≡ sum (suc (d - t)) (λ i. f i t) + f (suc d - t) t
     longer t l = let e : suc d - t ≡ suc (d - t) = omega arith in rw e
@@ -49,10 +56,13 @@ value-rows p d R x y = ap (λ v. v % p)
     f i j = coef R i j * (x ^ i * y ^ j)
 
     group : (k : ℕ) → k < suc d → sum (k + 1) (λ j. at R (start k + j) * (x ^ (k - j) * y ^ j)) ≡ sum (suc k) (λ j. f (k - j) j)
-    group k l = ap (λ n. sum n λ j. at R (start k + j) * (x ^ (k - j) * y ^ j)) (add-one k) ∙ sum-eq (suc k) λ j m. let e : k - j + j ≡ k = omega arith in rw e
+    group k l = ap (λ n. sum n λ j. at R (start k + j) * (x ^ (k - j) * y ^ j)) (add-one k) ∙ sum-eq (suc k) λ j m.
+        let e : k - j + j ≡ k = omega arith in
+        rw e
 
     each : (t : ℕ) → t < suc d → sum (suc (d - t)) (λ i. f i t) ≡ column d (coef R) t x * y ^ t
-    each t l = sum-eq (suc (d - t)) {g = λ i. y ^ t * (coef R i t * x ^ i)} (λ i m. omega arith) ∙ sum-mul (suc (d - t)) (y ^ t) (λ i. coef R i t * x ^ i) ∙ omega arith
+    each t l = sum-eq (suc (d - t)) {g = λ i. y ^ t * (coef R i t * x ^ i)} (λ i m. omega arith)
+        ∙ sum-mul (suc (d - t)) (y ^ t) (λ i. coef R i t * x ^ i) ∙ omega arith
 
 -- the table's rule
 abbrev every : ℕ → (ℕ → Bool) → Bool

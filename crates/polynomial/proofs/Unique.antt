@@ -1,5 +1,5 @@
--- Polynomials and costs, for any full doubt F: congruent coefficients cost the same; at most one polynomial of degree at most k is under
--- F (n - k), for symbols with doubts at most F. Assumes nothing.
+-- Polynomials and costs, for any full doubt F: congruent coefficients cost the same; at most one polynomial of degree at most k
+-- is under F (n - k), for symbols with doubts at most F. Assumes nothing.
 use mathlib.Core.Logic.{inl, inr}
 use mathlib.Core.Path.{_≡_, ap}
 use Prim.Native.Nat.{ℕ, suc, _*_, _-_, _≤_, _<_}
@@ -18,7 +18,8 @@ pub cost-cong : {q : ℕ} (F n k : ℕ) (y s u : ℕ → ℕ) {w h : ℕ → ℕ
 cost-cong F n k y s u e = sum-eq n λ j _. ap (cell F (s j) (u j)) (to-mod (eval-cong (suc k) (y j) λ i l. e i (omega arith)))
 
 pub near-one : {q n : ℕ} {x : ℕ → ℕ} → Apart q n x → (F k : ℕ) (s u : ℕ → ℕ) → ((j : ℕ) → j < n → u j ≤ F) → (v w : ℕ → ℕ) →
-    cost F n s u (values q (suc k) v x) < F * (n - k) → cost F n s u (values q (suc k) w x) < F * (n - k) → (i : ℕ) → i ≤ k → Cong q (v i) (w i)
+    cost F n s u (values q (suc k) v x) < F * (n - k) → cost F n s u (values q (suc k) w x) < F * (n - k) → (i : ℕ) → i ≤ k →
+    Cong q (v i) (w i)
 near-one {q} {n} {x} ax F k s u du v w l m = elim (same-or-far ax k v w) [
   | inl e ↦ e
   | inr f ↦ absurd (omega (arith, cost-far F (n - k) n s u (values q (suc k) v x) (values q (suc k) w x) du f l))

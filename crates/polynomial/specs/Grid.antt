@@ -1,6 +1,7 @@
 -- Polynomials in two variables on a grid of a row points x and b column points y.
 --
---   gridDistance a b d max(a, b) (min(a, b) - d): the least number of cells in which two polynomials of total degree d < min(a, b) differ
+--   gridDistance a b d max(a, b) (min(a, b) - d): the least number of cells in which two polynomials of total
+--   degree d < min(a, b) differ
 --   apart q a b d x y k g h   in how many cells the terms of g and h below Y^k differ modulo suc q; all terms for k = d + 1
 --
 -- What this file is for: the distance of the codes on a product of two point sets, square or oblong.

@@ -5,10 +5,12 @@
 --   valueXY p d F x y    the same in X and Y; d bounds the total degree
 --   gridValue p d b x y F c   the value in cell c of a grid of b columns
 --   coef F i t           the coefficient of X^i Y^t in the record F
---   column d h t x       where h i t stands before X^i Y^t, i + t ≤ d: the coefficient of Y^t, of degree d - t in X, at the point x
+--   column d h t x       where h i t stands before X^i Y^t, i + t ≤ d: the coefficient of Y^t, of degree d
+--                        - t in X, at the point x
 --   onRow d h x          the polynomial in Y on the row x, by its coefficients
 --
--- What this file is for: what the writer writes; and a mark's rows are strips in Y, the coefficients of a power of Y a strip in X.
+-- What this file is for: what the writer writes; and a mark's rows are strips in Y, the coefficients of a
+-- power of Y a strip in X.
 use mathlib.Core.List.{List, [], _∷_}
 use Prim.Native.Nat.{ℕ, suc, _+_, _*_, _-_, _/_, _%_, _^_}
 use Rattle.bounded.specs.Bounded.{at, sum}

@@ -104,7 +104,8 @@ pub fn place_of_each(rows: &[[u16; 16]; 16], r: usize) -> [u16; 16]
     out
 }
 
-// The values in row r: a polynomial in Y, whose coefficients are place r of the columns, at the column points, whose powers are given.
+// The values in row r: a polynomial in Y, whose coefficients are place r of the columns, at the column
+// points, whose powers are given.
 pub fn row_values(
     columns: &[[u16; 16]; 16],
     powers: &[[u16; 16]; 16],
@@ -114,7 +115,8 @@ pub fn row_values(
     m: u16,
 ) -> [u16; 16]
     requires { ⌜ Reciprocal p m × Rows p (now columns) × Rows p (now powers) × (r < 16) × (d < 16) ⌝ }
-    ensures { λ v. ⌜ Row p v × ((x y F : List ℕ) → Columns p d x F (now (columns .entry)) → Powers p y d (now (powers .entry)) → v ≡ row (λ j. valueXY p d F (at x r) (at y j))) ⌝ }
+    ensures { λ v. ⌜ Row p v × ((x y F : List ℕ) → Columns p d x F (now (columns .entry)) → Powers p y d (now (powers .entry)) →
+        v ≡ row (λ j. valueXY p d F (at x r) (at y j))) ⌝ }
 {
     let mut sum = [0u32; 16];
     let mut t = 0;

@@ -1,5 +1,5 @@
--- Keys: they tell their places, the least one is that of the next cell, and the cells that have entered are those with a key below
--- the next one. Assumes nothing.
+-- Keys: they tell their places, the least one is that of the next cell, and the cells that have entered are those with a key
+-- below the next one. Assumes nothing.
 use mathlib.Core.Logic.{_≢_}
 use mathlib.Core.Path.{_≡_, refl, sym, ap, _∙_}
 use mathlib.Core.Bool.{Bool, true, false, cond}
@@ -37,7 +37,8 @@ key-out n u j l = rw (le-ltb j n l)
 pub keys-start : (u : ℕ → ℕ) → Upto 16 0 (λ i v. v ≡ key 0 (u i) i) (replicate 16 taken) 16
 keys-start u = record { size = refl; done = λ i l. getD-replicate {A = ℕ} 16 i taken 0 l ∙ sym (key-out 0 (u i) i (omega arith)) }
 
-pub keys-more : (u : ℕ → ℕ) (j : ℕ) {l : List ℕ} → j < 16 → Upto 16 0 (λ i v. v ≡ key j (u i) i) l 16 → Upto 16 0 (λ i v. v ≡ key (j + 1) (u i) i) (set l j (u j * 16 + j)) 16
+pub keys-more : (u : ℕ → ℕ) (j : ℕ) {l : List ℕ} → j < 16 → Upto 16 0 (λ i v. v ≡ key j (u i) i) l 16 →
+    Upto 16 0 (λ i v. v ≡ key (j + 1) (u i) i) (set l j (u j * 16 + j)) 16
 keys-more u j {l} b U = record {
   size = length-set l j (u j * 16 + j) ∙ U .size;
   done = λ i m. elim (ℕ-discrete i j) [
@@ -56,7 +57,8 @@ keys-most f {l} e h j = elim (decLt j 16) [
   | no m ↦ omega (arith, beyond l j (omega (arith, ap length e ∙ length-tab 16 f)))
 ]
 
-placed-of : (f : ℕ → ℕ) {l : List ℕ} → l ≡ row f → ((j : ℕ) → j < 16 → f j < taken → f j % 16 ≡ j) → ((j : ℕ) → j < 16 → f j ≤ taken) → Placed l
+placed-of : (f : ℕ → ℕ) {l : List ℕ} → l ≡ row f → ((j : ℕ) → j < 16 → f j < taken → f j % 16 ≡ j) →
+    ((j : ℕ) → j < 16 → f j ≤ taken) → Placed l
 placed-of f {l} e h k = record {
   size = ap length e ∙ length-tab 16 f;
   place = λ j m o. let i = ap (λ t. at t j) e ∙ row-at f j m in rw i (h j m (rw i at o));
@@ -85,7 +87,8 @@ marked-placed w {l} P e = placed-of _ e (λ j m h. go j m (eqb (w j) 0) h) λ j 
     go j m true h = absurd (omega arith)
     go j m false h = P .place j m h
 
-pub without-most : (c : ℕ) (r : List ℕ) {r′ : List ℕ} → ((j : ℕ) → at r j ≤ taken) → r′ ≡ row (λ j. cond (eqb (at r j) c) taken (at r j)) → (j : ℕ) → at r′ j ≤ taken
+pub without-most : (c : ℕ) (r : List ℕ) {r′ : List ℕ} → ((j : ℕ) → at r j ≤ taken) →
+    r′ ≡ row (λ j. cond (eqb (at r j) c) taken (at r j)) → (j : ℕ) → at r′ j ≤ taken
 without-most c r h e = keys-most _ e λ j m. cond-most (eqb (at r j) c) (at r j) (h j)
 
 -- the least of one key more
@@ -112,7 +115,8 @@ module _ {l w r : List ℕ} (E : Entering l w r) (P : Placed l) where
   -- no key that is left is above `taken`
   pub left-most : (j : ℕ) → at r j ≤ taken
   left-most j = elim (decLt j 16) [
-    | yes m ↦ elim (ℕ-discrete (at w j) 0) [ yes z ↦ omega (arith, other-in j m z, P .most j) | no z ↦ omega (arith, other-out j m z) ]
+    | yes m ↦ elim (ℕ-discrete (at w j) 0)
+        [ yes z ↦ omega (arith, other-in j m z, P .most j) | no z ↦ omega (arith, other-out j m z) ]
     | no m ↦ omega (arith, beyond r j (omega (arith, E .size)))
   ]
 
@@ -168,10 +172,13 @@ module _ {l w r : List ℕ} (E : Entering l w r) (P : Placed l) where
       without-other j m n = without-at j m ∙ ap (λ b. cond b taken (at r j)) (ne-eqb (at r j) c λ e. n (tells e))
         where
           tells : at r j ≡ c → j ≡ place
-          tells e = let o = left-cell j m (omega (arith, e)) .1 in sym (P .place j m (omega (arith, o))) ∙ ap (λ t. t % 16) (o ∙ e)
+          tells e =
+              let o = left-cell j m (omega (arith, e)) .1 in
+              sym (P .place j m (omega (arith, o))) ∙ ap (λ t. t % 16) (o ∙ e)
 
     -- the cell of the least key enters
-    pub entering-next : {r′ : List ℕ} → r′ ≡ row (λ j. cond (eqb (at r j) c) taken (at r j)) → length w ≡ 16 → c < taken → Entering l (set w (c % 16) 1) r′
+    pub entering-next : {r′ : List ℕ} → r′ ≡ row (λ j. cond (eqb (at r j) c) taken (at r j)) → length w ≡ 16 → c < taken →
+        Entering l (set w (c % 16) 1) r′
     entering-next {r′} d s h = record {
       size = ap length d ∙ length-tab 16 (λ j. cond (eqb (at r j) c) taken (at r j));
       others = λ j m. elim (ℕ-discrete j (c % 16)) [
@@ -184,7 +191,9 @@ module _ {l w r : List ℕ} (E : Entering l w r) (P : Placed l) where
       ];
       first = λ i j m o z. elim (ℕ-discrete i (c % 16)) [
         | yes e ↦ rw e (omega (arith, next-cell h .1, L .low j o, grows j o))
-        | no e ↦ let z′ : at w i ≢ 0 = λ a. z (getD-set-other w (c % 16) i 1 0 e ∙ a) in omega (arith, E .first i j m o z′, grows j o)
+        | no e ↦
+            let z′ : at w i ≢ 0 = λ a. z (getD-set-other w (c % 16) i 1 0 e ∙ a) in
+            omega (arith, E .first i j m o z′, grows j o)
       ];
     }
       where

@@ -1,4 +1,5 @@
--- The interpolation's steps keep its degrees: pairs multiplied by X - x r and pairs mixed; and so does the entry of a cell. Assumes nothing.
+-- The interpolation's steps keep its degrees: pairs multiplied by X - x r and pairs mixed; and so does the entry of a cell.
+-- Assumes nothing.
 use mathlib.Core.Path.{_≡_, refl}
 use Prim.Native.Nat.{ℕ, zero, suc, _+_, _*_, _-_, _≤_, _<_}
 use native.Mathlib.Omega.{arith}
@@ -18,14 +19,16 @@ mixed c f g j = f j + c * g j
 
 module _ {q n : ℕ} {x : ℕ → ℕ} where
   -- f + c g, where g has the lower degree
-  lead-mixed : {a e : ℕ} {f g f′ : ℕ → ℕ} (c : ℕ) → Lead q n x a e f → Lead q n x a 0 g → Agree q n f′ (mixed c f g) → Lead q n x a e f′
+  lead-mixed : {a e : ℕ} {f g f′ : ℕ → ℕ} (c : ℕ) → Lead q n x a e f → Lead q n x a 0 g → Agree q n f′ (mixed c f g) →
+      Lead q n x a e f′
   lead-mixed c F G h = lead-eq (same (omega arith)) h (mix 1 c F G λ j l. same (omega arith))
 
   zero-shifted : {f f′ : ℕ → ℕ} (r : ℕ) → Lead q n x zero 0 f → Agree q n f′ (shifted q x r f) → Lead q n x zero 0 f′
   zero-shifted r (con z) h = con {c = 0} λ j l. h j l ⨾ ~mul (x j + q * x r) (z j l) ⨾ same (omega arith)
 
   -- a degree below a - k, where that may be none
-  short-shifted : (a k r : ℕ) {f f′ : ℕ → ℕ} → Lead q n x (a - k) 0 f → Agree q n f′ (shifted q x r f) → Lead q n x (suc a - k) 0 f′
+  short-shifted : (a k r : ℕ) {f f′ : ℕ → ℕ} → Lead q n x (a - k) 0 f → Agree q n f′ (shifted q x r f) →
+      Lead q n x (suc a - k) 0 f′
   short-shifted a k r F h = elim (decLe k a) [
     | yes l ↦ let e : suc a - k ≡ suc (a - k) = omega arith in rw e (shift r F h)
     | no l ↦
@@ -46,21 +49,29 @@ module _ {q n : ℕ} (y P : ℕ → ℕ) where
 
 module _ {q n k : ℕ} {x y P : ℕ → ℕ} where
   -- the pairs (1, 0) and (0, 1)
-  pub degrees-start : {o : ℕ} → Lead q n x k o P → {D1 E1 D2 E2 : ℕ → ℕ} →
-      Agree q n D1 (λ j. 1) → Agree q n E1 (λ j. 0) → Agree q n D2 (λ j. q * y j) → Agree q n E2 (λ j. 1) → Degrees q n k x y P 0 0 D1 E1 D2 E2
+  pub degrees-start : {o : ℕ} → Lead q n x k o P → {D1 E1 D2 E2 : ℕ → ℕ} → Agree q n D1 (λ j. 1) → Agree q n E1 (λ j. 0) →
+      Agree q n D2 (λ j. q * y j) → Agree q n E2 (λ j. 1) → Degrees q n k x y P 0 0 D1 E1 D2 E2
   degrees-start L h1 i1 h2 i2 = record {
     s1 = con {c = 1} λ j l. ~add (h1 j l) (~mul (y j + q * P j) (i1 j l)) ⨾ same (omega arith);
     e1 = let e : 0 - k ≡ zero = omega arith in rw e (con i1);
     s2 = let e : 0 + k ≡ k = omega arith in
-        rw e (lead-eq (same (omega arith)) (λ j l. ~add (h2 j l) (~mul (y j + q * P j) (i2 j l)) ⨾ less (y j) (omega arith)) (mix {f′ = λ j. q * P j + 0 * P j} q 0 (wider L) (wider L) λ j l. same refl));
+        rw e (lead-eq (same (omega arith)) (λ j l. ~add (h2 j l) (~mul (y j + q * P j) (i2 j l)) ⨾ less (y j) (omega arith))
+        (mix {f′ = λ j. q * P j + 0 * P j} q 0 (wider L) (wider L) λ j l. same refl));
     e2 = con i2;
   }
 
   module _ {a b : ℕ} {D1 E1 D2 E2 : ℕ → ℕ} (v : Degrees q n k x y P a b D1 E1 D2 E2) {D E : ℕ → ℕ} where
-    pub grow1 : (r : ℕ) → Agree q n D (shifted q x r D1) → Agree q n E (shifted q x r E1) → Degrees q n k x y P (suc a) b D E D2 E2
-    grow1 r h i = record { s1 = shift r v.s1 (residual-shifted x y P r D1 E1 h i); e1 = short-shifted a k r v.e1 i; s2 = v.s2; e2 = v.e2 }
+    pub grow1 : (r : ℕ) → Agree q n D (shifted q x r D1) → Agree q n E (shifted q x r E1) →
+        Degrees q n k x y P (suc a) b D E D2 E2
+    grow1 r h i = record {
+      s1 = shift r v.s1 (residual-shifted x y P r D1 E1 h i);
+      e1 = short-shifted a k r v.e1 i;
+      s2 = v.s2;
+      e2 = v.e2;
+    }
 
-    pub grow2 : (r : ℕ) → Agree q n D (shifted q x r D2) → Agree q n E (shifted q x r E2) → Degrees q n k x y P a (suc b) D1 E1 D E
+    pub grow2 : (r : ℕ) → Agree q n D (shifted q x r D2) → Agree q n E (shifted q x r E2) →
+        Degrees q n k x y P a (suc b) D1 E1 D E
     grow2 r h i =
         let t : suc b + k ≡ suc (b + k) = omega arith in
         record { s1 = v.s1; e1 = v.e1; s2 = rw t (shift r v.s2 (residual-shifted x y P r D2 E2 h i)); e2 = shift r v.e2 i }

@@ -1,4 +1,5 @@
--- A cell enters: both pairs are 0 there and stay so at the cells before, one degree more is counted, and the degrees hold. Assumes nothing.
+-- A cell enters: both pairs are 0 there and stay so at the cells before, one degree more is counted, and the degrees hold.
+-- Assumes nothing.
 use mathlib.Core.Logic.{_≢_}
 use mathlib.Core.Path.{_≡_, _∙_}
 use Prim.Native.Nat.{ℕ, suc, _+_, _*_, _-_, _≤_, _<_}
@@ -12,13 +13,15 @@ use Rattle.welch_berlekamp.specs.Interpolation.{Interpolates, Entered}
 use Rattle.welch_berlekamp.proofs.Degrees.{shifted, mixed, grow1, grow2, mix1, mix2}
 
 -- what a row is at one cell, after a step
-shifted-zero : {q n : ℕ} {f′ : ℕ → ℕ} (f x : ℕ → ℕ) (r j : ℕ) → j < n → Agree q n f′ (shifted q x r f) → Cong q (f j) 0 → Cong q (f′ j) 0
+shifted-zero : {q n : ℕ} {f′ : ℕ → ℕ} (f x : ℕ → ℕ) (r j : ℕ) → j < n → Agree q n f′ (shifted q x r f) → Cong q (f j) 0 →
+    Cong q (f′ j) 0
 shifted-zero {q} f x r j l h z = h j l ⨾ ~mul (x j + q * x r) z ⨾ same (omega arith)
 
 shifted-here : {q n : ℕ} {f′ : ℕ → ℕ} (f x : ℕ → ℕ) (r : ℕ) → r < n → Agree q n f′ (shifted q x r f) → Cong q (f′ r) 0
 shifted-here f x r l h = h r l ⨾ less (x r * f r) (omega arith)
 
-mixed-zero : {q n : ℕ} {f′ : ℕ → ℕ} (c : ℕ) (f g : ℕ → ℕ) (j : ℕ) → j < n → Agree q n f′ (mixed c f g) → Cong q (f j) 0 → Cong q (g j) 0 → Cong q (f′ j) 0
+mixed-zero : {q n : ℕ} {f′ : ℕ → ℕ} (c : ℕ) (f g : ℕ → ℕ) (j : ℕ) → j < n → Agree q n f′ (mixed c f g) → Cong q (f j) 0 →
+    Cong q (g j) 0 → Cong q (f′ j) 0
 mixed-zero c f g j l h y z = h j l ⨾ ~add y (~mul c z) ⨾ same (omega arith)
 
 module _ {r : ℕ} {w w′ : ℕ → ℕ} (m : Entered r w w′) where
@@ -29,15 +32,18 @@ module _ {r : ℕ} {w w′ : ℕ → ℕ} (m : Entered r w w′) where
   entered-count n l = omega (arith, sum-put n r {f = w} {g = w′} l (m .others), m .before, m .after)
 
   -- what is 0 at r, and wherever it was 0
-  entered-zero : {q n : ℕ} {D : ℕ → ℕ} → Cong q (D r) 0 → ((j : ℕ) → j < n → w j ≢ 0 → Cong q (D j) 0) → (j : ℕ) → j < n → w′ j ≢ 0 → Cong q (D j) 0
+  entered-zero : {q n : ℕ} {D : ℕ → ℕ} → Cong q (D r) 0 → ((j : ℕ) → j < n → w j ≢ 0 → Cong q (D j) 0) → (j : ℕ) → j < n →
+      w′ j ≢ 0 → Cong q (D j) 0
   entered-zero here old j l h = elim (ℕ-discrete j r) [ yes e ↦ rw e here | no e ↦ old j l λ z. h (m .others j e ∙ z) ]
 
-module _ {q n k r a b : ℕ} {x y w w′ D1 E1 D2 E2 : ℕ → ℕ} (v : Interpolates q n k x y w a b D1 E1 D2 E2) (m : Entered r w w′) (l : r < n) where
+module _ {q n k r a b : ℕ} {x y w w′ D1 E1 D2 E2 : ℕ → ℕ} (v : Interpolates q n k x y w a b D1 E1 D2 E2) (m : Entered r w w′)
+    (l : r < n) where
   more : a + b + 1 ≡ sum n w′
   more = omega (arith, v .count, entered-count m n l)
 
   -- the pair that is used is 0 at r: the other one is multiplied by X - x r
-  pub kept1 : {D E : ℕ → ℕ} → Cong q (D1 r) 0 → Agree q n D (shifted q x r D2) → Agree q n E (shifted q x r E2) → Interpolates q n k x y w′ a (suc b) D1 E1 D E
+  pub kept1 : {D E : ℕ → ℕ} → Cong q (D1 r) 0 → Agree q n D (shifted q x r D2) → Agree q n E (shifted q x r E2) →
+      Interpolates q n k x y w′ a (suc b) D1 E1 D E
   kept1 z h i = record {
     degrees = λ P L. grow2 (v .degrees P L) r h i;
     bit = entered-bit m (v .bit);
@@ -46,7 +52,8 @@ module _ {q n k r a b : ℕ} {x y w w′ D1 E1 D2 E2 : ℕ → ℕ} (v : Interpo
     zero2 = entered-zero m (shifted-here D2 x r l h) λ j o c. shifted-zero D2 x r j o h (v .zero2 j o c);
   }
 
-  pub kept2 : {D E : ℕ → ℕ} → Cong q (D2 r) 0 → Agree q n D (shifted q x r D1) → Agree q n E (shifted q x r E1) → Interpolates q n k x y w′ (suc a) b D E D2 E2
+  pub kept2 : {D E : ℕ → ℕ} → Cong q (D2 r) 0 → Agree q n D (shifted q x r D1) → Agree q n E (shifted q x r E1) →
+      Interpolates q n k x y w′ (suc a) b D E D2 E2
   kept2 z h i = record {
     degrees = λ P L. grow1 (v .degrees P L) r h i;
     bit = entered-bit m (v .bit);

@@ -1,5 +1,5 @@
--- The decoder's state by rows of remainders: a quotient frees a value, the differences to a point multiply, and each of the four steps
--- of the interpolation lets a cell enter. Assumes nothing.
+-- The decoder's state by rows of remainders: a quotient frees a value, the differences to a point multiply, and each of the four
+-- steps of the interpolation lets a cell enter. Assumes nothing.
 use mathlib.Core.Path.{_≡_, refl, ap, _∙_}
 use mathlib.Core.List.{List}
 use Prim.Native.Nat.{ℕ, suc, _+_, _*_, _-_, _%_, _≤_, _<_}
@@ -26,7 +26,8 @@ minus m a b e = record { k = a; l = 1; eq = omega arith }
 pub ratio-is : {p b i : ℕ} (m a r : ℕ) → m + a ≡ p → 0 < p → Inverse p b i → (r ≡ m * i % p) → r < p → Ratio p a b r
 ratio-is {p} {b} {i} m a r e z h s l = record {
   below = l;
-  zero = ~add (same {a = a} refl) (same (ap (λ t. t * b) s) ⨾ ~mul-right b (mod-cong z (m * i)) ⨾ same {b = m * (i * b)} (omega arith)
+  zero = ~add (same {a = a} refl)
+      (same (ap (λ t. t * b) s) ⨾ ~mul-right b (mod-cong z (m * i)) ⨾ same {b = m * (i * b)} (omega arith)
       ⨾ ~mul m (~sym (mod-cong z (i * b)) ⨾ same (h .one)))
       ⨾ less 1 (omega arith);
 }
@@ -46,8 +47,8 @@ module _ {p n : ℕ} (z : 0 < p) (b : n ≤ 16) where
   plus c f g e = reduced (mixed c (at f) (at g)) e
 
   -- w are the differences to the point r
-  pub times : (r : ℕ) (x : List ℕ) {w : List ℕ} → at x r ≤ p → w ≡ row (λ j. (at x j + (p - at x r)) % p) → (f : List ℕ) {g : List ℕ} → Times p w f g →
-      Agree (p - 1) n (at g) (shifted (p - 1) (at x) r (at f))
+  pub times : (r : ℕ) (x : List ℕ) {w : List ℕ} → at x r ≤ p → w ≡ row (λ j. (at x j + (p - at x r)) % p) →
+      (f : List ℕ) {g : List ℕ} → Times p w f g → Agree (p - 1) n (at g) (shifted (p - 1) (at x) r (at f))
   times r x {w} i d f e j l =
       reduced (λ j. at f j * at w j) e j l
       ⨾ ~mul (at f j) (reduced (λ j. at x j + (p - at x r)) d j l ⨾ minus (p - at x r) (at x r) (at x j) (omega arith))
@@ -63,7 +64,8 @@ pub ones-row : {p : ℕ} → 1 < p → Row p (replicate 16 1)
 ones-row l = row-of (omega arith) refl λ j k. rw (ones-at j k) l
 
 -- the marks after an entry
-pub entered-of : (w : List ℕ) {w′ : List ℕ} (r : ℕ) → w′ ≡ set w r 1 → length w ≡ 16 → r < 16 → at w r ≡ 0 → Entered r (at w) (at w′)
+pub entered-of : (w : List ℕ) {w′ : List ℕ} (r : ℕ) → w′ ≡ set w r 1 → length w ≡ 16 → r < 16 → at w r ≡ 0 →
+    Entered r (at w) (at w′)
 entered-of w r e s l m = record {
   before = m;
   after = ap (λ w. at w r) e ∙ getD-set-same w r 1 0 (omega arith);
@@ -72,8 +74,8 @@ entered-of w r e s l m = record {
 
 -- what is to be shown of the state after an entry
 enters-of : {p k r : ℕ} {x : List ℕ} {t t′ : Pairs} → length (t .entered) ≡ 16 → t′ .entered ≡ set (t .entered) r 1 →
-    Row p (t′ .d1) → Row p (t′ .e1) → Row p (t′ .d2) → Row p (t′ .e2) →
-    ((n : ℕ) (y : List ℕ) → n ≤ 16 → r < n → Entered r (at (t .entered)) (at (t′ .entered)) → State p n k x y t → State p n k x y t′) → Enters p k x r t t′
+    Row p (t′ .d1) → Row p (t′ .e1) → Row p (t′ .d2) → Row p (t′ .e2) → ((n : ℕ) (y : List ℕ) → n ≤ 16 → r < n →
+    Entered r (at (t .entered)) (at (t′ .entered)) → State p n k x y t → State p n k x y t′) → Enters p k x r t t′
 enters-of {r} {t} h e d1 e1 d2 e2 v = record {
   marks = e;
   holds = λ n y b l m H. record {
@@ -84,7 +86,8 @@ enters-of {r} {t} h e d1 e1 d2 e2 v = record {
 }
 
 -- the four returns of `enter`
-module _ {p k r : ℕ} {x w : List ℕ} {t : Pairs} (z : 0 < p) (i : at x r ≤ p) (d : w ≡ row (λ j. (at x j + (p - at x r)) % p)) (h : Shaped p t) {D E : List ℕ} where
+module _ {p k r : ℕ} {x w : List ℕ} {t : Pairs} (z : 0 < p) (i : at x r ≤ p) (d : w ≡ row (λ j. (at x j + (p - at x r)) % p))
+    (h : Shaped p t) {D E : List ℕ} where
   -- the first pair is used
   pub first-kept : at (t .d1) r ≡ 0 → Times p w (t .d2) D → Times p w (t .e2) E →
       Enters p k x r t (pairs (t .d1) (t .e1) D E (t .a) (t .b + 1) (set (t .entered) r 1))
@@ -94,7 +97,8 @@ module _ {p k r : ℕ} {x w : List ℕ} {t : Pairs} (z : 0 < p) (i : at x r ≤ 
   pub first-grew : {F G : List ℕ} (c : ℕ) → t .a ≤ t .b + k → Ratio p (at (t .d2) r) (at (t .d1) r) c →
       Plus p c (t .d2) (t .d1) F → Plus p c (t .e2) (t .e1) G → Times p w (t .d1) D → Times p w (t .e1) E →
       Enters p k x r t (pairs D E F G (t .a + 1) (t .b) (set (t .entered) r 1))
-  first-grew c low R F G f g = enters-of (h .size) refl (result-row _ z f) (result-row _ z g) (result-row _ z F) (result-row _ z G) λ n y b l m v.
+  first-grew c low R F G f g = enters-of (h .size) refl (result-row _ z f) (result-row _ z g) (result-row _ z F)
+      (result-row _ z G) λ n y b l m v.
       rw (add-one (t .a)) (freed1 v m l c low (R .zero) (times z b r x i d (t .d1) f) (times z b r x i d (t .e1) g)
       (plus z b c (t .d2) (t .d1) F) (plus z b c (t .e2) (t .e1) G))
 
@@ -107,6 +111,7 @@ module _ {p k r : ℕ} {x w : List ℕ} {t : Pairs} (z : 0 < p) (i : at x r ≤ 
   pub second-grew : {F G : List ℕ} (c : ℕ) → t .b + k < t .a → Ratio p (at (t .d1) r) (at (t .d2) r) c →
       Plus p c (t .d1) (t .d2) F → Plus p c (t .e1) (t .e2) G → Times p w (t .d2) D → Times p w (t .e2) E →
       Enters p k x r t (pairs F G D E (t .a) (t .b + 1) (set (t .entered) r 1))
-  second-grew c high R F G f g = enters-of (h .size) refl (result-row _ z F) (result-row _ z G) (result-row _ z f) (result-row _ z g) λ n y b l m v.
+  second-grew c high R F G f g =
+      enters-of (h .size) refl (result-row _ z F) (result-row _ z G) (result-row _ z f) (result-row _ z g) λ n y b l m v.
       rw (add-one (t .b)) (freed2 v m l c high (R .zero) (times z b r x i d (t .d2) f) (times z b r x i d (t .e2) g)
       (plus z b c (t .d1) (t .d2) F) (plus z b c (t .e1) (t .e2) G))

@@ -1,5 +1,5 @@
--- Incremental rational interpolation (Welch and Berlekamp, in Koetter's form), by values at the points x 0 .. x (n - 1), modulo suc q.
--- A pair of rows D, E stands for two polynomials Q, E: D j is Q - y E at point j, where y j is the symbol.
+-- Incremental rational interpolation (Welch and Berlekamp, in Koetter's form), by values at the points x 0 .. x (n - 1), modulo
+-- suc q. A pair of rows D, E stands for two polynomials Q, E: D j is Q - y E at point j, where y j is the symbol.
 --
 --   residual q y P D E j       Q - P E at point j, for a polynomial P that the decoder does not know
 --   Degrees q n k x y P a b D1 E1 D2 E2

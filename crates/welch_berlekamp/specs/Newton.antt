@@ -1,4 +1,5 @@
--- Newton's form of a polynomial, modulo p = suc q: a sum of multiples c 0, c 1, .. of the products of X - z over the nodes before.
+-- Newton's form of a polynomial, modulo p = suc q: a sum of multiples c 0, c 1, .. of the products of X -
+-- z over the nodes before.
 --
 --   base q z i X           the product of X - z over the first i nodes z, at X
 --   form q c z i X         the sum of c l times the product of l nodes, for l below i, at X
@@ -62,7 +63,8 @@ pub record Fits (p n k : ℕ) (x y l : List ℕ) (i : ℕ) (f : Newton) : Type 0
   pub left : (j : ℕ) → j < n → at (f .entered) j ≡ 0 → ¬ (Cong (p - 1) (at (f .product) j) 0)
   pub whole : Whole p f
   pub based : (j : ℕ) → j < 16 → Cong (p - 1) (at (f .product) j) (base (p - 1) (at (f .nodes)) i (at x j))
-  pub formed : (j : ℕ) → j < 16 → Cong (p - 1) (at (f .rest) j + at y j) (form (p - 1) (at (f .slopes)) (at (f .nodes)) i (at x j))
+  pub formed : (j : ℕ) → j < 16 →
+      Cong (p - 1) (at (f .rest) j + at y j) (form (p - 1) (at (f .slopes)) (at (f .nodes)) i (at x j))
 
 pub record Coefficients (p k : ℕ) (c z a : List ℕ) : Type 0 where
   pub row : Row p a

@@ -1,7 +1,7 @@
 -- The two pairs of rows that the decoder keeps, and what its functions do to them, modulo p.
 --
---   Pairs               the first pair d1, e1 of degree a, the second d2, e2 of degree b; a + b cells have entered, and `entered` is 1
---                       at these, else 0
+--   Pairs               the first pair d1, e1 of degree a, the second d2, e2 of degree b; a + b cells have entered, and `entered`
+--                       is 1 at these, else 0
 --   pairs d1 .. entered two pairs by their parts
 --   Ratio p a b r       r is - a / b: a + r b is 0
 --   Shaped p t          the rows and marks of the two pairs have their sizes and ranges
@@ -43,7 +43,8 @@ pub record Shaped (p : ℕ) (t : Pairs) : Type 0 where
   pub size : length (t .entered) ≡ 16
 
 abbrev pub State : (p n k : ℕ) (x y : List ℕ) (t : Pairs) → Type 0
-State p n k x y t = Interpolates (p - 1) n k (at x) (at y) (at (t .entered)) (t .a) (t .b) (at (t .d1)) (at (t .e1)) (at (t .d2)) (at (t .e2))
+State p n k x y t = Interpolates (p - 1) n k (at x) (at y) (at (t .entered)) (t .a) (t .b) (at (t .d1)) (at (t .e1)) (at (t .d2))
+    (at (t .e2))
 
 pub record Holds (p n k : ℕ) (x y : List ℕ) (t : Pairs) : Type 0 where
   pub shaped : Shaped p t

@@ -1,5 +1,5 @@
-// The polynomial through k + 1 cells, by Newton's form: a sum of multiples, the slopes, of the products of X - z over the points z of
-// the cells taken before, the nodes. It is kept by its values less the symbols: where these are 0 the symbol is right.
+// The polynomial through k + 1 cells, by Newton's form: a sum of multiples, the slopes, of the products of X - z over the points
+// z of the cells taken before, the nodes. It is kept by its values less the symbols: where these are 0 the symbol is right.
 use crate::interpolation::ratio;
 use crate::order;
 use field::rows;
@@ -8,8 +8,8 @@ ghost use Rattle.field.specs.Prime.{Inverses};
 ghost use Rattle.field.specs.Row.{Row, Reciprocal};
 ghost use Rattle.welch_berlekamp.specs.Newton.{Enough, Cells, Fits, Coefficients};
 
-// The rest is the polynomial less the symbols, the product that of X - z over all cells taken; `entered` is 1 at these, else 0, and
-// the keys are those of the other cells.
+// The rest is the polynomial less the symbols, the product that of X - z over all cells taken; `entered` is 1 at these, else 0,
+// and the keys are those of the other cells.
 pub struct Newton {
     pub rest: [u16; 16],
     pub product: [u16; 16],
@@ -19,8 +19,8 @@ pub struct Newton {
     pub keys: [u32; 16],
 }
 
-// The polynomial of degree at most k through the k + 1 cells of the least keys. Which cell is next depends on no number of this one, and is
-// worked out first: so the processor does both at a time.
+// The polynomial of degree at most k through the k + 1 cells of the least keys. Which cell is next depends on no number of this
+// one, and is worked out first: so the processor does both at a time.
 pub fn through(
     keys: [u32; 16],
     x: [u16; 16],
@@ -64,8 +64,8 @@ pub fn through(
     }
 }
 
-// The coefficients, by Horner's rule: the last slope times X less the last node, plus the slope before, and so on. The powers move up in
-// place, a number at a time: a row that is shifted would have to be stored before it can be loaded.
+// The coefficients, by Horner's rule: the last slope times X less the last node, plus the slope before, and so on. The powers
+// move up in place, a number at a time: a row that is shifted would have to be stored before it can be loaded.
 pub fn coefficients(slopes: [u16; 16], nodes: [u16; 16], k: usize, p: u16, m: u16) -> [u16; 16]
     requires { ⌜ Reciprocal p m × Row p slopes × Row p nodes × (k < 16) ⌝ }
     ensures { λ a. ⌜ Coefficients p k slopes nodes a ⌝ }

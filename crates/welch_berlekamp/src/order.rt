@@ -1,4 +1,5 @@
-// The order in which cells enter: by doubt, and by place among cells of one doubt. A cell's key is 16 times its doubt and its place.
+// The order in which cells enter: by doubt, and by place among cells of one doubt.
+// A cell's key is 16 times its doubt and its place.
 ghost use mathlib.Core.Path.{_≡_};
 ghost use mathlib.Core.Bool.{cond};
 ghost use Prim.Native.Nat.{ℕ, _≤_, min};
@@ -83,8 +84,8 @@ fn other(v: u32, key: u32) -> u32
     v
 }
 
-// The keys without the one of a cell that enters. By comparing: a number put in its place would have to be stored before the row can be
-// loaded for the next least key.
+// The keys without the one of a cell that enters. By comparing: a number put in its place would have to be stored before the row
+// can be loaded for the next least key.
 pub fn without(keys: [u32; 16], key: u32) -> [u32; 16]
     ensures { λ r. ⌜ r ≡ row (λ j. cond (eqb (at keys j) key) taken (at keys j)) ⌝ }
 {

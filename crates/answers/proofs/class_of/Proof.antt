@@ -13,11 +13,13 @@ returns-2 c = let h : 1 ≤ c .before .before .args .changed = omega arith in si
 
 returns-3 : tie.Need-returns-3
 returns-3 c =
-    let h : 1 ≤ c .before .before .before .args .changed = omega arith in simp (le-ltb _ _ h, le-ltb _ _ (c .before .if1 .left), lt-ltb _ _ (c .if2 .taken))
+    let h : 1 ≤ c .before .before .before .args .changed = omega arith in
+    simp (le-ltb _ _ h, le-ltb _ _ (c .before .if1 .left), lt-ltb _ _ (c .if2 .taken))
 
 returns-4 : tie.Need-returns-4
 returns-4 c =
-    let h : 1 ≤ c .before .before .before .args .changed = omega arith in simp (le-ltb _ _ h, le-ltb _ _ (c .before .if1 .left), le-ltb _ _ (c .if2 .left))
+    let h : 1 ≤ c .before .before .before .args .changed = omega arith in
+    simp (le-ltb _ _ h, le-ltb _ _ (c .before .if1 .left), le-ltb _ _ (c .if2 .left))
 
 pub class-of-spec : {M : Type 1} → statement M
 class-of-spec = tie.close (tie.spec returns returns-2 returns-3 returns-4)

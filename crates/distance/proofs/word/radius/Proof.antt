@@ -14,10 +14,14 @@ radius-most : (f r k : ℕ) → f < 65536 → r ≤ 16 → k ≤ 16 → f * r * 
 radius-most f r k h i l = mul-le-mul {n₁ = f * r} {m₁ = k} {n₂ = 1048576} {m₂ = 16} (row-most f r h i) l
 
 mul-result-2 : tie.Need-mul-result-2
-mul-result-2 c = omega (arith, radius-most (c .args .full) (c .args .rows) (c .args .n - c .args .d) (c .pre .0) (c .pre .1) (omega arith))
+mul-result-2 c =
+    omega (arith, radius-most (c .args .full) (c .args .rows) (c .args .n - c .args .d) (c .pre .0) (c .pre .1) (omega arith))
 
 returns : tie.Need-returns
-returns c = (refl, omega (arith, radius-most (c .args .full) (c .args .rows) (c .args .n - c .args .d) (c .pre .0) (c .pre .1) (omega arith)))
+returns c = (
+  refl,
+  omega (arith, radius-most (c .args .full) (c .args .rows) (c .args .n - c .args .d) (c .pre .0) (c .pre .1) (omega arith)),
+)
 
 pub radius-spec : {M : Type 1} → statement M
 radius-spec =

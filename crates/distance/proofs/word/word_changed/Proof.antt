@@ -27,7 +27,9 @@ loop-again c =
     (omega arith, omega (arith, e, l .inv .1, c .cell-changed .ensures .0), omega (arith, c .cell-changed .ensures .1))
 
 returns : tie.Need-returns Inv-loop μ-loop
-returns c = let e : c .before .loop .i ≡ c .before .before .args .n = omega arith in (rw e at (c .before .loop .inv .1), omega arith)
+returns c =
+    let e : c .before .loop .i ≡ c .before .before .args .n = omega arith in
+    (rw e at (c .before .loop .inv .1), omega arith)
 
 pub word-changed-spec : {M : Type 1} → statement M
 word-changed-spec =

@@ -1,5 +1,5 @@
--- `field::inverse::inverses` meets its contract: the entries below a, and those less than a before p, are inverses; entry a is worked out
--- from one of them, and gives its mirror. Assumes nothing.
+-- `field::inverse::inverses` meets its contract: the entries below a, and those less than a before p, are inverses; entry a is
+-- worked out from one of them, and gives its mirror. Assumes nothing.
 use mathlib.Core.Logic.{_≢_}
 use mathlib.Core.Path.{_≡_, _∙_}
 use mathlib.Core.List.{List}
@@ -85,7 +85,9 @@ returns c =
     rw e (c .before .table .ensures)
 
 loop-holds : tie.Need-loop-holds Inv-loop μ-loop
-loop-holds c = let b = c .before .before .pre in (omega arith, b .0 .least, made-start (b .0 .least) (b .1) (c .before .table .ensures))
+loop-holds c =
+    let b = c .before .before .pre in
+    (omega arith, b .0 .least, made-start (b .0 .least) (b .1) (c .before .table .ensures))
 
 mul-reduce-2 : tie.Need-mul-reduce-2 Inv-loop μ-loop
 mul-reduce-2 c =

@@ -28,10 +28,18 @@ mul-reduce-3 c =
 add-reduce : tie.Need-add-reduce Inv-loop μ-loop
 add-reduce c =
     let b = c .before .before .pre in
-    omega (arith, product-fits (b .0 .most) (b .3) (b .2 .small (c .before .loop .j)), b .1 .small (c .before .loop .j), b .0 .most)
+    omega (
+      arith,
+      product-fits (b .0 .most) (b .3) (b .2 .small (c .before .loop .j)),
+      b .1 .small (c .before .loop .j),
+      b .0 .most,
+    )
 
 loop-again : tie.Need-loop-again Inv-loop μ-loop
-loop-again c = (omega arith, upto-step (c .reduce .result) (omega arith) (c .reduce .ensures .0) (c .before .before .loop .inv .1))
+loop-again c = (
+  omega arith,
+  upto-step (c .reduce .result) (omega arith) (c .reduce .ensures .0) (c .before .before .loop .inv .1),
+)
 
 returns : tie.Need-returns Inv-loop μ-loop
 returns c = upto-row (upto-less (omega arith) (c .before .loop .inv .1))

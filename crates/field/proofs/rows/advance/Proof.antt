@@ -1,4 +1,5 @@
--- `field::rows::advance` meets its contract: the places below j hold a + c b and b w, the others are as they were. Assumes nothing.
+-- `field::rows::advance` meets its contract: the places below j hold a + c b and b w, the others are as they were.
+-- Assumes nothing.
 use mathlib.Core.Path.{_≡_}
 use Prim.Native.Nat.{_+_, _*_, _%_, _-_, _≤_, _<_}
 use native.Mathlib.Omega.{arith}
@@ -22,10 +23,14 @@ abbrev μ-loop : tie.MeasureT-loop
 μ-loop a₀ c b₀ p m w j₀ a b j = 16 - j
 
 below-a : (c : tie.In-loop Inv-loop μ-loop) → at (c .before .loop .a) (c .before .loop .j) < c .before .before .args .p
-below-a c = let l = c .before .loop in rw (l .inv .1 .todo (l .j) (omega arith) (omega arith)) (c .before .before .pre .1 .small (l .j))
+below-a c =
+    let l = c .before .loop in
+    rw (l .inv .1 .todo (l .j) (omega arith) (omega arith)) (c .before .before .pre .1 .small (l .j))
 
 below-b : (c : tie.In-loop Inv-loop μ-loop) → at (c .before .loop .b) (c .before .loop .j) < c .before .before .args .p
-below-b c = let l = c .before .loop in rw (l .inv .2 .todo (l .j) (omega arith) (omega arith)) (c .before .before .pre .2 .small (l .j))
+below-b c =
+    let l = c .before .loop in
+    rw (l .inv .2 .todo (l .j) (omega arith) (omega arith)) (c .before .before .pre .2 .small (l .j))
 
 loop-holds : tie.Need-loop-holds Inv-loop μ-loop
 loop-holds c = (omega arith, passed-start (c .pre .1 .size), passed-start (c .pre .2 .size))
@@ -43,14 +48,21 @@ add-reduce c =
 mul-reduce-4 : tie.Need-mul-reduce-4 Inv-loop μ-loop
 mul-reduce-4 c =
     let b = c .before .before .before .before .before .pre in
-    omega (arith, product-fits (b .0 .most) (le-of-lt (below-b (c .before .before .before))) (b .3 .small (c .before .before .before .before .loop .j)))
+    omega (
+      arith,
+      product-fits (b .0 .most) (le-of-lt (below-b (c .before .before .before)))
+          (b .3 .small (c .before .before .before .before .loop .j)),
+    )
 
 loop-again : tie.Need-loop-again Inv-loop μ-loop
 loop-again c =
     let l = c .before .before .before .before .before .loop in
     let e = l .inv .2 .todo (l .j) (omega arith) (omega arith) in
-    let d = l .inv .1 .todo (l .j) (omega arith) (omega arith) in
-    (omega arith, passed-step _ (omega arith) (rw (d, e) at (c .before .reduce .ensures .0)) (l .inv .1), passed-step _ (omega arith) (rw e at (c .reduce2 .ensures .0)) (l .inv .2))
+    let d = l .inv .1 .todo (l .j) (omega arith) (omega arith) in (
+      omega arith,
+      passed-step _ (omega arith) (rw (d, e) at (c .before .reduce .ensures .0)) (l .inv .1),
+      passed-step _ (omega arith) (rw e at (c .reduce2 .ensures .0)) (l .inv .2),
+    )
 
 returns : tie.Need-returns Inv-loop μ-loop
 returns c =

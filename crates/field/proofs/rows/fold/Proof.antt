@@ -23,7 +23,8 @@ add-reduce c =
 returns : tie.Need-returns
 returns c =
     let b = c .before .before in
-    c .reduce2 .ensures .0 ∙ fold-is (b .args .t) (c .before .reduce .result) (b .args .c) (omega (arith, b .pre .0 .least)) (c .before .reduce .ensures .0) (b .pre .2)
+    c .reduce2 .ensures .0 ∙ fold-is (b .args .t) (c .before .reduce .result) (b .args .c) (omega (arith, b .pre .0 .least))
+    (c .before .reduce .ensures .0) (b .pre .2)
 
 pub fold-spec : {M : Type 1} → statement M
 fold-spec =

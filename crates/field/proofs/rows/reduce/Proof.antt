@@ -10,8 +10,10 @@ returns : tie.Need-returns
 returns c =
     let a = c .before .args in
     let low = quotient-low (a .t) (a .p) (a .m) (c .before .pre) in
-    let high = quotient-high (a .t) (a .p) (a .m) (c .before .pre) (omega arith) in
-    (remainder-is (a .t) (a .p) (a .t * a .m / 65536 + 1) _ (omega (arith, low, high)) (omega (arith, low, high)), omega (arith, low, high))
+    let high = quotient-high (a .t) (a .p) (a .m) (c .before .pre) (omega arith) in (
+      remainder-is (a .t) (a .p) (a .t * a .m / 65536 + 1) _ (omega (arith, low, high)) (omega (arith, low, high)),
+      omega (arith, low, high),
+    )
 
 returns-2 : tie.Need-returns-2
 returns-2 c =

@@ -26,7 +26,10 @@ mul-reduce-2 c =
     omega (arith, product-fits (b .0 .most) (b .2) (b .1 .small (c .before .loop .j)))
 
 loop-again : tie.Need-loop-again Inv-loop μ-loop
-loop-again c = (omega arith, upto-step (c .reduce .result) (omega arith) (c .reduce .ensures .0) (c .before .before .loop .inv .1))
+loop-again c = (
+  omega arith,
+  upto-step (c .reduce .result) (omega arith) (c .reduce .ensures .0) (c .before .before .loop .inv .1),
+)
 
 returns : tie.Need-returns Inv-loop μ-loop
 returns c = upto-row (upto-less (omega arith) (c .before .loop .inv .1))

@@ -1,4 +1,5 @@
--- `field::scalar::is_prime` meets its contract: no number from 2 below d divides p, and where d is past the root, none does. Assumes nothing.
+-- `field::scalar::is_prime` meets its contract: no number from 2 below d divides p, and where d is past the root, none does.
+-- Assumes nothing.
 use mathlib.Core.Path.{sym}
 use Prim.Native.Nat.{_-_, _≤_}
 use native.Mathlib.Omega.{arith}
@@ -28,7 +29,8 @@ mul-loop c =
 returns-2 : tie.Need-returns-2 Inv-loop μ-loop
 returns-2 c =
     let d = c .before .before .loop .d in
-    sym (not-prime _ λ r. r .alone d (omega arith) (omega (arith, mul-le-mul-left d (c .before .before .loop .inv .1))) (omega arith))
+    sym (not-prime _ λ r. r .alone d (omega arith) (omega (arith, mul-le-mul-left d (c .before .before .loop .inv .1)))
+    (omega arith))
 
 loop-again : tie.Need-loop-again Inv-loop μ-loop
 loop-again c =

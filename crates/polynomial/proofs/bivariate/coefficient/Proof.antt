@@ -21,7 +21,8 @@ shared-slice-read-result c =
     omega (arith, start-below (b .i + b .t) (suc (b .d)) (b .t) (omega arith) (omega arith) (omega arith))
 
 cast-result : tie.Need-cast-result
-cast-result c = omega (arith, c .shared-slice-known2 .given (c .before .start .result + c .before .before .before .before .args .t))
+cast-result c =
+    omega (arith, c .shared-slice-known2 .given (c .before .start .result + c .before .before .before .before .args .t))
 
 returns : tie.Need-returns
 returns c = rw (le-leb _ _ (c .before .before .if1 .taken), c .before .start .ensures)

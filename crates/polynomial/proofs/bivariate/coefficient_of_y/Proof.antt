@@ -22,7 +22,10 @@ loop-holds : tie.Need-loop-holds Inv-loop μ-loop
 loop-holds c = (omega arith, upto-start refl)
 
 loop-again : tie.Need-loop-again Inv-loop μ-loop
-loop-again c = (omega arith, upto-step (c .coefficient .result) (omega arith) (c .coefficient .ensures) (c .before .before .loop .inv .1))
+loop-again c = (
+  omega arith,
+  upto-step (c .coefficient .result) (omega arith) (c .coefficient .ensures) (c .before .before .loop .inv .1),
+)
 
 returns : tie.Need-returns Inv-loop μ-loop
 returns c = upto-row (upto-less (omega arith) (c .before .loop .inv .1))

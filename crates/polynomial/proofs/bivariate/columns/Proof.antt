@@ -17,7 +17,8 @@ use Rattle.polynomial.proofs.bivariate.columns.Tie as tie
 
 abbrev Inv-loop : tie.InvT-loop
 Inv-loop message powers d p m out₀ t₀ out t =
-    (t ≤ d + 1) × Rows p out × ((x : List ℕ) → Powers p x d powers → Upto 16 [] (λ t l. l ≡ row λ r. column d (coef message) t (at x r) % p) out t)
+    (t ≤ d + 1) × Rows p out
+    × ((x : List ℕ) → Powers p x d powers → Upto 16 [] (λ t l. l ≡ row λ r. column d (coef message) t (at x r) % p) out t)
 
 abbrev μ-loop : tie.MeasureT-loop
 μ-loop message powers d p m out₀ t₀ out t = d + 1 - t
@@ -28,8 +29,13 @@ loop-holds c = (omega arith, equal-rows 0 (omega (arith, c .before .pre .0 .leas
 values-requires : tie.Need-values-requires Inv-loop μ-loop
 values-requires c κs =
     let b = c .before .before .before .before in
-    let t = c .before .before .loop .t in
-    (b .pre .0, b .pre .1, coefficients-row (b .args .d) t (b .args .message .now) (omega (arith, b .pre .0 .least)) (b .pre .3) (omega arith) (c .coefficient-of-y .ensures) (b .pre .2), omega arith)
+    let t = c .before .before .loop .t in (
+      b .pre .0,
+      b .pre .1,
+      coefficients-row (b .args .d) t (b .args .message .now) (omega (arith, b .pre .0 .least)) (b .pre .3) (omega arith)
+          (c .coefficient-of-y .ensures) (b .pre .2),
+      omega arith,
+    )
 
 loop-again : tie.Need-loop-again Inv-loop μ-loop
 loop-again c =
@@ -46,7 +52,10 @@ loop-again c =
     )
 
 returns : tie.Need-returns Inv-loop μ-loop
-returns c = let l = c .before .loop in let e : l .t ≡ suc (c .before .before .before .args .d) = omega arith in (l .inv .1, λ x P. rw e at (l .inv .2 x P))
+returns c =
+    let l = c .before .loop in
+    let e : l .t ≡ suc (c .before .before .before .args .d) = omega arith in
+    (l .inv .1, λ x P. rw e at (l .inv .2 x P))
 
 pub columns-spec : {M : Type 1} → statement M
 columns-spec =

@@ -39,14 +39,19 @@ add-product-requires c κs =
 loop-again : tie.Need-loop-again Inv-loop μ-loop
 loop-again c =
     let b = c .before .before .before .before .before .before .args in
-    let l = c .before .before .before .before .before .loop in
-    (omega arith, terms-more (b .powers .now) (coefficients (b .columns .now) (b .r)) (l .t) (l .inv .1) (c .add-product .ensures))
+    let l = c .before .before .before .before .before .loop in (
+      omega arith,
+      terms-more (b .powers .now) (coefficients (b .columns .now) (b .r)) (l .t) (l .inv .1) (c .add-product .ensures),
+    )
 
 fold-row-requires : tie.Need-fold-row-requires Inv-loop μ-loop
 fold-row-requires c κs =
     let b = c .before .before in
-    let l = c .before .loop in
-    (b .pre .0, λ j k. terms-row (b .pre .0 .most) (b .pre .2) (residues (b .args .r) (b .pre .1)) (l .t) (omega arith) (l .inv .1) .small j)
+    let l = c .before .loop in (
+      b .pre .0,
+      λ j k. terms-row (b .pre .0 .most) (b .pre .2) (residues (b .args .r) (b .pre .1)) (l .t) (omega arith)
+          (l .inv .1) .small j,
+    )
 
 returns : tie.Need-returns Inv-loop μ-loop
 returns c =

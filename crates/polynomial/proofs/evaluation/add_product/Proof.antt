@@ -1,4 +1,5 @@
--- `polynomial::evaluation::add_product` meets its contract: the sums before j have their product added, the others are as they were. Assumes nothing.
+-- `polynomial::evaluation::add_product` meets its contract:
+-- the sums before j have their product added, the others are as they were. Assumes nothing.
 use mathlib.Core.Path.{_≡_, refl, ap}
 use Prim.Native.Nat.{ℕ, _+_, _*_, _-_, _≤_, _<_}
 use native.Mathlib.Omega.{arith}
@@ -25,13 +26,20 @@ loop-holds : tie.Need-loop-holds Inv-loop μ-loop
 loop-holds c = (omega arith, record { size = c .pre .0 .size; done = λ j k. absurd (omega arith); todo = λ j _ _. refl })
 
 mul-sum-2 : tie.Need-mul-sum-2 Inv-loop μ-loop
-mul-sum-2 c = let b = c .before .before .before .pre in omega (arith, product-small (b .1) (b .2 .small (c .before .before .loop .j)))
+mul-sum-2 c =
+    let b = c .before .before .before .pre in
+    omega (arith, product-small (b .1) (b .2 .small (c .before .before .loop .j)))
 
 add-sum : tie.Need-add-sum Inv-loop μ-loop
 add-sum c =
     let b = c .before .before .before .before .pre in
     let l = c .before .before .before .loop in
-    omega (arith, l .inv .1 .todo (l .j) (omega arith) (omega arith), b .0 .small (l .j), product-small (b .1) (b .2 .small (l .j)))
+    omega (
+      arith,
+      l .inv .1 .todo (l .j) (omega arith) (omega arith),
+      b .0 .small (l .j),
+      product-small (b .1) (b .2 .small (l .j)),
+    )
 
 loop-again : tie.Need-loop-again Inv-loop μ-loop
 loop-again c =

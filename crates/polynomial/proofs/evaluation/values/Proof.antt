@@ -42,8 +42,10 @@ returns c =
     let b = c .before .before .before in
     let l = c .before .before .loop in
     let z : 0 < b .args .p = omega (arith, b .pre .0 .least) in
-    let e : l .i ≡ suc (b .args .k) = omega arith in
-    (result-row _ z (c .fold-row .ensures), λ x P. terms-values (at (b .args .t3)) x z P (rw e at (l .inv .1)) (c .fold-row .ensures))
+    let e : l .i ≡ suc (b .args .k) = omega arith in (
+      result-row _ z (c .fold-row .ensures),
+      λ x P. terms-values (at (b .args .t3)) x z P (rw e at (l .inv .1)) (c .fold-row .ensures),
+    )
 
 pub values-spec : {M : Type 1} → statement M
 values-spec =

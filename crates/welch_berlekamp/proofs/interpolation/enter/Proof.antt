@@ -1,4 +1,5 @@
--- `welch_berlekamp::interpolation::enter` meets its contract: four returns, by the pair that is used and whether it is 0 at the cell. Assumes nothing.
+-- `welch_berlekamp::interpolation::enter` meets its contract:
+-- four returns, by the pair that is used and whether it is 0 at the cell. Assumes nothing.
 use Prim.Native.Nat.{_≤_, _<_}
 use native.Mathlib.Omega.{arith}
 use Rattle.bounded.specs.Bounded.{at}
@@ -36,10 +37,13 @@ returns c =
     let after-test = c .before .before .before .before in
     let after-shift = after-test .before .before .before .before .before .before in
     let start = after-shift .before in
-    first-kept (positive start) (inside start) (after-shift .shift .ensures) (start .pre .2) (after-test .if2 .taken) (c .before .before .multiply .ensures) (c .multiply2 .ensures)
+    first-kept (positive start) (inside start) (after-shift .shift .ensures) (start .pre .2) (after-test .if2 .taken)
+    (c .before .before .multiply .ensures) (c .multiply2 .ensures)
 
 ratio-requires : tie.Need-ratio-requires
-ratio-requires c κs = let b = c .before .before .before .before .before .before .before .pre in (b .0, b .1, b .2 .d2 .small _, omega (arith, c .if2 .left), b .2 .d1 .small _)
+ratio-requires c κs =
+    let b = c .before .before .before .before .before .before .before .pre in
+    (b .0, b .1, b .2 .d2 .small _, omega (arith, c .if2 .left), b .2 .d1 .small _)
 
 advance-requires : tie.Need-advance-requires
 advance-requires c κs =
@@ -56,7 +60,10 @@ advance-requires-2 c κs =
     (b .0, b .2 .e2, b .2 .e1, differences after-shift, omega (arith, after-ratio .ratio .ensures .below))
 
 add-a : tie.Need-add-a
-add-a c = omega (arith, c .before .before .before .before .before .before .before .before .before .before .before .before .before .before .pre .6)
+add-a c = omega (
+  arith,
+  c .before .before .before .before .before .before .before .before .before .before .before .before .before .before .pre .6,
+)
 
 returns-2 : tie.Need-returns-2
 returns-2 c =
@@ -66,7 +73,8 @@ returns-2 c =
     let after-test = after-ratio .before .before in
     let after-shift = after-test .before .before .before .before .before in
     let start = after-shift .before in
-    first-grew (positive start) (inside start) (after-shift .shift .ensures) (start .pre .2) (after-ratio .ratio .result) (after-test .if1 .taken) (after-ratio .ratio .ensures) (d .0) (e .0) (d .1) (e .1)
+    first-grew (positive start) (inside start) (after-shift .shift .ensures) (start .pre .2) (after-ratio .ratio .result)
+    (after-test .if1 .taken) (after-ratio .ratio .ensures) (d .0) (e .0) (d .1) (e .1)
 
 multiply-requires-3 : tie.Need-multiply-requires-3
 multiply-requires-3 c κs =
@@ -85,10 +93,13 @@ returns-3 c =
     let after-test = c .before .before .before .before in
     let after-shift = after-test .before .before .before .before .before .before in
     let start = after-shift .before in
-    second-kept (positive start) (inside start) (after-shift .shift .ensures) (start .pre .2) (after-test .if3 .taken) (c .before .before .multiply3 .ensures) (c .multiply4 .ensures)
+    second-kept (positive start) (inside start) (after-shift .shift .ensures) (start .pre .2) (after-test .if3 .taken)
+    (c .before .before .multiply3 .ensures) (c .multiply4 .ensures)
 
 ratio-requires-2 : tie.Need-ratio-requires-2
-ratio-requires-2 c κs = let b = c .before .before .before .before .before .before .before .pre in (b .0, b .1, b .2 .d1 .small _, omega (arith, c .if3 .left), b .2 .d2 .small _)
+ratio-requires-2 c κs =
+    let b = c .before .before .before .before .before .before .before .pre in
+    (b .0, b .1, b .2 .d1 .small _, omega (arith, c .if3 .left), b .2 .d2 .small _)
 
 advance-requires-3 : tie.Need-advance-requires-3
 advance-requires-3 c κs =
@@ -105,7 +116,10 @@ advance-requires-4 c κs =
     (b .0, b .2 .e1, b .2 .e2, differences after-shift, omega (arith, after-ratio .ratio2 .ensures .below))
 
 add-b-2 : tie.Need-add-b-2
-add-b-2 c = omega (arith, c .before .before .before .before .before .before .before .before .before .before .before .before .before .before .pre .6)
+add-b-2 c = omega (
+  arith,
+  c .before .before .before .before .before .before .before .before .before .before .before .before .before .before .pre .6,
+)
 
 returns-4 : tie.Need-returns-4
 returns-4 c =
@@ -115,7 +129,8 @@ returns-4 c =
     let after-test = after-ratio .before .before in
     let after-shift = after-test .before .before .before .before .before in
     let start = after-shift .before in
-    second-grew (positive start) (inside start) (after-shift .shift .ensures) (start .pre .2) (after-ratio .ratio2 .result) (after-test .if1 .left) (after-ratio .ratio2 .ensures) (d .0) (e .0) (d .1) (e .1)
+    second-grew (positive start) (inside start) (after-shift .shift .ensures) (start .pre .2) (after-ratio .ratio2 .result)
+    (after-test .if1 .left) (after-ratio .ratio2 .ensures) (d .0) (e .0) (d .1) (e .1)
 
 pub enter-spec : {M : Type 1} → statement M
 enter-spec =

@@ -1,4 +1,5 @@
--- `welch_berlekamp::interpolation::ratio` meets its contract: the product fits 16 bits, and frees a of its value. Assumes nothing.
+-- `welch_berlekamp::interpolation::ratio` meets its contract: the product fits 16 bits, and frees a of its value.
+-- Assumes nothing.
 use Prim.Native.Nat.{_-_, _≤_}
 use native.Mathlib.Omega.{arith}
 use Rattle.field.proofs.Reciprocal.{product-fits}
@@ -17,7 +18,8 @@ mul-reduce-2 c =
 returns : tie.Need-returns
 returns c =
     let start = c .before .before in
-    ratio-is _ (start .args .a) _ (omega arith) (omega arith) (start .pre .1 .each (start .args .b) (start .pre .3) (start .pre .4)) (c .reduce .ensures .0) (c .reduce .ensures .1)
+    ratio-is _ (start .args .a) _ (omega arith) (omega arith)
+    (start .pre .1 .each (start .args .b) (start .pre .3) (start .pre .4)) (c .reduce .ensures .0) (c .reduce .ensures .1)
 
 pub ratio-spec : {M : Type 1} → statement M
 ratio-spec =

@@ -5,7 +5,8 @@ use native.Mathlib.Omega.{arith}
 use Rattle.bounded.specs.Bounded.{at}
 use Rattle.field.proofs.Reciprocal.{product-fits}
 use Rattle.field.proofs.Row.{set-row}
-use Rattle.welch_berlekamp.proofs.Interpolant.{Horner, horner-start, Moved, moved-start, moved-step, horner-step, horner-end}
+use Rattle.welch_berlekamp.proofs.Interpolant.{Horner, horner-start, Moved, moved-start, moved-step, horner-step}
+use Rattle.welch_berlekamp.proofs.Interpolant.{horner-end}
 use borrow.Author.Needs.{needs}
 use Rattle.welch_berlekamp.proofs.newton.coefficients.Statement.{statement}
 use Rattle.welch_berlekamp.proofs.newton.coefficients.Tie as tie

@@ -1,4 +1,5 @@
--- `welch_berlekamp::newton::through` meets its contract: i cells were taken, and while that is at most k, a cell is left. Assumes nothing.
+-- `welch_berlekamp::newton::through` meets its contract: i cells were taken, and while that is at most k, a cell is left.
+-- Assumes nothing.
 use mathlib.Core.Path.{_≡_}
 use mathlib.Core.List.{List}
 use Prim.Native.Nat.{ℕ, suc, _*_, _-_, _%_, _≤_, _<_}
@@ -16,7 +17,8 @@ use Rattle.welch_berlekamp.proofs.newton.through.Tie as tie
 abbrev Inv-loop : tie.InvT-loop
 Inv-loop k p m inverses x left₀ entered₀ slopes₀ nodes₀ product₀ rest₀ i₀ left entered slopes nodes product rest i =
     (i ≤ suc k) × ((n : ℕ) (y : List ℕ) → Enough p n k x left₀ → rest₀ ≡ row (λ j. (p - 1) * at y j % p) →
-    Fits p n k x y left₀ i (record { rest = rest; product = product; slopes = slopes; nodes = nodes; entered = entered; keys = left }))
+    Fits p n k x y left₀ i
+    (record { rest = rest; product = product; slopes = slopes; nodes = nodes; entered = entered; keys = left }))
 
 abbrev μ-loop : tie.MeasureT-loop
 μ-loop k p m inverses x left₀ entered₀ slopes₀ nodes₀ product₀ rest₀ i₀ left entered slopes nodes product rest i = suc k - i
@@ -41,11 +43,17 @@ loop-holds c =
 ratio-requires : tie.Need-ratio-requires Inv-loop μ-loop
 ratio-requires c κs =
     let b = c .before .before .before .before .before .pre in
-    let F = fits (c .before .before .before) in
-    (b .0, b .1, F .whole .rest .small _, fits-positive (b .4 .enough) F (c .before .before .loop-test .taken) (c .before .least .ensures), F .holds .shaped .d1 .small _)
+    let F = fits (c .before .before .before) in (
+      b .0,
+      b .1,
+      F .whole .rest .small _,
+      fits-positive (b .4 .enough) F (c .before .before .loop-test .taken) (c .before .least .ensures),
+      F .holds .shaped .d1 .small _,
+    )
 
 sub-shift : tie.Need-sub-shift Inv-loop μ-loop
-sub-shift c = omega (arith, c .before .before .before .before .before .before .pre .2 .small (c .before .before .least .result % 16))
+sub-shift c =
+    omega (arith, c .before .before .before .before .before .before .pre .2 .small (c .before .before .least .result % 16))
 
 advance-requires : tie.Need-advance-requires Inv-loop μ-loop
 advance-requires c κs =
@@ -53,8 +61,13 @@ advance-requires c κs =
     let start = after-shift .before .before .before .before .before .before .before in
     let b = start .pre in
     let F = fits (after-shift .before .before .before .before .before) in
-    let z : 0 < start .args .p = omega (arith, b .0 .least) in
-    (b .0, F .whole .rest, F .holds .shaped .d1, result-row _ z (after-shift .shift .ensures), omega (arith, after-shift .before .ratio .ensures .below))
+    let z : 0 < start .args .p = omega (arith, b .0 .least) in (
+      b .0,
+      F .whole .rest,
+      F .holds .shaped .d1,
+      result-row _ z (after-shift .shift .ensures),
+      omega (arith, after-shift .before .ratio .ensures .below),
+    )
 
 loop-again : tie.Need-loop-again Inv-loop μ-loop
 loop-again c =
@@ -66,8 +79,12 @@ loop-again c =
     let b = start .pre in
     let pos : 1 < start .args .p = omega (arith, b .0 .least) in
     let F = in-loop .before .loop .inv .1 in
-    let advanced = c .advance .ensures in
-    (omega arith, λ n y E e. fits-take E (F n y E e) (in-loop .loop-test .taken) (after-without .before .least .ensures) pos (b .2 .small) (after-ratio .ratio .ensures) (advanced .0) (after-shift .shift .ensures) (advanced .1) (after-without .without .ensures))
+    let advanced = c .advance .ensures in (
+      omega arith,
+      λ n y E e. fits-take E (F n y E e) (in-loop .loop-test .taken) (after-without .before .least .ensures) pos (b .2 .small)
+          (after-ratio .ratio .ensures) (advanced .0) (after-shift .shift .ensures) (advanced .1)
+          (after-without .without .ensures),
+    )
 
 returns : tie.Need-returns Inv-loop μ-loop
 returns c =

@@ -1,4 +1,5 @@
--- `welch_berlekamp::order::without` meets its contract: the places below j hold the keys but the one that enters. Assumes nothing.
+-- `welch_berlekamp::order::without` meets its contract: the places below j hold the keys but the one that enters.
+-- Assumes nothing.
 use mathlib.Core.Path.{_≡_, refl}
 use mathlib.Core.Bool.{cond}
 use lib.Dec.{eqb}
