@@ -14,11 +14,11 @@ use Rattle.reading.proofs.load.doubt_rows.Statement.{statement}
 use Rattle.reading.proofs.load.doubt_rows.Tie as tie
 
 abbrev Inv-loop : tie.InvT-loop
-Inv-loop doubts n rows₀ r₀ rows r =
-    (r ≤ n) × Passed 16 [] (λ r l. l ≡ replicate 16 0) (λ r l. l ≡ row (gridCell n doubts r)) rows r
+Inv-loop doubts a b rows₀ r₀ rows r =
+    (r ≤ a) × Passed 16 [] (λ r l. l ≡ replicate 16 0) (λ r l. l ≡ row (gridCell b doubts r)) rows r
 
 abbrev μ-loop : tie.MeasureT-loop
-μ-loop doubts n rows₀ r₀ rows r = n - r
+μ-loop doubts a b rows₀ r₀ rows r = a - r
 
 loop-holds : tie.Need-loop-holds Inv-loop μ-loop
 loop-holds c = (omega arith, passed-zeros)
@@ -29,8 +29,9 @@ loop-again c = (omega arith, passed-step _ (omega (arith, c .before .before .bef
 returns : tie.Need-returns Inv-loop μ-loop
 returns c =
     let start = c .before .before .before in
-    let e : c .before .loop .r ≡ start .args .n = omega arith in
-    passed-rest (rw e at (c .before .loop .inv .1)) λ r l. no-line (start .args .n) r (start .args .doubts .now) l (start .pre .1)
+    let given = start .args in
+    let e : c .before .loop .r ≡ given .a = omega arith in
+    passed-rest (rw e at (c .before .loop .inv .1)) λ r l. no-line (given .a) (given .b) r (given .doubts .now) l (start .pre .2)
 
 pub doubt-rows-spec : {M : Type 1} → statement M
 doubt-rows-spec =

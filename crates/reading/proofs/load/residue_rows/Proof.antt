@@ -15,11 +15,11 @@ use Rattle.reading.proofs.load.residue_rows.Statement.{statement}
 use Rattle.reading.proofs.load.residue_rows.Tie as tie
 
 abbrev Inv-loop : tie.InvT-loop
-Inv-loop symbols n rows₀ r₀ rows r =
-    (r ≤ n) × Passed 16 [] (λ r l. l ≡ replicate 16 0) (λ r l. l ≡ row λ c. residue (gridCell n symbols r c)) rows r
+Inv-loop symbols a b rows₀ r₀ rows r =
+    (r ≤ a) × Passed 16 [] (λ r l. l ≡ replicate 16 0) (λ r l. l ≡ row λ c. residue (gridCell b symbols r c)) rows r
 
 abbrev μ-loop : tie.MeasureT-loop
-μ-loop symbols n rows₀ r₀ rows r = n - r
+μ-loop symbols a b rows₀ r₀ rows r = a - r
 
 loop-holds : tie.Need-loop-holds Inv-loop μ-loop
 loop-holds c = (omega arith, passed-zeros)
@@ -29,15 +29,17 @@ loop-again c =
     let here = c .before .before in
     let l = here .before .loop in
     let start = here .before .before .before in
-    let inside = row-in (l .r) (start .args .n) (here .loop-test .taken) in
-    let residues = residues-part (start .args .n) (l .r) (start .args .symbols .now) (c .residue-row .ensures) (omega (arith, start .pre .1, inside)) in
+    let given = start .args in
+    let inside = row-in (l .r) (given .a) (given .b) (here .loop-test .taken) in
+    let residues = residues-part (given .b) (l .r) (given .symbols .now) (c .residue-row .ensures) (omega (arith, start .pre .2, inside)) in
     (omega arith, passed-step _ (omega (arith, start .pre .0)) residues (l .inv .1))
 
 returns : tie.Need-returns Inv-loop μ-loop
 returns c =
     let start = c .before .before .before in
-    let e : c .before .loop .r ≡ start .args .n = omega arith in
-    passed-rest (rw e at (c .before .loop .inv .1)) λ r l. no-residues (start .args .n) r (start .args .symbols .now) l (start .pre .1)
+    let given = start .args in
+    let e : c .before .loop .r ≡ given .a = omega arith in
+    passed-rest (rw e at (c .before .loop .inv .1)) λ r l. no-residues (given .a) (given .b) r (given .symbols .now) l (start .pre .2)
 
 pub residue-rows-spec : {M : Type 1} → statement M
 residue-rows-spec =
@@ -46,10 +48,10 @@ residue-rows-spec =
     Inv-loop
     μ-loop
     loop-holds
-    (λ c. let b = c .before .before .before .pre in omega (arith, product-small (b .0) (c .loop-test .taken)))
-    (λ c. let b = c .before .before .before .pre in omega (arith, b .0, product-small (b .0) (c .loop-test .taken)))
+    (λ c. let b = c .before .before .before .pre in omega (arith, product-small (b .0) (b .1) (c .loop-test .taken)))
+    (λ c. let b = c .before .before .before .pre in omega (arith, b .1, product-small (b .0) (b .1) (c .loop-test .taken)))
     (λ c. search needs) (λ c. search needs)
-    (λ c. omega (arith, c .before .before .before .pre .1, row-in _ _ (c .loop-test .taken)))
+    (λ c. let start = c .before .before .before in omega (arith, start .pre .2, row-in _ _ (start .args .b) (c .loop-test .taken)))
     (λ c κs. search needs) (λ c. search needs) (λ c. search needs) (λ c. search needs) (λ c. search needs)
     loop-again
     returns)

@@ -1,6 +1,8 @@
 -- `reading::mark::decoded` meets its contract: what is loaded is what the decoder asks for, and its answer is the reading. Assumes nothing.
-use mathlib.Core.Path.{refl}
+use mathlib.Core.Path.{refl, _∙_}
 use native.Mathlib.Omega.{arith}
+use Rattle.plan.proofs.Ready.{ready}
+use Rattle.plan.proofs.Values.{mark-cells}
 use Rattle.reading.proofs.MarkLoaded.{mark-received, mark-refused, mark-reading, message-small, record-room}
 use borrow.Author.Needs.{needs}
 use Rattle.reading.proofs.mark.decoded.Statement.{statement}
@@ -8,76 +10,72 @@ use Rattle.reading.proofs.mark.decoded.Tie as tie
 
 decode-requires : tie.Need-decode-requires
 decode-requires c κs =
-    let s = c .before .before .before in
-    let i = s .before in
-    let r = i .before in
-    let d = r .before in
-    let x = d .before in
-    let t = x .before .before .before .before .before .before .before .before .pre in
-    let h = mark-received t (x .points .ensures) (s .residue-rows .ensures) (d .doubt-rows .ensures) (r .reciprocal .ensures) in
-    (h .0, h .1, h .2, i .inverses .ensures, refl)
+    let symbols = c .before .before .before in
+    let table = symbols .before in
+    let doubts = table .before in
+    let (P, says, t) = doubts .before .before .before .before .before .before .pre in
+    let h = mark-received says t (symbols .residue-rows .ensures) (doubts .doubt-rows .ensures) in
+    (h .0, h .1, h .2, table .inverses .ensures, refl)
 
 radius-requires : tie.Need-radius-requires
-radius-requires c κs = search needs
+radius-requires c κs =
+    let doubts = c .before .before .before .before .before .before in
+    let (P, says, t) = doubts .before .before .before .before .before .before .pre in
+    let g = ready (t .sound) says in
+    (omega (arith, g .full), g .rows, g .columns, omega (arith, g .low), omega (arith, g .narrow))
 
 refuses : tie.Need-returns
-refuses c =
-    let r = c .before .before in
-    let e = r .before in
-    let s = e .before .before .before .before in
-    let d = s .before .before .before in
-    let x = d .before in
-    let t = x .before .before .before .before .before .before .before .before .pre in
-    rw (c .refused .ensures)
-    (mark-refused t (x .points .ensures) (s .residue-rows .ensures) (d .doubt-rows .ensures) (e .decode .ensures)
-    (omega (arith, c .before .if1 .taken, r .radius .ensures .0)))
+refuses c = λ P says t.
+    let radius = c .before .before in
+    let decoded = radius .before in
+    let symbols = decoded .before .before .before .before in
+    rw (c .refused .ensures) (mark-refused says t (symbols .residue-rows .ensures) (symbols .before .before .doubt-rows .ensures)
+    (decoded .decode .ensures) (radius .radius .ensures .0) (c .before .if1 .taken))
 
-write-message-requires : tie.Need-write-message-requires
-write-message-requires c κs =
-    let i = c .before .before in
-    let r = i .before in
-    let e = r .before in
-    let s = e .before .before .before .before in
-    let d = s .before .before .before in
-    let x = d .before in
-    let t = x .before .before .before .before .before .before .before .before .pre in (
-      record-room t .1,
-      message-small t (x .points .ensures) (s .residue-rows .ensures) (d .doubt-rows .ensures) (e .decode .ensures)
-          (omega (arith, i .if1 .left, r .radius .ensures .0)),
+store-requires : tie.Need-store-requires
+store-requires c κs =
+    let radius = c .before .before .before in
+    let decoded = radius .before in
+    let symbols = decoded .before .before .before .before in
+    let doubts = symbols .before .before in
+    let (P, says, t) = doubts .before .before .before .before .before .before .pre in (
+      omega (arith, record-room t .1, decoded .decode .ensures .message),
+      message-small says t (symbols .residue-rows .ensures) (doubts .doubt-rows .ensures) (decoded .decode .ensures) (radius .radius .ensures .0)
+          (c .before .before .if1 .left),
     )
 
 changed-cells-requires : tie.Need-changed-cells-requires
 changed-cells-requires c κs =
-    let s = c .before .before .before .before .before .before .before .before .before .before .before .before in
-    let t = s .before .before .before .before .before .before .before .before .before .before .before .before .pre in
-    (t .sound .most, t .photo .symbols)
+    let decoded = c .before .before .before .before .before .before .before .before in
+    let doubts = decoded .before .before .before .before .before .before in
+    let (P, says, t) = doubts .before .before .before .before .before .before .pre in
+    let g = ready (t .sound) says in
+    (g .rows, g .columns, t .photo .symbols ∙ mark-cells says)
 
 returns-2 : tie.Need-returns-2
-returns-2 c =
-    let k = c .before in
-    let w = k .before .before .before .before in
-    let i = w .before .before .before in
-    let r = i .before in
-    let e = r .before in
-    let s = e .before .before .before .before in
-    let d = s .before .before .before in
-    let x = d .before in
-    let t = x .before .before .before .before .before .before .before .before .pre in
-    rw (c .reading .ensures, r .radius .ensures .0)
-    (mark-reading t (x .points .ensures) (s .residue-rows .ensures) (d .doubt-rows .ensures) (e .decode .ensures)
-    (omega (arith, i .if1 .left, r .radius .ensures .0)) (w .write-message .ensures) (k .changed-cells .ensures))
+returns-2 c = λ P says t.
+    let changed = c .before in
+    let stored = changed .before .before .before .before in
+    let test = stored .before .before .before in
+    let radius = test .before in
+    let decoded = radius .before in
+    let symbols = decoded .before .before .before .before in
+    rw (c .reading .ensures) (mark-reading says t (symbols .residue-rows .ensures) (symbols .before .before .doubt-rows .ensures)
+    (decoded .decode .ensures) (radius .radius .ensures .0) (test .if1 .left) (stored .store .ensures) (changed .changed-cells .ensures))
 
 pub decoded-spec : {M : Type 1} → statement M
 decoded-spec =
     tie.close
     (tie.spec
-    (λ c. search needs) (λ c. search needs) (λ c. search needs) (λ c. search needs) (λ c. search needs) (λ c. search needs)
-    (λ c κs. search needs) (λ c κs. search needs) (λ c κs. search needs) (λ c κs. search needs) (λ c κs. search needs)
+    (λ c κs. let (P, says, t) = c .before .before .before .before .before .pre in let g = ready (t .sound) says in (g .rows, g .columns, t .photo .doubts ∙ mark-cells says))
+    (λ c κs. let (P, says, t) = c .before .before .before .before .before .before .pre in let g = ready (t .sound) says in (g .prime, g .reciprocal .most, g .reciprocal))
+    (λ c κs. let (P, says, t) = c .before .before .before .before .before .before .before .pre in let g = ready (t .sound) says in (g .rows, g .columns, t .photo .symbols ∙ mark-cells says))
     decode-requires
     radius-requires
     (λ c κs. search needs)
     refuses
-    write-message-requires
+    (λ c. search needs)
+    store-requires
     changed-cells-requires
     (λ c κs. search needs) (λ c. search needs)
     returns-2)

@@ -1,5 +1,6 @@
 -- `reading::strip::read_strip` meets its contract: what is loaded is what the decoder asks for, and its answer is the reading. Assumes nothing.
 use native.Mathlib.Omega.{arith}
+use Rattle.plan.proofs.Ready.{ready}
 use Rattle.reading.proofs.Loading.{negated}
 use Rattle.reading.proofs.StripLoaded.{strip-received, strip-refused, strip-reading, strip-under}
 use borrow.Author.Needs.{needs}
@@ -8,83 +9,74 @@ use Rattle.reading.proofs.strip.read_strip.Tie as tie
 
 decode-requires : tie.Need-decode-requires
 decode-requires c κs =
-    let d = c .before .before .before in
-    let n = d .before in
-    let w = n .before in
-    let x = w .before in
-    let t = x .before .before .before .before .before .before .before .before .pre in
-    (strip-received t (x .points .ensures) (w .row .ensures) (n .residues .ensures) (d .doubts .ensures) _ (c .before .before .reciprocal .ensures), c .before .inverses .ensures)
+    let table = c .before in
+    let doubts = table .before in
+    let symbols = doubts .before in
+    let (P, says, t) = symbols .before .before .before .before .before .pre in
+    (strip-received t (symbols .residue-row .ensures) (doubts .wide-row .ensures) says, table .inverses .ensures)
 
-returns : tie.Need-returns
-returns c =
-    let a = c .before .before .before in
-    let d = a .before .before .before .before in
-    let n = d .before in
-    let w = n .before in
-    let x = w .before in
-    let t = x .before .before .before .before .before .before .before .before .pre in
-    rw (c .refused .ensures) (strip-refused t (x .points .ensures) (w .row .ensures) (n .residues .ensures) (d .doubts .ensures) (a .decode .ensures) (negated _ (c .before .if1 .taken)))
+refuses : tie.Need-returns
+refuses c = λ P says t.
+    let decoded = c .before .before .before in
+    let doubts = decoded .before .before .before in
+    rw (c .refused .ensures) (strip-refused t (doubts .before .residue-row .ensures) (doubts .wide-row .ensures) says (decoded .decode .ensures)
+    (negated _ (c .before .if1 .taken)))
 
-write-row-requires : tie.Need-write-row-requires
-write-row-requires c κs =
-    let a = c .before .before .before .before .before in
-    let d = a .before .before .before .before in
-    let n = d .before in
-    let w = n .before in
-    let x = w .before in
-    let t = x .before .before .before .before .before .before .before .before .pre in
-    (omega (arith, t .room, t .sound .low, t .sound .most), λ j. omega (arith, a .decode .ensures .small .small j, t .sound .small))
-
-word-changed-requires : tie.Need-word-changed-requires
-word-changed-requires c κs = c .before .before .before .before .before .before .before .before .before .before .before .before .before .before .before .before .before .before .before .before .before .before .before .pre .sound .most
+store-requires : tie.Need-store-requires
+store-requires c κs =
+    let decoded = c .before .before .before .before .before .before in
+    let symbols = decoded .before .before .before .before in
+    let (P, says, t) = symbols .before .before .before .before .before .pre in
+    let g = ready (t .sound) says in (
+      omega (arith, t .room, t .sound .low, t .sound .most, decoded .decode .ensures .small .size),
+      λ j _. omega (arith, decoded .decode .ensures .small .small j, g .reciprocal .most),
+    )
 
 radius-requires : tie.Need-radius-requires
 radius-requires c κs =
-    let a = c .before .before .before .before .before .before .before .before .before in
-    let d = a .before .before .before .before in
-    let n = d .before in
-    let w = n .before in
-    let x = w .before in
-    let t = x .before .before .before .before .before .before .before .before .pre in
-    (omega arith, omega arith, t .sound .most, omega (arith, t .sound .low))
+    let stored = c .before .before .before .before in
+    let decoded = stored .before .before .before .before .before .before .before in
+    let symbols = decoded .before .before .before .before in
+    let (P, says, t) = symbols .before .before .before .before .before .pre in
+    let g = ready (t .sound) says in
+    (omega (arith, g .full), omega arith, g .rows, omega (arith, g .low))
 
 reading-requires : tie.Need-reading-requires
 reading-requires c κs =
-    let e = c .before .before .before .before .before .before .before .before in
-    let a = e .before .before in
-    let d = a .before .before .before .before in
-    let n = d .before in
-    let w = n .before in
-    let x = w .before in
-    let t = x .before .before .before .before .before .before .before .before .pre in
-    (c .radius .ensures .1, strip-under t (x .points .ensures) (w .row .ensures) (n .residues .ensures) (d .doubts .ensures) (a .decode .ensures) (negated _ (e .if1 .left)))
+    let stored = c .before .before .before .before .before in
+    let test = stored .before .before .before .before .before in
+    let decoded = test .before .before in
+    let doubts = decoded .before .before .before in
+    let symbols = doubts .before in
+    let (P, says, t) = symbols .before .before .before .before .before .pre in
+    (c .radius .ensures .1, strip-under t (symbols .residue-row .ensures) (doubts .wide-row .ensures) says (decoded .decode .ensures)
+    (negated _ (test .if1 .left)))
 
 returns-2 : tie.Need-returns-2
-returns-2 c =
-    let u = c .before .before in
-    let s = u .before .before .before in
-    let e = s .before .before .before .before in
-    let a = e .before .before in
-    let d = a .before .before .before .before in
-    let n = d .before in
-    let w = n .before in
-    let x = w .before in
-    let t = x .before .before .before .before .before .before .before .before .pre in
-    rw (c .reading .ensures, c .before .radius .ensures .0)
-    (strip-reading t (x .points .ensures) (w .row .ensures) (n .residues .ensures) (d .doubts .ensures) (a .decode .ensures) (negated _ (e .if1 .left)) (s .write-row .ensures) (u .word-changed .ensures .0))
+returns-2 c = λ P says t.
+    let changed = c .before .before in
+    let seen = changed .before in
+    let stored = seen .before .before .before in
+    let test = stored .before .before .before .before .before in
+    let decoded = test .before .before in
+    let doubts = decoded .before .before .before in
+    rw (c .reading .ensures) (strip-reading t (doubts .before .residue-row .ensures) (doubts .wide-row .ensures) says (decoded .decode .ensures)
+    (negated _ (test .if1 .left)) (stored .store .ensures) (seen .row .ensures) (changed .word-changed .ensures .0) (c .before .radius .ensures .0))
 
 pub read-strip-spec : {M : Type 1} → statement M
 read-strip-spec =
     tie.close
     (tie.spec
-    (λ c. search needs) (λ c. search needs) (λ c. search needs) (λ c. search needs) (λ c. search needs) (λ c. search needs)
-    (λ c κs. search needs) (λ c κs. search needs) (λ c κs. search needs) (λ c κs. search needs) (λ c κs. search needs)
-    (λ c κs. search needs)
+    (λ c κs. let (P, says, t) = c .before .before .before .before .pre in omega (arith, t .photo .symbols, t .sound .most))
+    (λ c κs. let (P, says, t) = c .before .before .before .before .before .pre in omega (arith, t .photo .doubts, t .sound .most))
+    (λ c κs. let (P, says, t) = c .before .before .before .before .before .before .pre in let g = ready (t .sound) says in (g .prime, g .reciprocal .most, g .reciprocal))
     decode-requires
     (λ c κs. search needs)
-    returns
-    write-row-requires
-    word-changed-requires
+    refuses
+    (λ c. search needs)
+    store-requires
+    (λ c κs. let stored = c .before .before in let decoded = stored .before .before .before .before .before .before .before in let (P, says, t) = decoded .before .before .before .before .before .before .before .before .before .pre in omega (arith, t .photo .symbols, t .sound .most))
+    (λ c κs. let stored = c .before .before .before in let decoded = stored .before .before .before .before .before .before .before in let (P, says, t) = decoded .before .before .before .before .before .before .before .before .before .pre in ready (t .sound) says .rows)
     radius-requires
     reading-requires
     (λ c. search needs)
