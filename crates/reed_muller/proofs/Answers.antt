@@ -25,15 +25,18 @@ pub row-zeros : {p : ℕ} → 0 < p → Row p (replicate 16 0)
 row-zeros z = row-of z refl λ j k. rw (getD-replicate {A = ℕ} 16 j 0 0 k) z
 
 -- a place of each of some rows
-pub column-row : {p : ℕ} {m : List (List ℕ)} {l : List ℕ} (t : ℕ) → 0 < p → Rows p m → l ≡ row (λ r. cellAt m r t) → Row p l
-column-row {m} t z R e = rw e (row-of z (length-tab 16 _) λ r k. rw (row-at (λ r. cellAt m r t) r k) (R .done r k .small t))
+pub column-row : {p : ℕ} {rows : List (List ℕ)} {l : List ℕ} (t : ℕ) → 0 < p → Rows p rows → l ≡ row (λ r. cellAt rows r t) → Row p l
+column-row {rows} t z R e = rw e (row-of z (length-tab 16 _) λ r k. rw (row-at (λ r. cellAt rows r t) r k) (R .done r k .small t))
 
 pub positive : {g : Grid} → Fit g → 0 < g .p
 positive f = omega (arith, f .prime .least)
 
 -- the full doubt of a line at the degree t
 pub line-full : {g : Grid} (t : ℕ) → Fit g → g .full * (g .b - t) < 65536
-line-full {g} t f = omega (arith, mul-le-mul {n₁ = g .full} {m₁ = g .b - t} {n₂ = 4095} {m₂ = 16} (omega (arith, f .full)) (omega (arith, f .columns)))
+line-full {g} t f =
+    let low : g .full ≤ 4095 = omega (arith, f .full) in
+    let short : g .b - t ≤ 16 = omega (arith, f .columns) in
+    omega (arith, mul-le-mul low short)
 
 -- the axis of a line, read at the degree t, and that of what the lines hand on
 module _ {g : Grid} {t : ℕ} (f : Fit g) (low : t ≤ g .d) where
@@ -61,16 +64,19 @@ module _ {g : Grid} {t : ℕ} (f : Fit g) (low : t ≤ g .d) where
 
 module _ {g : Grid} {t : ℕ} {s u : List ℕ} (f : Fit g) where
   module _ {w : List ℕ} {v : ℕ} (du : Doubts (g .full) (g .b) (at u)) (good : Row (g .p) w) where
-    pub answered-found : {found : Bool} → found ≡ true → Strip (g .p - 1) (g .full) (g .b) t (at (g .y)) (at s) (at u) found (at w) v → Answered g t s u w v
+    pub answered-found : {found : Bool} → found ≡ true →
+        Strip (g .p - 1) (g .full) (g .b) t (at (g .y)) (at s) (at u) found (at w) v → Answered g t s u w v
     answered-found e S =
         let A : Answer g t s u w v = rw e at S in
         let small : at w t < suc (g .p - 1) = omega (arith, good .small t) in
         record { good = good; entered = rw (mod-eq-of-lt small) at (line-answered (f .columnsApart) du A); strip = λ _. A }
 
-  pub answered-kept : {w : List ℕ} {v : ℕ} → Doubts (g .full) (g .b) (at u) → v ≢ unknown → Known g t s u w v → Answered g t s u w v
+  pub answered-kept : {w : List ℕ} {v : ℕ} → Doubts (g .full) (g .b) (at u) → v ≢ unknown → Known g t s u w v →
+      Answered g t s u w v
   answered-kept du h K = answered-found du (K .good) refl (K .strip h)
 
-  pub answered-none : {w : ℕ → ℕ} {v : ℕ} {found : Bool} → found ≡ false → Strip (g .p - 1) (g .full) (g .b) t (at (g .y)) (at s) (at u) found w v →
+  pub answered-none : {w : ℕ → ℕ} {v : ℕ} {found : Bool} → found ≡ false →
+      Strip (g .p - 1) (g .full) (g .b) t (at (g .y)) (at s) (at u) found w v →
       Answered g t s u (replicate 16 0) (g .full * (g .b - t))
   answered-none e S = record {
     good = row-zeros (positive f);

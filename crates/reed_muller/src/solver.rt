@@ -1,4 +1,4 @@
-// The degree steps: one coefficient of Y at a time, from Y^d down to Y^0, is read from the lines and subtracted. Drafts come first.
+// The degree steps: one coefficient of Y at a time, from Y^d down to Y^0, is read from the lines and subtracted. Drafts go first.
 use crate::draft;
 use crate::grid::Grid;
 use crate::lines;
@@ -32,8 +32,10 @@ fn step(
     left: &mut [[u16; 16]; 16],
     doubts: &[[u32; 16]; 16],
 ) -> Column
-    requires { ⌜ Fit g × (t ≤ g .d) × Rows (g .p) (now left) × DoubtRows g (now doubts) × KnownRows g t (now left) (now doubts) (now messages) known × Inverses (g .p) (now inverses) ⌝ }
-    ensures { λ r. ⌜ Stepped g t (now (left .entry)) (now (doubts .entry)) (now (left .exit)) (now (messages .exit)) (r .found) (r .message) (r .known) ⌝ }
+    requires { ⌜ Fit g × (t ≤ g .d) × Rows (g .p) (now left) × DoubtRows g (now doubts) ×
+        KnownRows g t (now left) (now doubts) (now messages) known × Inverses (g .p) (now inverses) ⌝ }
+    ensures { λ r. ⌜ Stepped g t (now (left .entry)) (now (doubts .entry)) (now (left .exit)) (now (messages .exit)) (r .found)
+        (r .message) (r .known) ⌝ }
 {
     let costs = lines::answer(g, inverses, t, messages, known, left, doubts);
     let leading = bivariate::place_of_each(messages, t);
@@ -67,9 +69,9 @@ fn step(
     }
 }
 
-// All steps, from Y^d down: the coefficients of Y^t go to row t of the columns, and what is left stays in `left`. Returns what it costs;
-// at a step without an answer the radius, since then no record is under it. As soon as enough lines are known the columns that are
-// missing are drafted from them, once.
+// All steps, from Y^d down: the coefficients of Y^t go to row t of the columns, and what is left stays in `left`. Returns what it
+// costs; at a step without an answer the radius, since then no record is under it. As soon as enough lines are known the columns
+// that are missing are drafted from them, once.
 fn solve_by_degrees(
     g: Grid,
     inverses: &[u16; 251],
@@ -77,7 +79,8 @@ fn solve_by_degrees(
     doubts: &[[u32; 16]; 16],
     columns: &mut [[u16; 16]; 16],
 ) -> u32
-    requires { ⌜ Fit g × Rows (g .p) (now left) × DoubtRows g (now doubts) × Rows (g .p) (now columns) × Inverses (g .p) (now inverses) ⌝ }
+    requires { ⌜ Fit g × Rows (g .p) (now left) × DoubtRows g (now doubts) × Rows (g .p) (now columns) ×
+        Inverses (g .p) (now inverses) ⌝ }
     ensures { λ r. ⌜ Solved g (now (left .entry)) (now (doubts .entry)) (now (left .exit)) (now (columns .exit)) r ⌝ }
 {
     let radius = remainder::radius(g);
@@ -107,8 +110,8 @@ fn solve_by_degrees(
     remainder::measure(g, left, doubts)
 }
 
-// The record under the radius, if there is one: its coefficients of Y^t in row t of the columns, what it leaves of the symbols in `left`,
-// and its cost. Where there is none a cost that is not under the radius.
+// The record under the radius, if there is one: its coefficients of Y^t in row t of the columns, what it leaves of the symbols in
+// `left`, and its cost. Where there is none a cost that is not under the radius.
 pub fn solve(
     g: Grid,
     inverses: &[u16; 251],
@@ -116,7 +119,8 @@ pub fn solve(
     doubts: &[[u32; 16]; 16],
     columns: &mut [[u16; 16]; 16],
 ) -> u32
-    requires { ⌜ Fit g × Rows (g .p) (now left) × DoubtRows g (now doubts) × Rows (g .p) (now columns) × Inverses (g .p) (now inverses) ⌝ }
+    requires { ⌜ Fit g × Rows (g .p) (now left) × DoubtRows g (now doubts) × Rows (g .p) (now columns) ×
+        Inverses (g .p) (now inverses) ⌝ }
     ensures { λ r. ⌜ Solved g (now (left .entry)) (now (doubts .entry)) (now (left .exit)) (now (columns .exit)) r ⌝ }
 {
     if !draft::from_cells(g, inverses, left, columns) {

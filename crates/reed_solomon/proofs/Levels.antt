@@ -24,8 +24,8 @@ use Rattle.welch_berlekamp.specs.declared.newton.Newton.{Newton}
 use Rattle.welch_berlekamp.specs.Order.{taken, key, Placed, Least, Entering}
 use Rattle.welch_berlekamp.specs.Pairs.{Pairs, Enters}
 use Rattle.welch_berlekamp.specs.Newton.{pairsOf}
-use Rattle.welch_berlekamp.proofs.Cursor.{zeros-at, key-in, key-out, keys-placed, without-most, left-most, next-cell, entered-below}
-use Rattle.welch_berlekamp.proofs.Cursor.{left-above, entering-next}
+use Rattle.welch_berlekamp.proofs.Cursor.{zeros-at, key-in, key-out, keys-placed, without-most, left-most, next-cell}
+use Rattle.welch_berlekamp.proofs.Cursor.{entered-below, left-above, entering-next}
 use Rattle.welch_berlekamp.proofs.State.{zeros-row}
 use Rattle.reed_solomon.specs.declared.axis.Axis.{Axis}
 use Rattle.reed_solomon.specs.declared.decoder.Decoded.{Decoded}
@@ -108,7 +108,8 @@ near-same n k w w′ s v h near = omega (
   arith,
   near,
   sum-eq n h,
-  sum-eq n {f = λ j. cond (eqb (s j) (v j)) 0 (w j)} {g = λ j. cond (eqb (s j) (v j)) 0 (w′ j)} λ j l. ap (cond (eqb (s j) (v j)) 0) (h j l),
+  sum-eq n {f = λ j. cond (eqb (s j) (v j)) 0 (w j)} {g = λ j. cond (eqb (s j) (v j)) 0 (w′ j)} λ j l.
+      ap (cond (eqb (s j) (v j)) 0) (h j l),
 )
 
 -- the strip decoder before the cell of the key c; r are the keys of the cells that have not entered
@@ -199,7 +200,8 @@ module _ {g : Axis} {s u l : List ℕ} (R : Received g s u) (K : l ≡ row (λ j
                 omega (arith, k .1, entered-below (G′ .entering) placed (G′ .next) (c % 16) i λ z. omega (arith, entered-cell, z))
 
     -- after a level its cells and those below have entered
-    pub going-passed : {level : ℕ} → Within (g .n) u level t → level < c / 16 → RefutedBelow g s u level → RefutedBelow g s u (c / 16)
+    pub going-passed : {level : ℕ} → Within (g .n) u level t → level < c / 16 → RefutedBelow g s u level →
+        RefutedBelow g s u (c / 16)
     going-passed {level} W h P = record {
       far = λ h j i o w. elim (decLt (at u j) level) [
         | yes b ↦ P .far h j i b w
@@ -223,7 +225,8 @@ module _ {g : Axis} {s u l : List ℕ} (R : Received g s u) (K : l ≡ row (λ j
     first-passed : t .a + t .b ≤ suc (g .k) → RefutedBelow g s u (c / 16)
     first-passed few = record {
       far = λ h j i o w. G .now .far h (near-more (g .n) (g .k) (λ i. keep (at u j) (at u i)) (at (t .entered)) (at s) (word g h)
-          (less j o) (omega (arith, few, G .holds .state .count)) (weight-near (g .n) (g .k) (at u j) (at s) (at u) (word g h) w));
+          (less j o) (omega (arith, few, G .holds .state .count))
+          (weight-near (g .n) (g .k) (at u j) (at s) (at u) (word g h) w));
     }
       where
         less : (j : ℕ) → at u j < c / 16 → (i : ℕ) → i < g .n → keep (at u j) (at u i) ≤ at (t .entered) i
@@ -238,7 +241,7 @@ module _ {g : Axis} {s u l : List ℕ} (R : Received g s u) (K : l ≡ row (λ j
 
   -- the keys that are left, and those without the next one, are small
   pub first-keys : {f : Newton} → FitsOn g s l f → (j : ℕ) → at (f .keys) j ≤ taken
-  first-keys F = left-most (F .entering) placed
+  first-keys fit = left-most (fit .entering) placed
 
   pub going-keys : {r r′ : List ℕ} {c : ℕ} {t : Pairs} → Going g s u l r c t →
       r′ ≡ row (λ j. cond (eqb (at r j) c) taken (at r j)) → (j : ℕ) → at r′ j ≤ taken
@@ -247,9 +250,9 @@ module _ {g : Axis} {s u l : List ℕ} (R : Received g s u) (K : l ≡ row (λ j
   -- the state after the first k + 1 cells
   pub going-first : {f : Newton} {c : ℕ} → FitsOn g s l f → Least 16 (f .keys) c → Refuted g s u (f .entered) →
       Going g s u l (f .keys) c (pairsOf (g .k + 1) f) × RefutedBelow g s u (c / 16)
-  going-first {f} {c} F L D =
+  going-first {f} {c} fit L D =
       let G : Going g s u l (f .keys) c (pairsOf (g .k + 1) f) =
-      rw (add-one (g .k)) (record { holds = F .holds; entering = F .entering; next = L; now = D }) in
+      rw (add-one (g .k)) (record { holds = fit .holds; entering = fit .entering; next = L; now = D }) in
       (G, first-passed G (omega arith))
 
 module _ {g : Axis} {s u : List ℕ} (R : Received g s u) {r : Decoded} where

@@ -1,5 +1,6 @@
--- A trial misses no polynomial: what is near makes the first degree high enough, leaves a usable cells, costs what the second pair tells,
--- and is the candidate through k + 1 of these cells. So where no candidate is under the radius, no near polynomial is. Assumes nothing.
+-- A trial misses no polynomial: what is near makes the first degree high enough, leaves a usable cells, costs what the second
+-- pair tells, and is the candidate through k + 1 of these cells. So where no candidate is under the radius, no near polynomial
+-- is. Assumes nothing.
 use mathlib.Core.Logic.{_≢_}
 use mathlib.Core.Path.{_≡_, refl, sym, ap, ap₂, _∙_}
 use mathlib.Core.List.{List}
@@ -73,7 +74,8 @@ pub cost-values : {g : Axis} → Valid g → (s u w : List ℕ) {v : List ℕ} �
     v ≡ row (λ j. eval (suc (g .k)) (at w) (at (g .x) j) % g .p) → spent g s u (at v) ≡ spent g s u (word g (at w))
 cost-values {g} valid s u w e = sum-eq (g .n) λ j l.
     ap (cell (g .full) (at s j) (at u j))
-    (ap (λ t. at t j) e ∙ row-at (λ j. value j % g .p) j (omega (arith, valid .most)) ∙ ap (λ t. value j % t) (sym (modulus valid)))
+    (ap (λ t. at t j) e ∙ row-at (λ j. value j % g .p) j (omega (arith, valid .most))
+    ∙ ap (λ t. value j % t) (sym (modulus valid)))
   where
     value : ℕ → ℕ
     value j = eval (suc (g .k)) (at w) (at (g .x) j)
@@ -119,7 +121,8 @@ module _ {g : Axis} {s u : List ℕ} {t : Pairs} (R : Received g s u) (H : Holds
     );
   }
 
-  pub refuted-suspect : {v : List ℕ} → v ≡ row (suspect (at (t .d2)) (at (t .e2))) → radius g ≤ spent g v u (at (replicate 16 0)) →
+  pub refuted-suspect : {v : List ℕ} → v ≡ row (suspect (at (t .d2)) (at (t .e2))) →
+      radius g ≤ spent g v u (at (replicate 16 0)) →
       Refuted g s u (t .entered)
   refuted-suspect {v} e l = refuted-cost v
       (λ j o. ap (λ t. at t j) e ∙ row-at (suspect (at (t .d2)) (at (t .e2))) j (omega (arith, R .axis .most))) l
@@ -142,7 +145,8 @@ module _ {g : Axis} {s u : List ℕ} {t : Pairs} (R : Received g s u) (H : Holds
     ]
 
     -- l are the keys of the usable cells
-    module _ {a l : List ℕ} (K : a ≡ row (λ j. key (g .n) (at u j) j)) (M : l ≡ row (λ j. cond (eqb (at v j) 0) taken (at a j))) where
+    module _ {a l : List ℕ} (K : a ≡ row (λ j. key (g .n) (at u j) j))
+        (M : l ≡ row (λ j. cond (eqb (at v j) 0) taken (at a j))) where
       marked-at : (j : ℕ) → j < 16 → at l j ≡ cond (eqb (at v j) 0) taken (key (g .n) (at u j) j)
       marked-at j i =
           ap (λ t. at t j) M ∙ row-at (λ j. cond (eqb (at v j) 0) taken (at a j)) j i
@@ -190,7 +194,7 @@ module _ {g : Axis} {s u : List ℕ} {t : Pairs} (R : Received g s u) (H : Holds
 
       -- what is near goes through every usable cell, so it is near for the k + 1 of them that f goes through
       refuted-usable : {f : Newton} → FitsOn g s l f → Refuted g s u (f .entered) → Refuted g s u (t .entered)
-      refuted-usable {f} F D = record { far = λ h near. D .far h (omega (arith, none h near, F .holds .state .count)) }
+      refuted-usable {f} fit D = record { far = λ h near. D .far h (omega (arith, none h near, fit .holds .state .count)) }
         where
           right : (h : ℕ → ℕ) → Near (g .n) (g .k) (at (t .entered)) (at s) (word g h) → (j : ℕ) → j < g .n →
               cond (eqb (at s j) (word g h j)) 0 (at (f .entered) j) ≡ 0
@@ -201,15 +205,15 @@ module _ {g : Axis} {s u : List ℕ} {t : Pairs} (R : Received g s u) (H : Holds
           ]
             where
               marked : at (f .entered) j ≢ 0 → at v j ≢ 0
-              marked z e = omega (arith, F .entering .some j (omega (arith, R .axis .most)) z, marked-none j o e)
+              marked z e = omega (arith, fit .entering .some j (omega (arith, R .axis .most)) z, marked-none j o e)
 
           none : (h : ℕ → ℕ) → Near (g .n) (g .k) (at (t .entered)) (at s) (word g h) →
               missed (g .n) (at (f .entered)) (at s) (word g h) ≡ 0
           none h near = sum-eq (g .n) (right h near) ∙ sum-const (g .n) 0 ∙ mul-zero (g .n)
 
       pub tried-usable : {f : Newton} {r : Decoded} → FitsOn g s l f → Tried g s u (f .entered) r → Tried g s u (t .entered) r
-      tried-usable F (hit D) = hit D
-      tried-usable F (miss N D) = miss N (refuted-usable F D)
+      tried-usable fit (hit D) = hit D
+      tried-usable fit (miss N D) = miss N (refuted-usable fit D)
 
 -- the doubts are small enough for keys
 pub received-doubts : {g : Axis} {s u : List ℕ} → Received g s u → (g .n ≤ 16) × Doubts 65535 (g .n) (at u)
@@ -227,7 +231,8 @@ enough-all {g} {u = u} {l = l} R K = record {
     arith,
     R .axis .low,
     sum-const (g .n) 1,
-    sum-le (g .n) {f = λ j. 1} {g = λ j. cond (ltb (at l j) taken) 1 0} λ j o. rw (lt-ltb (at l j) taken (below j o)) (omega arith),
+    sum-le (g .n) {f = λ j. 1} {g = λ j. cond (ltb (at l j) taken) 1 0} λ j o. rw (lt-ltb (at l j) taken (below j o))
+        (omega arith),
   );
 }
   where
@@ -240,10 +245,10 @@ enough-all {g} {u = u} {l = l} R K = record {
         omega (arith, here j i ∙ key-in (g .n) (at u j) j o, R .doubts j o, R .axis .full)
 
 -- the polynomial f, measured by its rest
-module _ {g : Axis} {s u l : List ℕ} {f : Newton} (R : Received g s u) (F : FitsOn g s l f) where
+module _ {g : Axis} {s u l : List ℕ} {f : Newton} (R : Received g s u) (fit : FitsOn g s l f) where
   pub refuted-rest : radius g ≤ spent g (f .rest) u (at (replicate 16 0)) → Refuted g s u (f .entered)
   refuted-rest h =
-      refuted-cost R (F .holds) (f .rest) (λ j o. sym (ap (λ b. cond b 1 (at (f .rest) j)) (ne-eqb _ _ λ e. one j o e))) h
+      refuted-cost R (fit .holds) (f .rest) (λ j o. sym (ap (λ b. cond b 1 (at (f .rest) j)) (ne-eqb _ _ λ e. one j o e))) h
     where
       one : (j : ℕ) → j < g .n → at (replicate 16 1) j ≡ 0 → ⊥
       one j o e = omega (arith, ones-at j (omega (arith, R .axis .most)))
@@ -255,7 +260,7 @@ module _ {g : Axis} {s u l : List ℕ} {f : Newton} (R : Received g s u) (F : Fi
     found = t;
     message = C .row;
     above = C .above;
-    values = e ∙ tab-eq 16 λ j i. cong-mod pos (same (omega arith) ⨾ F .formed j i ⨾ ~sym (C .evaluates (at (g .x) j)));
+    values = e ∙ tab-eq 16 λ j i. cong-mod pos (same (omega arith) ⨾ fit .formed j i ⨾ ~sym (C .evaluates (at (g .x) j)));
     measured = c ∙ cost-right (g .full) (g .n) (at (f .rest)) (at u) (at (replicate 16 0)) (at s) (at (r .values)) right;
     under = b;
   }
@@ -270,6 +275,6 @@ module _ {g : Axis} {s u l : List ℕ} {f : Newton} (R : Received g s u) (F : Fi
       right j o = eqb-same (at (f .rest) j) (at (replicate 16 0) j) (at s j) (at (r .values) j)
           (λ z. sym (value j o ∙ ap (λ t. (t + 1 * at s j) % g .p) (z ∙ zeros-at 16 j) ∙ ap (λ t. t % g .p) (omega arith)
           ∙ mod-eq-of-lt (R .symbols .small j)))
-          (λ z. below-eq (rw (modulus (R .axis)) (F .whole .rest .small j)) (rw (modulus (R .axis), zeros-at 16 j) pos)
+          (λ z. below-eq (rw (modulus (R .axis)) (fit .whole .rest .small j)) (rw (modulus (R .axis), zeros-at 16 j) pos)
           (cancel (same {a = at s j} refl) (same (omega arith) ⨾ ~sym (mod-cong pos (at (f .rest) j + 1 * at s j))
           ⨾ same {b = at (replicate 16 0) j + at s j} (omega (arith, value j o, z, zeros-at 16 j)))))

@@ -1,13 +1,13 @@
 -- The axis g of a strip, with symbols s and doubts u at its points.
 --
---   Valid g          p is prime and m its reciprocal; at most sixteen points, residues and apart; the degree is below their number, and the
---                    full doubt below 65536
+--   Valid g          p is prime and m its reciprocal; at most sixteen points, residues and apart; the degree is below their
+--                    number, and the full doubt below 65536
 --   Received g s u   such an axis, symbols that are residues, and doubts that are at most the full one
 --   word g h         the values of a polynomial h of degree at most k at the points
 --   spent g s u v    what the values v cost
 --   radius g         full (n - k)
 --   HoldsOn g s t, FitsOn g s l f
---                    the pairs t interpolate, and f is the polynomial through the k + 1 cells of the least keys l (crate `welch_berlekamp`)
+--                    the pairs t interpolate, and f is the polynomial through the k + 1 cells of the least keys l
 --
 -- What this file is for: what the strip decoder asks of its caller.
 use mathlib.Core.List.{List}

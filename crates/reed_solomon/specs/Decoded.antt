@@ -6,7 +6,7 @@
 --     none                  where not, all that is handed back is 0
 --   None r                  the answer r is that there is none
 --   Confirmed g s u r       the answer r was measured, and is under the radius
---   Tried g s u w r         a trial at the cells that w marks: what it found was measured, or no near polynomial is under the radius
+--   Tried g s u w r         a trial at the cells that w marks: its find was measured, or no near polynomial is under the radius
 --   Fitted g s f            the polynomial f goes through k + 1 cells
 --   Hoped k t               the pairs t may have a candidate: a is over b + k, and there are a usable cells
 --   Candidate g s e w       some pairs that hold, with E2 = e and the marks w, may have a candidate

@@ -1,5 +1,5 @@
--- What a reader of strips answers, for n points x, degree k, symbols s, doubts u and the full doubt: the contract on which the strip
--- call, a mark's rows and its columns all rest. suc q is the modulus.
+-- What a reader of strips answers, for n points x, degree k, symbols s, doubts u and the full doubt: the contract on which the
+-- strip call, a mark's rows and its columns all rest. suc q is the modulus.
 --
 --   Strip q full n k x s u found w c
 --     sound   where it found one, w are coefficients of a polynomial whose cost is c, under the radius full (n - k)

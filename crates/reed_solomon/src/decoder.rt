@@ -1,7 +1,7 @@
-// The strip decoder (document 004, chapter 4, by generalised minimum distance): levels of doubt rise, the cells of a level enter the
-// interpolation one by one, and after each the candidate, if there may be one, is measured against the whole strip. A measured one
-// under the radius is the only one, so that it ends the trial. The first k + 1 cells have one polynomial through them, which is
-// measured first.
+// The strip decoder (document 004, chapter 4, by generalised minimum distance): levels of doubt rise, the cells of a level enter
+// the interpolation one by one, and after each the candidate, if there may be one, is measured against the whole strip. A
+// measured one under the radius is the only one, so that it ends the trial. The first k + 1 cells have one polynomial through
+// them, which is measured first.
 use crate::axis::Axis;
 use distance::word;
 use field::rows;
@@ -131,8 +131,8 @@ fn measured(g: Axis, f: Newton, s: [u16; 16], u: [u32; 16]) -> Decoded
     }
 }
 
-// Whether the pairs may have a candidate. A near polynomial makes E2 zero at just the entered cells where it is missed, b in number,
-// and at no other point: so it is missed where E2 is 0 or D2 is not, which tells its cost.
+// Whether the pairs may have a candidate. A near polynomial makes E2 zero at just the entered cells where it is missed, b in
+// number, and at no other point: so it is missed where E2 is 0 or D2 is not, which tells its cost.
 fn hopeful(
     g: Axis,
     d: [u16; 16],
@@ -165,7 +165,8 @@ fn attempt(
     s: [u16; 16],
     u: [u32; 16],
 ) -> Decoded
-    requires { ⌜ Received g s u × Inverses (g .p) (now inverses) × (keys ≡ row (λ j. key (g .n) (at u j) j)) × Candidate g s e entered ⌝ }
+    requires { ⌜ Received g s u × Inverses (g .p) (now inverses) × (keys ≡ row (λ j. key (g .n) (at u j) j)) ×
+        Candidate g s e entered ⌝ }
     ensures { λ r. ⌜ Tried g s u entered r ⌝ }
 {
     let x = g.x;
@@ -174,7 +175,7 @@ fn attempt(
     measured(g, f, s, u)
 }
 
-// The polynomial of degree at most k that costs under full * (n - k), by its k + 1 coefficients, its values and its cost; or none.
+// The polynomial of degree at most k that costs under full * (n - k), by its k + 1 coefficients, values and cost; or none.
 pub fn decode(g: Axis, inverses: &[u16; 251], s: [u16; 16], u: [u32; 16]) -> Decoded
     requires { ⌜ Received g s u × Inverses (g .p) (now inverses) ⌝ }
     ensures { λ r. ⌜ StripDecoded g s u r ⌝ }

@@ -121,8 +121,8 @@ module _ (c : tie.After-enter Inv-loop μ-loop Inv-levels μ-levels) where
   abbrev after : Pairs
   after =
       let l = c .enter .last in
-      let m = l .1 .1 .1 in
-      pairs (l .0) (l .1 .0) (l .1 .1 .0) (m .0) (m .1 .0) (m .1 .1 .0) (m .1 .1 .1 .0)
+      let more = l .1 .1 .1 in
+      pairs (l .0) (l .1 .0) (l .1 .1 .0) (more .0) (more .1 .0) (more .1 .1 .0) (more .1 .1 .1 .0)
 
   below : head .loop .next < start levels .args .g .full * 16
   below = omega (arith, chosen .before .before .loop-test .taken, head .before .if3 .taken)

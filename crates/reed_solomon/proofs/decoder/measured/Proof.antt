@@ -12,16 +12,16 @@ returns : tie.Need-returns
 returns c =
     let compared = c .before in
     let costed = compared .before .before in
-    let (R, F) = costed .before .before .pre in
-    miss (c .none .ensures) (refuted-rest R (F .fits)
+    let (R, fit) = costed .before .before .pre in
+    miss (c .none .ensures) (refuted-rest R (fit .fits)
     (omega (arith, costed .word-cost .ensures .0, compared .before .radius .ensures .0, compared .if1 .taken)))
 
 returns-2 : tie.Need-returns-2
 returns-2 c =
     let compared = c .before .before .before .before in
     let costed = compared .before .before in
-    let (R, F) = costed .before .before .pre in
-    hit (found-rest R (F .fits) refl (c .before .coefficients .ensures) (c .add-multiple .ensures) (costed .word-cost .ensures .0)
+    let (R, fit) = costed .before .before .pre in
+    hit (found-rest R (fit .fits) refl (c .before .coefficients .ensures) (c .add-multiple .ensures) (costed .word-cost .ensures .0)
     (omega (arith, compared .before .radius .ensures .0, compared .if1 .left)))
 
 pub measured-spec : {M : Type 1} → statement M
