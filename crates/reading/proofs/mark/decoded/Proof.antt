@@ -1,5 +1,5 @@
 -- `reading::mark::decoded` meets its contract: what is loaded is what the decoder asks for, and its answer is the reading. Assumes nothing.
-use mathlib.Core.Path.{refl, _∙_}
+use mathlib.Core.Path.{refl, sym, _∙_}
 use native.Mathlib.Omega.{arith}
 use Rattle.plan.proofs.Ready.{ready}
 use Rattle.plan.proofs.Values.{mark-cells}
@@ -30,7 +30,7 @@ refuses c = λ P says t.
     let decoded = radius .before in
     let symbols = decoded .before .before .before .before in
     rw (c .refused .ensures) (mark-refused says t (symbols .residue-rows .ensures) (symbols .before .before .doubt-rows .ensures)
-    (decoded .decode .ensures) (radius .radius .ensures .0) (c .before .if1 .taken))
+    (decoded .decode .ensures .0) (radius .radius .ensures .0) (c .before .if1 .taken))
 
 store-requires : tie.Need-store-requires
 store-requires c κs =
@@ -39,8 +39,8 @@ store-requires c κs =
     let symbols = decoded .before .before .before .before in
     let doubts = symbols .before .before in
     let (P, says, t) = doubts .before .before .before .before .before .before .pre in (
-      omega (arith, record-room t .1, decoded .decode .ensures .message),
-      message-small says t (symbols .residue-rows .ensures) (doubts .doubt-rows .ensures) (decoded .decode .ensures) (radius .radius .ensures .0)
+      omega (arith, record-room t .1, decoded .decode .ensures .1),
+      message-small says t (symbols .residue-rows .ensures) (doubts .doubt-rows .ensures) (decoded .decode .ensures .0) (radius .radius .ensures .0)
           (c .before .before .if1 .left),
     )
 
@@ -61,7 +61,7 @@ returns-2 c = λ P says t.
     let decoded = radius .before in
     let symbols = decoded .before .before .before .before in
     rw (c .reading .ensures) (mark-reading says t (symbols .residue-rows .ensures) (symbols .before .before .doubt-rows .ensures)
-    (decoded .decode .ensures) (radius .radius .ensures .0) (test .if1 .left) (stored .store .ensures) (changed .changed-cells .ensures))
+    (decoded .decode .ensures .0) (radius .radius .ensures .0) (test .if1 .left) (stored .store .ensures) (changed .changed-cells .ensures))
 
 pub decoded-spec : {M : Type 1} → statement M
 decoded-spec =
@@ -74,7 +74,7 @@ decoded-spec =
     radius-requires
     (λ c κs. search needs)
     refuses
-    (λ c. search needs)
+    (λ c. sym (c .before .before .before .before .decode .ensures .1))
     store-requires
     changed-cells-requires
     (λ c κs. search needs) (λ c. search needs)
