@@ -8,10 +8,11 @@ use lib.ListN.{length}
 use borrow.Author.Tests.{leb-false, lt-leb, eqb-true, not-false}
 use Rattle.bounded.proofs.Any.{any-none, none-any}
 use Rattle.definitions.specs.Refusals.{Refusal, _when_, first}
-use Rattle.definitions.specs.Plan.{planRows, checkNumber}
+use Rattle.definitions.specs.Plan.{modulus, planRows, checkNumber}
 use Rattle.definitions.specs.Code.{Code, size, cells}
-use Rattle.definitions.specs.Calls.{lengthRow, strange, excessive, halfRead, overflowing, recordRow, photoRows}
-use Rattle.definitions.specs.Calls.{writeRows, writeNumber, measureRows, measureNumber}
+use Rattle.definitions.specs.Cost.{full}
+use Rattle.definitions.specs.Calls.{overflowing, recordRow, photoTests, photoRows}
+use Rattle.definitions.specs.Calls.{writeTests, writeRows, writeNumber, measureRows, measureNumber}
 use Rattle.definitions.specs.Calls.{nearest, missing, readRows, readNumber}
 use Rattle.definitions.specs.Code.{IsRecord}
 use Rattle.definitions.specs.Sound.{Sound}
@@ -21,14 +22,6 @@ use Rattle.definitions.proofs.Refusals.{testAt, first-clear, first-both
 use Rattle.definitions.proofs.Refusals.{first-passes}
 use Rattle.definitions.proofs.Sound.{sound}
 use Rattle.definitions.proofs.Photograph.{photo-accepted, accepted-photo, accepted-buffer}
-
--- the tests after those of the plan, for n cells and k coefficients
-abbrev pub photoTests : (P s u F : List ℕ) (n k : ℕ) → List Refusal
-photoTests P s u F n k =
-    lengthRow s n ∷ lengthRow u n ∷ lengthRow F k ∷ (7 when strange P s n) ∷ (8 when excessive u n) ∷ (8 when halfRead s u n) ∷ []
-
-abbrev pub writeTests : (P F B : List ℕ) (n k : ℕ) → List Refusal
-writeTests P F B n k = lengthRow F k ∷ lengthRow B n ∷ (9 when overflowing P F k) ∷ []
 
 module _ (C : Code) (P : List ℕ) where
   -- the record of a call that row 9 does not refuse
@@ -58,37 +51,35 @@ module _ (C : Code) (P : List ℕ) where
     room = eqb-true _ _ (not-false _ (c 1));
   }
     where
-      b : (first (planRows P) ≡ 0) × (first (writeTests P F B (cells C P) (size C P)) ≡ 0)
-      b = first-both (planRows P) (writeTests P F B (cells C P) (size C P)) tt e
+      b : (first (planRows P) ≡ 0) × (first (writeTests (modulus P) F B (cells C P) (size C P)) ≡ 0)
+      b = first-both (planRows P) (writeTests (modulus P) F B (cells C P) (size C P)) tt e
 
-      c : (i : ℕ) → testAt (writeTests P F B (cells C P) (size C P)) i ≡ false
-      c = first-clear (writeTests P F B (cells C P) (size C P)) tt (b .1)
+      c : (i : ℕ) → testAt (writeTests (modulus P) F B (cells C P) (size C P)) i ≡ false
+      c = first-clear (writeTests (modulus P) F B (cells C P) (size C P)) tt (b .1)
 
-      rest : testAt (writeTests P F B (cells C P) (size C P)) 2 ≡ false → first (recordRow C P F ∷ []) ≡ 0
+      rest : testAt (writeTests (modulus P) F B (cells C P) (size C P)) 2 ≡ false → first (recordRow C P F ∷ []) ≡ 0
       rest t = rw t
 
   -- a number that is the plan's, and that of one of the tests after it
   module _ (s u F : List ℕ) where
     pub photo-refused : (k : ℕ) → k ≡ checkNumber P → (k ≡ 0 → ⊥) → k ≡ first (photoRows C P s u F)
     unfolding photoRows planRows checkNumber
-    photo-refused k e h = first-refuses (planRows P) (photoTests P s u F (cells C P) (size C P)) tt k e h
+    photo-refused k e h = first-refuses (planRows P) (photoTests (modulus P) full s u F (cells C P) (size C P)) tt k e h
 
-    pub photo-at : {m n k : ℕ} (i : ℕ) → m ≡ checkNumber P → m ≡ 0 → n ≡ cells C P → k ≡ size C P →
-        Stops (photoTests P s u F n k) i → numberAt (photoTests P s u F n k) i ≡ first (photoRows C P s u F)
+    pub photo-passes : {m : ℕ} → m ≡ checkNumber P → m ≡ 0 →
+        first (photoTests (modulus P) full s u F (cells C P) (size C P)) ≡ first (photoRows C P s u F)
     unfolding photoRows planRows checkNumber
-    photo-at {n} {k} i e z f g h = first-at (photoTests P s u F n k) i h
-        ∙ rw (f, g) (first-passes (planRows P) (photoTests P s u F (cells C P) (size C P)) tt (sym e ∙ z))
+    photo-passes e z = first-passes (planRows P) (photoTests (modulus P) full s u F (cells C P) (size C P)) tt (sym e ∙ z)
 
   module _ (F B : List ℕ) where
     pub write-refused : (k : ℕ) → k ≡ checkNumber P → (k ≡ 0 → ⊥) → k ≡ writeNumber C P F B
     unfolding writeNumber writeRows planRows checkNumber
-    write-refused k e h = first-refuses (planRows P) (writeTests P F B (cells C P) (size C P)) tt k e h
+    write-refused k e h = first-refuses (planRows P) (writeTests (modulus P) F B (cells C P) (size C P)) tt k e h
 
-    pub write-at : {m n k : ℕ} (i : ℕ) → m ≡ checkNumber P → m ≡ 0 → n ≡ cells C P → k ≡ size C P →
-        Stops (writeTests P F B n k) i → numberAt (writeTests P F B n k) i ≡ writeNumber C P F B
+    pub write-passes : {m : ℕ} → m ≡ checkNumber P → m ≡ 0 →
+        first (writeTests (modulus P) F B (cells C P) (size C P)) ≡ writeNumber C P F B
     unfolding writeNumber writeRows planRows checkNumber
-    write-at {n} {k} i e z f g h = first-at (writeTests P F B n k) i h
-        ∙ rw (f, g) (first-passes (planRows P) (writeTests P F B (cells C P) (size C P)) tt (sym e ∙ z))
+    write-passes e z = first-passes (planRows P) (writeTests (modulus P) F B (cells C P) (size C P)) tt (sym e ∙ z)
 
   -- measuring: the photograph's number, and the test after it
   module _ (s u F : List ℕ) where
@@ -97,9 +88,9 @@ module _ (C : Code) (P : List ℕ) where
     measure-refused k e n = first-refuses (photoRows C P s u F) (recordRow C P F ∷ []) tt k e n
 
     pub measure-at : {m k : ℕ} (i : ℕ) → m ≡ first (photoRows C P s u F) → m ≡ 0 → k ≡ size C P →
-        Stops ((9 when overflowing P F k) ∷ []) i → numberAt ((9 when overflowing P F k) ∷ []) i ≡ measureNumber C P s u F
+        Stops ((9 when overflowing (modulus P) F k) ∷ []) i → numberAt ((9 when overflowing (modulus P) F k) ∷ []) i ≡ measureNumber C P s u F
     unfolding measureNumber measureRows photoRows planRows
-    measure-at {k} i e z f h = first-at ((9 when overflowing P F k) ∷ []) i h
+    measure-at {k} i e z f h = first-at ((9 when overflowing (modulus P) F k) ∷ []) i h
         ∙ rw f (first-passes (photoRows C P s u F) (recordRow C P F ∷ []) tt (sym e ∙ z))
 
     -- a photograph and a record of its plan are measured

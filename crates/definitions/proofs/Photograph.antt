@@ -15,15 +15,14 @@ use Rattle.definitions.specs.Refusals.{Refusal, _when_, first, accepted}
 use Rattle.definitions.specs.Plan.{modulus, planRows, checkNumber}
 use Rattle.definitions.specs.Code.{Code, cells, size}
 use Rattle.definitions.specs.Cost.{full, unread}
-use Rattle.definitions.specs.Calls.{lengthRow, strange, excessive, halfRead, photoRows}
+use Rattle.definitions.specs.Calls.{strange, excessive, halfRead, photoTests, photoRows}
 use Rattle.definitions.specs.Photograph.{Photograph}
 use Rattle.definitions.proofs.Refusals.{Numbered, first-append, first-at, first-clear, testAt, equal}
 
 module _ (C : Code) (P s u B : List ℕ) where
   -- the rows after the plan's
   abbrev rest : List Refusal
-  rest = lengthRow s (cells C P) ∷ lengthRow u (cells C P) ∷ lengthRow B (size C P) ∷ (7 when strange P s (cells C P))
-      ∷ (8 when excessive u (cells C P)) ∷ (8 when halfRead s u (cells C P)) ∷ []
+  rest = photoTests (modulus P) full s u B (cells C P) (size C P)
 
   split : first (photoRows C P s u B) ≡ accepted (checkNumber P) (first rest) (checkNumber P)
   unfolding photoRows checkNumber planRows
@@ -41,7 +40,7 @@ module _ (C : Code) (P s u B : List ℕ) where
   photo-accepted h l = split ∙ ap (λ k. accepted k (first rest) k) (h .sound) ∙ sym (first-at rest 6
       (equal _ _ (h .symbols), (equal _ _ (h .doubts), (equal _ _ l, (symbol, (doubt, (erased, tt)))))))
     where
-      symbol : strange P s (cells C P) ≡ false
+      symbol : strange (modulus P) s (cells C P) ≡ false
       symbol = none-any _ _ λ c m. one c (h .symbol c m)
         where
           one : (c : ℕ) → (at s c < modulus P) ⊎ (at s c ≡ unread) → leb (modulus P) (at s c) && not (eqb (at s c) unread) ≡ false
@@ -49,10 +48,10 @@ module _ (C : Code) (P s u B : List ℕ) where
               absurd (true≢false (sym t ∙ lt-leb _ _ k))
           one c (inr k) = both-false (leb (modulus P) (at s c)) (not (eqb (at s c) unread)) λ t. equal (at s c) unread k
 
-      doubt : excessive u (cells C P) ≡ false
+      doubt : excessive full u (cells C P) ≡ false
       doubt = none-any _ _ λ c m. le-ltb _ _ (h .doubt c m)
 
-      erased : halfRead s u (cells C P) ≡ false
+      erased : halfRead full s u (cells C P) ≡ false
       erased = none-any _ _ λ c m. both-false _ _ λ t. equal _ _ (h .erased c m (eqb-true _ _ t))
 
   module _ (e : first (photoRows C P s u B) ≡ 0) where

@@ -8,20 +8,24 @@ use native.Mathlib.Decide.{decLe}
 use native.Mathlib.Nat.{mul-le-mul}
 use lib.ListN.{length, take, length-append, length-take, length-drop}
 use lib.Seq.{take-all, take-append-seam, take-take}
-use Rattle.definitions.specs.Refusals.{first}
-use Rattle.definitions.specs.Plan.{checkNumber}
-use Rattle.definitions.specs.Code.{square, cells}
-use Rattle.definitions.specs.Calls.{photoRows}
+use Rattle.definitions.specs.Refusals.{Refusal, first}
+use Rattle.definitions.specs.Plan.{modulus, checkNumber}
+use Rattle.definitions.specs.Code.{square, size, cells}
+use Rattle.definitions.specs.Cost.{full}
+use Rattle.definitions.specs.Calls.{photoTests, photoRows}
 use Rattle.definitions.specs.Tray.{planOf, symbolsOf, doubtsOf, bufferOf, trayReading, Holds, longest}
 use Rattle.definitions.specs.Printed.{refusedLine, answerText, trayText}
-use Rattle.definitions.proofs.Refusals.{equal, unequal}
+use Rattle.definitions.proofs.Refusals.{first-at, equal, unequal}
 use Rattle.definitions.proofs.Sound.{sound}
 use Rattle.definitions.proofs.Nearest.{reads-refused}
-use Rattle.definitions.proofs.Accepted.{photo-refused, photo-at}
+use Rattle.definitions.proofs.Accepted.{photo-refused, photo-passes}
 
 module _ (input : List ℕ) where
   abbrev n : ℕ
   n = cells square (planOf input)
+
+  abbrev tests : List Refusal
+  tests = photoTests (modulus (planOf input)) full (symbolsOf input) (doubtsOf input) (bufferOf input) n (size square (planOf input))
 
   abbrev number : ℕ
   number = first (photoRows square (planOf input) (symbolsOf input) (doubtsOf input) (bufferOf input))
@@ -47,10 +51,10 @@ module _ (input : List ℕ) where
         go (yes l) =
             let a : length (symbolsOf input) ≡ n = simp (length-take, length-drop) (omega arith) in
             let b : length (doubtsOf input) ≡ n → ⊥ = simp length-drop (λ k. h (omega arith)) in
-            photo-text 6 (photo-at square _ _ _ _ 1 refl e refl refl (equal _ _ a, unequal _ _ b)) (λ k. omega arith)
+            photo-text 6 (first-at tests 1 (equal _ _ a, unequal _ _ b) ∙ photo-passes square _ _ _ _ refl e) (λ k. omega arith)
         go (no l) =
             let a : length (symbolsOf input) ≡ n → ⊥ = simp (length-take, length-drop) (λ k. omega (arith, whole)) in
-            photo-text 6 (photo-at square _ _ _ _ 0 refl e refl refl (unequal _ _ a)) (λ k. omega arith)
+            photo-text 6 (first-at tests 0 (unequal _ _ a) ∙ photo-passes square _ _ _ _ refl e) (λ k. omega arith)
 
     excess-text : longest < length input → refusedLine 6 ≡ trayText input
     excess-text l = let m = sound (planOf input) e .most in count-text λ h. omega (arith, mul-le-mul m m)

@@ -28,33 +28,36 @@ abbrev pub lengthRow : List ℕ → ℕ → Refusal
 lengthRow B n = 6 when not (eqb (length B) n)
 
 -- refusal 7, of n symbols: one is p or more and not 255
-abbrev pub strange : (P s : List ℕ) → ℕ → Bool
-strange P s n = any n λ c. leb (modulus P) (at s c) && not (eqb (at s c) unread)
+abbrev pub strange : (p : ℕ) (s : List ℕ) (n : ℕ) → Bool
+strange p s n = any n λ c. leb p (at s c) && not (eqb (at s c) unread)
 
--- refusal 8, of n doubts: one is above the full doubt; an unread cell's is not the full doubt
-abbrev pub excessive : List ℕ → ℕ → Bool
-excessive u n = any n λ c. ltb full (at u c)
+-- refusal 8, of n doubts, for the full doubt f: one is above f; an unread cell's is not f
+abbrev pub excessive : (f : ℕ) (u : List ℕ) (n : ℕ) → Bool
+excessive f u n = any n λ c. ltb f (at u c)
 
-abbrev pub halfRead : (s u : List ℕ) → ℕ → Bool
-halfRead s u n = any n λ c. eqb (at s c) unread && not (eqb (at u c) full)
+abbrev pub halfRead : (f : ℕ) (s u : List ℕ) (n : ℕ) → Bool
+halfRead f s u n = any n λ c. eqb (at s c) unread && not (eqb (at u c) f)
 
 -- refusal 9, of n coefficients: one is p or more
-abbrev pub overflowing : (P F : List ℕ) → ℕ → Bool
-overflowing P F n = any n λ k. leb (modulus P) (at F k)
+abbrev pub overflowing : (p : ℕ) (F : List ℕ) (n : ℕ) → Bool
+overflowing p F n = any n λ k. leb p (at F k)
 
 abbrev pub recordRow : Code → (P F : List ℕ) → Refusal
-recordRow C P F = 9 when overflowing P F (size C P)
+recordRow C P F = 9 when overflowing (modulus P) F (size C P)
 
--- refusals 1 to 8, for a photograph and a record or the buffer for one
-unfoldable pub photoRows : Code → (P s u F : List ℕ) → List Refusal
-photoRows C P s u F = planRows P
-    ++ lengthRow s (cells C P)
-    ∷ lengthRow u (cells C P)
-    ∷ lengthRow F (size C P)
-    ∷ (7 when strange P s (cells C P))
-    ∷ (8 when excessive u (cells C P))
-    ∷ (8 when halfRead s u (cells C P))
+-- refusals 6 to 8, for a photograph of n cells and a record, or the buffer for one, of k numbers
+abbrev pub photoTests : (p f : ℕ) (s u F : List ℕ) (n k : ℕ) → List Refusal
+photoTests p f s u F n k =
+    lengthRow s n
+    ∷ lengthRow u n
+    ∷ lengthRow F k
+    ∷ (7 when strange p s n)
+    ∷ (8 when excessive f u n)
+    ∷ (8 when halfRead f s u n)
     ∷ []
+
+unfoldable pub photoRows : Code → (P s u F : List ℕ) → List Refusal
+photoRows C P s u F = planRows P ++ photoTests (modulus P) full s u F (cells C P) (size C P)
 
 -- the cost D of a record, its changed count, and whether it is within the radius
 abbrev pub costOf : Code → (P s u F : List ℕ) → ℕ
@@ -80,8 +83,11 @@ readingOf C P s u F = record {
 }
 
 -- WRITING: refusals 1 to 6 and 9
+abbrev pub writeTests : (p : ℕ) (F B : List ℕ) (n k : ℕ) → List Refusal
+writeTests p F B n k = lengthRow F k ∷ lengthRow B n ∷ (9 when overflowing p F k) ∷ []
+
 unfoldable pub writeRows : Code → (P F B : List ℕ) → List Refusal
-writeRows C P F B = planRows P ++ lengthRow F (size C P) ∷ lengthRow B (cells C P) ∷ recordRow C P F ∷ []
+writeRows C P F B = planRows P ++ writeTests (modulus P) F B (cells C P) (size C P)
 
 unfoldable pub writeNumber : Code → (P F B : List ℕ) → ℕ
 writeNumber C P F B = first (writeRows C P F B)

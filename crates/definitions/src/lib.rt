@@ -16,10 +16,8 @@ pub struct Reading {
     pub class: u32,
 }
 
-// The doubt of a cell of which nothing is known; and the same as a byte of a photograph.
+// The doubt of a cell of which nothing is known.
 pub const FULL: u32 = 100;
-
-pub const FULL_BYTE: u8 = 100;
 
 // The symbol of a cell that was not read: an erasure.
 pub const UNREAD: u8 = 255;

@@ -3,10 +3,10 @@
 // file stdout has the numbers of document 01.
 use definitions::Reading;
 use text::magnitude;
-use traymark::measuring::traymark_measure_mark;
-use traymark::measuring::traymark_measure_strip;
-use traymark::writing::traymark_write_mark;
-use traymark::writing::traymark_write_strip;
+use traymark::measure::traymark_measure_mark;
+use traymark::measure::traymark_measure_strip;
+use traymark::write::traymark_write_mark;
+use traymark::write::traymark_write_strip;
 
 fn main() {
     let record = [3u8, 1, 2];

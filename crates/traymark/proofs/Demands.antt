@@ -33,10 +33,10 @@ use Rattle.definitions.proofs.Own.{own-photo, own-reading, own-read}
 use Rattle.definitions.proofs.Published.{photo-weighed}
 use Rattle.definitions.proofs.Margin.{measured-range, read-range, lowest, highest}
 use Rattle.distance.proofs.Cost.{cell-full}
-use Rattle.reed_solomon.proofs.Plan.{only-strip}
-use Rattle.reed_muller.proofs.Mark.{only-square}
-use Rattle.traymark.proofs.Outcome.{write-keeps, write-fills, measure-refuses, measure-gives, read-keeps, read-gives}
-use Rattle.records.proofs.Written.{mark-written}
+use Rattle.reading.proofs.StripReading.{only-strip}
+use Rattle.reading.proofs.MarkReading.{only-square}
+use Rattle.traymark.proofs.Answer.{write-keeps, write-fills, measure-refuses, measure-gives, read-keeps, read-gives}
+use Rattle.writing.proofs.Written.{mark-written}
 
 -- A plan is sound, all its bytes as in the table, exactly when checking it gives 0.
 pub sound-exactly : (P : List ℕ) → Sound P ↔ (checkNumber P ≡ 0)

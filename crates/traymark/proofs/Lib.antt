@@ -1,3 +1,4 @@
 -- What the calls guarantee, and what their proofs share.
 pub mod Demands
-pub mod Outcome
+pub mod Answer
+pub mod Kind

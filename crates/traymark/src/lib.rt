@@ -2,7 +2,7 @@
 // A slice is a pointer and a length to C. No call asks anything of its arguments: any bytes of any length get an answer, and the
 // refusals 1 to 12 are those of the table "What is returned".
 pub mod checks;
-pub mod measuring;
+pub mod measure;
 pub mod plans;
-pub mod reading;
-pub mod writing;
+pub mod read;
+pub mod write;

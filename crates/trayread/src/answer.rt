@@ -2,7 +2,7 @@
 use crate::lines;
 use polynomial::bivariate::start;
 use traymark::plans::traymark_check_plan;
-use traymark::reading::traymark_read_mark;
+use traymark::read::traymark_read_mark;
 ghost use mathlib.Core.Path.{_≡_};
 ghost use mathlib.Core.List.{List};
 ghost use Prim.Native.Nat.{ℕ, _+_, _*_, _≤_};

@@ -9,10 +9,10 @@ use Rattle.traymark.proofs.checks.is_excessive.Statement.{statement}
 use Rattle.traymark.proofs.checks.is_excessive.Tie as tie
 
 abbrev Inv-loop : tie.InvT-loop
-Inv-loop doubts n found₀ c₀ found c = (c ≤ n) × (found ≡ excessive doubts c)
+Inv-loop full doubts n found₀ c₀ found c = (c ≤ n) × (found ≡ excessive full doubts c)
 
 abbrev μ-loop : tie.MeasureT-loop
-μ-loop doubts n found₀ c₀ found c = n - c
+μ-loop full doubts n found₀ c₀ found c = n - c
 
 loop-holds : tie.Need-loop-holds Inv-loop μ-loop
 loop-holds c = (omega arith, sym (any-start _))

@@ -9,17 +9,13 @@ use Rattle.traymark.proofs.checks.is_half_read.Statement.{statement}
 use Rattle.traymark.proofs.checks.is_half_read.Tie as tie
 
 abbrev Inv-loop : tie.InvT-loop
-Inv-loop symbols doubts n found₀ c₀ found c = (c ≤ n) × (found ≡ halfRead symbols doubts c)
+Inv-loop full symbols doubts n found₀ c₀ found c = (c ≤ n) × (found ≡ halfRead full symbols doubts c)
 
 abbrev μ-loop : tie.MeasureT-loop
-μ-loop symbols doubts n found₀ c₀ found c = n - c
+μ-loop full symbols doubts n found₀ c₀ found c = n - c
 
 loop-holds : tie.Need-loop-holds Inv-loop μ-loop
 loop-holds c = (omega arith, sym (any-start _))
-
-shared-slice-read-is-half-read-cell-2 :
-    tie.Need-shared-slice-read-is-half-read-cell-2 Inv-loop μ-loop
-shared-slice-read-is-half-read-cell-2 c = search needs
 
 loop-again : tie.Need-loop-again Inv-loop μ-loop
 loop-again c = (omega arith, any-next _ _ (c .before .before .before .before .loop .inv .1) (c .is-half-read-cell .ensures))
@@ -34,8 +30,6 @@ is-half-read-spec =
     Inv-loop
     μ-loop
     loop-holds
-    (λ c. search needs)
-    shared-slice-read-is-half-read-cell-2
-    (λ c κs. search needs) (λ c. search needs) (λ c. search needs)
+    (λ c. search needs) (λ c. search needs) (λ c κs. search needs) (λ c. search needs) (λ c. search needs)
     loop-again
     returns)

@@ -9,10 +9,10 @@ use Rattle.traymark.proofs.checks.is_overflowing.Statement.{statement}
 use Rattle.traymark.proofs.checks.is_overflowing.Tie as tie
 
 abbrev Inv-loop : tie.InvT-loop
-Inv-loop plan «record» n p found₀ k₀ found k = (k ≤ n) × (found ≡ overflowing plan «record» k)
+Inv-loop p «record» n found₀ k₀ found k = (k ≤ n) × (found ≡ overflowing p «record» k)
 
 abbrev μ-loop : tie.MeasureT-loop
-μ-loop plan «record» n p found₀ k₀ found k = n - k
+μ-loop p «record» n found₀ k₀ found k = n - k
 
 loop-holds : tie.Need-loop-holds Inv-loop μ-loop
 loop-holds c = (omega arith, sym (any-start _))
@@ -21,7 +21,7 @@ loop-again : tie.Need-loop-again Inv-loop μ-loop
 loop-again c = (omega arith, any-next _ _ (c .before .before .loop .inv .1) refl)
 
 returns : tie.Need-returns Inv-loop μ-loop
-returns c = let e : c .before .loop .k ≡ c .before .before .before .args .n = omega arith in rw e at (c .before .loop .inv .1)
+returns c = let e : c .before .loop .k ≡ c .before .before .args .n = omega arith in rw e at (c .before .loop .inv .1)
 
 pub is-overflowing-spec : {M : Type 1} → statement M
 is-overflowing-spec =
@@ -29,7 +29,6 @@ is-overflowing-spec =
     (tie.spec
     Inv-loop
     μ-loop
-    (λ c. search needs)
     loop-holds
     (λ c. search needs) (λ c. search needs) (λ c. search needs)
     loop-again

@@ -9,10 +9,10 @@ use Rattle.traymark.proofs.checks.is_strange.Statement.{statement}
 use Rattle.traymark.proofs.checks.is_strange.Tie as tie
 
 abbrev Inv-loop : tie.InvT-loop
-Inv-loop plan symbols n p found₀ c₀ found c = (c ≤ n) × (found ≡ strange plan symbols c)
+Inv-loop p symbols n found₀ c₀ found c = (c ≤ n) × (found ≡ strange p symbols c)
 
 abbrev μ-loop : tie.MeasureT-loop
-μ-loop plan symbols n p found₀ c₀ found c = n - c
+μ-loop p symbols n found₀ c₀ found c = n - c
 
 loop-holds : tie.Need-loop-holds Inv-loop μ-loop
 loop-holds c = (omega arith, sym (any-start _))
@@ -21,7 +21,7 @@ loop-again : tie.Need-loop-again Inv-loop μ-loop
 loop-again c = (omega arith, any-next _ _ (c .before .before .before .loop .inv .1) (c .is-strange-symbol .ensures))
 
 returns : tie.Need-returns Inv-loop μ-loop
-returns c = let e : c .before .loop .c ≡ c .before .before .before .before .before .args .n = omega arith in rw e at (c .before .loop .inv .1)
+returns c = let e : c .before .loop .c ≡ c .before .before .before .args .n = omega arith in rw e at (c .before .loop .inv .1)
 
 pub is-strange-spec : {M : Type 1} → statement M
 is-strange-spec =
@@ -29,7 +29,6 @@ is-strange-spec =
     (tie.spec
     Inv-loop
     μ-loop
-    (λ c. search needs)
     loop-holds
     (λ c. search needs) (λ c κs. search needs) (λ c. search needs) (λ c. search needs)
     loop-again

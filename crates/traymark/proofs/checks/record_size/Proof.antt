@@ -1,4 +1,5 @@
--- `traymark::checks::record_size` meets its contract, for marks and for strips. Assumes nothing.
+-- `traymark::checks::record_size` meets its contract: for marks and for strips. Assumes nothing.
+use native.Mathlib.Omega.{arith}
 use borrow.Author.Needs.{needs}
 use Rattle.traymark.proofs.checks.record_size.Statement.{statement}
 use Rattle.traymark.proofs.checks.record_size.Tie as tie
@@ -13,6 +14,7 @@ pub record-size-spec : {M : Type 1} → statement M
 record-size-spec =
     tie.close
     (tie.spec
-    (λ c. search needs) (λ c. search needs) (λ c. search needs) (λ c κs. search needs)
+    (λ c. let g = c .before .pre in omega (arith, g .low, g .rows))
+    (λ c κs. let g = c .before .before .pre in omega (arith, g .low, g .rows))
     returns
     returns-2)

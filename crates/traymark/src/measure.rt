@@ -1,8 +1,6 @@
 // Measuring a record against a photographed mark or strip.
 use crate::checks;
 use definitions::Reading;
-use distance::summary;
-use records::measuring;
 ghost use mathlib.Core.Path.{_≡_};
 ghost use Rattle.definitions.specs.Code.{strip, square};
 ghost use Rattle.definitions.specs.Calls.{measureReading};
@@ -27,9 +25,9 @@ pub extern "C" fn traymark_measure_mark(
 {
     let number = checks::measure_number(true, plan, symbols, doubts, record);
     if number != 0 {
-        return summary::refused(number);
+        return answers::refused(number);
     }
-    measuring::measure_mark(plan, record, symbols, doubts)
+    measuring::measure_mark(plan::parse(plan), record, symbols, doubts)
 }
 
 // The same for a strip: `record` has d + 1 bytes, lowest power first, `symbols` and `doubts` have n.
@@ -44,7 +42,7 @@ pub extern "C" fn traymark_measure_strip(
 {
     let number = checks::measure_number(false, plan, symbols, doubts, record);
     if number != 0 {
-        return summary::refused(number);
+        return answers::refused(number);
     }
-    measuring::measure_strip(plan, record, symbols, doubts)
+    measuring::measure_strip(plan::parse(plan), record, symbols, doubts)
 }

@@ -1,7 +1,6 @@
 // Reading a photographed mark or strip: the one record within the radius, or refusal 10 where there is none.
 use crate::checks;
 use definitions::Reading;
-use distance::summary;
 ghost use mathlib.Core.Path.{_≡_};
 ghost use Rattle.definitions.specs.Code.{strip, square};
 ghost use Rattle.definitions.specs.Calls.{readReading, readBuffer};
@@ -28,9 +27,9 @@ pub extern "C" fn traymark_read_mark(
 {
     let number = checks::photo_number(true, plan, symbols, doubts, record);
     if number != 0 {
-        return summary::refused(number);
+        return answers::refused(number);
     }
-    marks::mark::read_mark(plan, symbols, doubts, record)
+    reading::mark::read_mark(plan::parse(plan), symbols, doubts, record)
 }
 
 // The same for a strip: `record` has d + 1 bytes, lowest power first, `symbols` and `doubts` have n, and the limit is 100 (n - d).
@@ -46,7 +45,7 @@ pub extern "C" fn traymark_read_strip(
 {
     let number = checks::photo_number(false, plan, symbols, doubts, record);
     if number != 0 {
-        return summary::refused(number);
+        return answers::refused(number);
     }
-    marks::reading::read_strip(plan, symbols, doubts, record)
+    reading::strip::read_strip(plan::parse(plan), symbols, doubts, record)
 }

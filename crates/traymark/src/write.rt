@@ -1,6 +1,5 @@
 // Writing the mark or the strip of a record.
 use crate::checks;
-use records::writing;
 ghost use mathlib.Core.Path.{_≡_};
 ghost use Rattle.definitions.specs.Code.{strip as stripCode, square};
 ghost use Rattle.definitions.specs.Calls.{writeNumber, writeBuffer};
@@ -21,7 +20,7 @@ pub extern "C" fn traymark_write_mark(plan: &[u8], record: &[u8], mark: &mut [u8
     if number != 0 {
         return number;
     }
-    writing::write_mark(plan, record, mark);
+    writing::write_mark(plan::parse(plan), record, mark);
     0
 }
 
@@ -35,6 +34,6 @@ pub extern "C" fn traymark_write_strip(plan: &[u8], record: &[u8], strip: &mut [
     if number != 0 {
         return number;
     }
-    writing::write_strip(plan, record, strip);
+    writing::write_strip(plan::parse(plan), record, strip);
     0
 }

@@ -9,8 +9,8 @@ use Rattle.definitions.specs.Calls.{refused, readingOf, photoRows, writeNumber,
 use Rattle.definitions.specs.Calls.{readNumber, readReading, readBuffer}
 use Rattle.definitions.specs.Reads.{Reads}
 use Rattle.definitions.proofs.Nearest.{reads-refused}
-use Rattle.marks.specs.Loading.{Taken}
-use Rattle.marks.proofs.Loading.{taken}
+use Rattle.reading.specs.Loading.{Taken}
+use Rattle.reading.proofs.Loading.{taken}
 
 other : {A : Type 0} (k : ℕ) (a b : A) → (k ≡ 0 → ⊥) → b ≡ accepted k a b
 other zero a b h = absurd (h refl)

@@ -1,0 +1,39 @@
+-- Marks and strips: the number of the test at which a check stops; and the checks by the struct that says what a plan does are those by
+-- the plan itself. Assumes nothing.
+use mathlib.Core.Path.{_≡_, refl}
+use mathlib.Core.Bool.{Bool, true, false}
+use mathlib.Core.List.{List}
+use Prim.Native.Nat.{ℕ}
+use Rattle.definitions.specs.Refusals.{first}
+use Rattle.definitions.specs.Plan.{modulus}
+use Rattle.definitions.specs.Code.{size, cells}
+use Rattle.definitions.specs.Cost.{full}
+use Rattle.definitions.specs.Calls.{photoTests, writeTests}
+use Rattle.definitions.proofs.Refusals.{Stops, numberAt, first-at}
+use Rattle.plan.specs.declared.Plan.{Plan}
+use Rattle.plan.specs.Says.{Says}
+use Rattle.traymark.specs.Kind.{codeOf, sizeOf, cellsOf, photoRefusal, writeRefusal}
+
+pub photo-at : (p f : ℕ) (s u F : List ℕ) {n k n′ k′ : ℕ} (i : ℕ) → n ≡ n′ → k ≡ k′ → Stops (photoTests p f s u F n k) i →
+    numberAt (photoTests p f s u F n k) i ≡ photoRefusal p f s u F n′ k′
+unfolding photoRefusal
+photo-at p f s u F {n} {k} i e h t = rw (← e, ← h) (first-at (photoTests p f s u F n k) i t)
+
+pub write-at : (p : ℕ) (F B : List ℕ) {n k n′ k′ : ℕ} (i : ℕ) → n ≡ n′ → k ≡ k′ → Stops (writeTests p F B n k) i →
+    numberAt (writeTests p F B n k) i ≡ writeRefusal p F B n′ k′
+unfolding writeRefusal
+write-at p F B {n} {k} i e h t = rw (← e, ← h) (first-at (writeTests p F B n k) i t)
+
+pub photo-said : (square : Bool) {P : List ℕ} {g : Plan} → Says P g → (s u F : List ℕ) →
+    photoRefusal (g .p) (g .full) s u F (cellsOf square g) (sizeOf square g)
+    ≡ first (photoTests (modulus P) full s u F (cells (codeOf square) P) (size (codeOf square) P))
+unfolding photoRefusal
+photo-said true says s u F = rw (says .fields) refl
+photo-said false says s u F = rw (says .fields) refl
+
+pub write-said : (square : Bool) {P : List ℕ} {g : Plan} → Says P g → (F B : List ℕ) →
+    writeRefusal (g .p) F B (cellsOf square g) (sizeOf square g)
+    ≡ first (writeTests (modulus P) F B (cells (codeOf square) P) (size (codeOf square) P))
+unfolding writeRefusal
+write-said true says F B = rw (says .fields) refl
+write-said false says F B = rw (says .fields) refl

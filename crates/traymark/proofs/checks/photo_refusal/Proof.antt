@@ -1,0 +1,59 @@
+-- `traymark::checks::photo_refusal` meets its contract: at each return the tests before it failed, and its own holds. Assumes nothing.
+use mathlib.Core.Path.{refl}
+use Rattle.definitions.proofs.Refusals.{equal, unequal, answered}
+use Rattle.traymark.proofs.Kind.{photo-at}
+use borrow.Author.Needs.{needs}
+use Rattle.traymark.proofs.checks.photo_refusal.Statement.{statement}
+use Rattle.traymark.proofs.checks.photo_refusal.Tie as tie
+
+ruleset tests = (answered, equal, unequal)
+
+returns : tie.Need-returns
+returns c = photo-at _ _ _ _ _ 0 (c .before .cell-count .ensures) refl (search tests depth 16)
+
+returns-2 : tie.Need-returns-2
+returns-2 c = photo-at _ _ _ _ _ 1 (c .before .before .cell-count .ensures) refl (search tests depth 16)
+
+returns-3 : tie.Need-returns-3
+returns-3 c =
+    let size = c .before in
+    photo-at _ _ _ _ _ 2 (size .before .before .before .cell-count .ensures) (size .record-size .ensures) (search tests depth 16)
+
+returns-4 : tie.Need-returns-4
+returns-4 c =
+    let size = c .before .before .before .before in
+    photo-at _ _ _ _ _ 3 (size .before .before .before .cell-count .ensures) (size .record-size .ensures) (search tests depth 16)
+
+returns-5 : tie.Need-returns-5
+returns-5 c =
+    let size = c .before .before .before .before .before .before .before in
+    photo-at _ _ _ _ _ 4 (size .before .before .before .cell-count .ensures) (size .record-size .ensures) (search tests depth 16)
+
+returns-6 : tie.Need-returns-6
+returns-6 c =
+    let strange = c .before .before .before .before .before .before .before in
+    let size = strange .before .before .before in
+    photo-at _ _ _ _ _ 5 (size .before .before .before .cell-count .ensures) (size .record-size .ensures) (search tests depth 16)
+
+returns-7 : tie.Need-returns-7
+returns-7 c =
+    let strange = c .before .before .before .before .before .before .before in
+    let size = strange .before .before .before in
+    photo-at _ _ _ _ _ 6 (size .before .before .before .cell-count .ensures) (size .record-size .ensures) (search tests depth 16)
+
+pub photo-refusal-spec : {M : Type 1} → statement M
+photo-refusal-spec =
+    tie.close
+    (tie.spec
+    (λ c κs. search needs)
+    returns
+    returns-2
+    (λ c κs. search needs)
+    returns-3
+    (λ c. search needs) (λ c κs. search needs)
+    returns-4
+    (λ c. search needs) (λ c κs. search needs)
+    returns-5
+    (λ c. search needs) (λ c κs. search needs)
+    returns-6
+    returns-7)

@@ -1,0 +1,39 @@
+-- `traymark::checks::write_refusal` meets its contract: at each return the tests before it failed, and its own holds. Assumes nothing.
+use mathlib.Core.Path.{refl}
+use Rattle.definitions.proofs.Refusals.{equal, unequal, answered}
+use Rattle.traymark.proofs.Kind.{write-at}
+use borrow.Author.Needs.{needs}
+use Rattle.traymark.proofs.checks.write_refusal.Statement.{statement}
+use Rattle.traymark.proofs.checks.write_refusal.Tie as tie
+
+ruleset tests = (answered, equal, unequal)
+
+returns : tie.Need-returns
+returns c = write-at _ _ _ 0 refl (c .before .record-size .ensures) (search tests depth 16)
+
+returns-2 : tie.Need-returns-2
+returns-2 c =
+    let count = c .before in
+    write-at _ _ _ 1 (count .cell-count .ensures) (count .before .before .record-size .ensures) (search tests depth 16)
+
+returns-3 : tie.Need-returns-3
+returns-3 c =
+    let count = c .before .before .before .before in
+    write-at _ _ _ 2 (count .cell-count .ensures) (count .before .before .record-size .ensures) (search tests depth 16)
+
+returns-4 : tie.Need-returns-4
+returns-4 c =
+    let count = c .before .before .before .before in
+    write-at _ _ _ 3 (count .cell-count .ensures) (count .before .before .record-size .ensures) (search tests depth 16)
+
+pub write-refusal-spec : {M : Type 1} → statement M
+write-refusal-spec =
+    tie.close
+    (tie.spec
+    (λ c κs. search needs)
+    returns
+    (λ c κs. search needs)
+    returns-2
+    (λ c. search needs) (λ c κs. search needs)
+    returns-3
+    returns-4)
