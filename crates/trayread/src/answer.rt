@@ -7,7 +7,7 @@ ghost use mathlib.Core.Path.{_≡_};
 ghost use mathlib.Core.List.{List};
 ghost use Prim.Native.Nat.{ℕ, _+_, _*_, _≤_};
 ghost use lib.ListN.{length, take};
-ghost use Rattle.definitions.specs.Plan.{season as seasonOf, checkNumber};
+ghost use Rattle.definitions.specs.Plan.{checkNumber};
 ghost use Rattle.definitions.specs.Code.{square};
 ghost use Rattle.definitions.specs.Calls.{readReading, readBuffer};
 ghost use Rattle.definitions.specs.Tray.{planOf, Holds};
@@ -58,16 +58,16 @@ fn answer_photo(input: &[u8], text: &mut [u8]) -> usize
     ensures { λ r. ⌜ Put (now (text .entry)) 0 (trayText (now (input .entry))) (now (text .exit)) r ⌝ }
 {
     let plan = &input[..24];
-    let n = plan[3] as usize;
-    let k = plan[4] as usize + 1;
-    let cells = n * n;
+    let said = plan::parse(plan);
+    let cells = said.a * said.b;
     let end = 24 + cells;
     if input.len() != end + cells {
         return lines::put_refused(text, 6);
     }
     let mut record = [0u8; 136];
-    let size = start(k);
+    let size = start(said.d + 1);
     answer_mark(
+        said.season as u32,
         plan,
         &input[24..end],
         &input[end..],
@@ -76,16 +76,17 @@ fn answer_photo(input: &[u8], text: &mut [u8]) -> usize
     )
 }
 
-// Reads the mark into the lent record.
+// Reads the mark of a season into the lent record.
 fn answer_mark(
+    season: u32,
     plan: &[u8],
     symbols: &[u8],
     doubts: &[u8],
     record: &mut [u8],
     text: &mut [u8],
 ) -> usize
-    requires { ⌜ (2 ≤ length (now plan)) × (68 + 4 * length (now «record») ≤ length (now text)) ⌝ }
-    ensures { λ r. ⌜ Put (now (text .entry)) 0 (answerText (seasonOf (now (plan .entry)))
+    requires { ⌜ 68 + 4 * length (now «record») ≤ length (now text) ⌝ }
+    ensures { λ r. ⌜ Put (now (text .entry)) 0 (answerText season
         (readReading square (now (plan .entry)) (now (symbols .entry)) (now (doubts .entry)) (now («record» .entry)))
         (readBuffer square (now (plan .entry)) (now (symbols .entry)) (now (doubts .entry)) (now («record» .entry))))
         (now (text .exit)) r ⌝ }
@@ -94,13 +95,6 @@ fn answer_mark(
     if reading.number != 0 {
         return lines::put_refused(text, reading.number);
     }
-    let at = lines::put_read(text, season(plan[0], plan[1]), reading);
+    let at = lines::put_read(text, season, reading);
     lines::put_record(text, at, record)
-}
-
-// A season's two bytes, the high one first.
-fn season(high: u8, low: u8) -> u32
-    ensures { λ r. ⌜ r ≡ high * 256 + low ⌝ }
-{
-    high as u32 * 256 + low as u32
 }

@@ -1,14 +1,14 @@
 -- `trayread::answer::answer_photo` meets its contract: the cells and the record of a sound plan fit. Assumes nothing.
 use mathlib.Core.Path.{_≡_, refl, sym, ap, _∙_}
 use mathlib.Core.List.{List, _∷_}
-use Prim.Native.Nat.{ℕ, zero, suc, _+_, _-_, _≤_, _<_}
+use Prim.Native.Nat.{ℕ, zero, suc, _+_, _*_, _-_, _≤_, _<_}
 use native.Mathlib.Omega.{arith}
 use native.Mathlib.Nat.{mul-le-mul, add-sub-cancel-left}
 use native.Mathlib.Numerals.{add-one}
 use lib.ListN.{length, take, drop, replicate, length-replicate, length-drop}
 use lib.Seq.{take-all}
 use borrow.Author.Needs.{needs}
-use Rattle.definitions.specs.Plan.{degree}
+use Rattle.definitions.specs.Plan.{season, degree}
 use Rattle.definitions.specs.Code.{square, size, cells}
 use Rattle.polynomial.specs.Record.{start}
 use Rattle.definitions.specs.Sound.{Sound}
@@ -16,6 +16,10 @@ use Rattle.definitions.specs.Tray.{planOf, bufferOf, trayReading, trayRecord}
 use Rattle.definitions.specs.Printed.{trayText}
 use Rattle.definitions.proofs.Sound.{sound}
 use Rattle.definitions.proofs.Tray.{count-text}
+use Rattle.plan.specs.declared.Plan.{Plan}
+use Rattle.plan.specs.Says.{Says, Ready}
+use Rattle.plan.proofs.Ready.{ready}
+use Rattle.plan.proofs.Values.{mark-cells}
 use Rattle.polynomial.proofs.Record.{start-next, start-most}
 use Rattle.trayread.proofs.answer.answer_photo.Statement.{statement}
 use Rattle.trayread.proofs.answer.answer_photo.Tie as tie
@@ -44,54 +48,78 @@ module _ (s : tie.Start) where
   cut : (n : ℕ) → n ≡ size square (planOf input) → take {A = ℕ} n (replicate 136 0) ≡ bufferOf input
   cut n e = rw e (zeros (size square (planOf input)) 136 size-most)
 
+  -- what the plan's struct says
+  module _ {g : Plan} (says : Says (planOf input) g) where
+    fits : Ready g
+    fits = ready plan says
+
+    cells-most : g .a * g .b ≤ 256
+    cells-most = mul-le-mul (fits .rows) (fits .columns)
+
+    size-is : {n : ℕ} → n ≡ start (g .d + 1) → n ≡ size square (planOf input)
+    size-is e = rw (says .fields) at e
+
+    season-is : g .season ≡ season (planOf input)
+    season-is = rw (says .fields) refl
+
 returns : tie.Need-returns
 returns c =
-    let t = c .before .before .before .before in
-    let s = t .before .before .before .before .before .before in
-    let e = count-text (input s) (s .pre .0) (λ e. t .if1 .taken (omega (arith, e))) in
+    let test = c .before .before .before .before in
+    let parsed = test .before .before in
+    let s = parsed .before .before .before .before in
+    let says = parsed .parse .ensures in
+    let e = count-text (input s) (s .pre .0) (λ e. test .if1 .taken (omega (arith, e, mark-cells says))) in
     rw (← e) (c .before .before .put-refused .ensures)
 
 returns-2 : tie.Need-returns-2
 unfolding trayText trayReading trayRecord
 returns-2 c =
-    let a = c .before .before .before in
-    let t = a .before .before .before .before .before in
-    let s = t .before .before .before .before .before .before .before in
+    let answered = c .before .before .before in
+    let sized = answered .before .before .before .before .before .before in
+    let test = sized .before .before in
+    let parsed = test .before .before in
+    let s = parsed .before .before .before .before in
+    let says = parsed .parse .ensures in
     let i = input s in
     let n = cells square (planOf i) in
     let l : length (drop (24 + n) i) ≤ length i - (24 + n) = simp length-drop (omega arith) in
     let u = take-all (length i - (24 + n)) (drop (24 + n) i) l in
-    rw (add-sub-cancel-left 24 n, u, cut s (t .start .result) (t .start .ensures))
-    at (a .answer-mark .ensures)
+    rw (← mark-cells says, add-sub-cancel-left 24 n, u, cut s (sized .start .result) (size-is s says (sized .start .ensures)), season-is s says)
+    at (answered .answer-mark .ensures)
 
 pub answer-photo-spec : {M : Type 1} → statement M
 answer-photo-spec =
     tie.close
     (tie.spec
     (λ c. sym (plan (c .before .before .before) .whole))
-    (λ c. omega (arith, plan (c .before .before .before .before) .whole))
-    (λ c. omega (arith, c .shared-slice-known2 .given 3))
-    (λ c. omega (arith, plan (c .before .before .before .before .before) .whole))
-    (λ c. omega (arith, c .shared-slice-known3 .given 4))
-    (λ c. omega (arith, c .shared-slice-known3 .given 4))
-    (λ c. let m = plan (c .before .before .before .before .before) .most in omega (arith, mul-le-mul m m))
-    (λ c. let m = plan (c .before .before .before .before .before) .most in omega (arith, mul-le-mul m m))
-    (λ c. let m = plan (c .before .before .before .before .before) .most in omega (arith, mul-le-mul m m))
+    (λ c κs. plan (c .before .before .before))
+    (λ c. let parsed = c .before in omega (arith, cells-most (parsed .before .before .before .before) (parsed .parse .ensures)))
+    (λ c. let parsed = c .before in omega (arith, cells-most (parsed .before .before .before .before) (parsed .parse .ensures)))
+    (λ c. let parsed = c .before in omega (arith, cells-most (parsed .before .before .before .before) (parsed .parse .ensures)))
     (λ c κs. search needs) (λ c. search needs)
     returns
-    (λ c κs. let p = plan (c .before .before .before .before .before .before) in omega (arith, p .low, p .most))
+    (λ c. let parsed = c .before .before .before in let g = fits (parsed .before .before .before .before) (parsed .parse .ensures) in
+    omega (arith, g .low, g .rows))
+    (λ c κs. let parsed = c .before .before .before in let g = fits (parsed .before .before .before .before) (parsed .parse .ensures) in
+    omega (arith, g .low, g .rows))
     (λ c. search needs) (λ c. search needs) (λ c. search needs) (λ c. search needs) (λ c. search needs) (λ c. search needs)
+    (λ c. search needs)
     (λ c.
-    let t = c .before .before in
-    omega (arith, t .start .ensures, size-most (t .before .before .before .before .before .before .before)))
+    let sized = c .before .before .before in
+    let parsed = sized .before .before .before .before in
+    let s = parsed .before .before .before .before in
+    omega (arith, size-is s (parsed .parse .ensures) (sized .start .ensures), size-most s))
     (λ c.
-    let t = c .before .before .before in
-    let s = t .before .before .before .before .before .before .before in
-    rw (cut s (t .start .result) (t .start .ensures)) (t .start .ensures ∙ sym (length-replicate _ _)))
+    let sized = c .before .before .before .before in
+    let parsed = sized .before .before .before .before in
+    let s = parsed .before .before .before .before in
+    let e = size-is s (parsed .parse .ensures) (sized .start .ensures) in
+    rw (cut s (sized .start .result) e) (e ∙ sym (length-replicate _ _)))
     (λ c κs.
-    let t = c .before .before .before .before in
-    let s = t .before .before .before .before .before .before .before in
-    rw (cut s (t .start .result) (t .start .ensures), length-replicate)
-    (omega (arith, plan s .whole), omega (arith, s .pre .1, size-most s)))
+    let sized = c .before .before .before .before .before in
+    let parsed = sized .before .before .before .before in
+    let s = parsed .before .before .before .before in
+    let e = size-is s (parsed .parse .ensures) (sized .start .ensures) in
+    rw (cut s (sized .start .result) e, length-replicate) (omega (arith, s .pre .1, size-most s)))
     (λ c. search needs)
     returns-2)
