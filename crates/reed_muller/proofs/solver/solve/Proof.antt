@@ -10,17 +10,6 @@ returns c =
     let compared = c .before in
     compared .before .try-cells .ensures .under (omega (arith, c .if1 .taken, compared .radius .ensures))
 
-solve-by-degrees-requires : tie.Need-solve-by-degrees-requires
-solve-by-degrees-requires c κs =
-    let over = c .before .before .before in
-    let tried = over .before .before in
-    let made = tried .before .before .before .before in
-    let (f, I, sq, du, _) = made .before .before .pre in
-    let D = tried .try-cells .ensures in
-    let all = D .over (omega (arith, over .if1 .left, over .before .radius .ensures)) in
-    let (R, P) = made .powers .ensures in
-    (f, I, record { rows = R; powers = P }, rw all sq, du, D .coefficients)
-
 returns-2 : tie.Need-returns-2
 returns-2 c =
     let over = c .before .before .before .before in
@@ -33,5 +22,13 @@ solve-spec =
     (tie.spec
     (λ c κs. search needs) (λ c κs. search needs) (λ c κs. search needs)
     returns
-    solve-by-degrees-requires
+    (λ c κs.
+    let over = c .before .before .before in
+    let tried = over .before .before in
+    let made = tried .before .before .before .before in
+    let (f, I, sq, du, _) = made .before .before .pre in
+    let D = tried .try-cells .ensures in
+    let all = D .over (omega (arith, over .if1 .left, over .before .radius .ensures)) in
+    let (R, P) = made .powers .ensures in
+    (f, I, record { rows = R; powers = P }, rw all sq, du, D .coefficients))
     returns-2)

@@ -62,20 +62,6 @@ returns-2 c =
     drawn-solved (solving-drawn (solving-redrawn (found turn) (drafted .from-lines .ensures))) (c .before .complete .ensures)
     (omega (arith, c .if4 .taken, radius))
 
-loop-again : tie.Need-loop-again Inv-loop μ-loop
-loop-again c =
-    let drafted = c .before .before .before .before .before in
-    let turn = drafted .before .before .before .before .before .before in
-    let radius = head (turn .before .before) .before .before .radius .ensures in
-    let over = c .before .complete .ensures .over (omega (arith, c .if4 .left, radius)) in
-    (omega (arith, low (turn .before .before)), rw over (solving-redrawn (found turn) (drafted .from-lines .ensures)))
-
-loop-again-2 : tie.Need-loop-again-2 Inv-loop μ-loop
-loop-again-2 c =
-    let drafted = c .before in
-    let turn = drafted .before .before .before .before .before .before in
-    (omega (arith, low (turn .before .before)), solving-redrawn (found turn) (drafted .from-lines .ensures))
-
 returns-3 : tie.Need-returns-3 Inv-loop μ-loop
 returns-3 c =
     let l = c .before .before .before .loop in
@@ -86,8 +72,7 @@ pub solve-by-degrees-spec : {M : Type 1} → statement M
 solve-by-degrees-spec =
     tie.close
     (tie.spec
-    Inv-loop
-    μ-loop
+    Inv-loop μ-loop
     (λ c κs. search needs) (λ c. search needs)
     (λ c.
     let start = c .before .before in
@@ -116,9 +101,17 @@ solve-by-degrees-spec =
     (b .0, b .2, omega (arith, low s), drafted .from-lines .ensures .rows, found turn .rows, b .4))
     returns-2
     (λ c. search needs)
-    loop-again
+    (λ c.
+    let drafted = c .before .before .before .before .before in
+    let turn = drafted .before .before .before .before .before .before in
+    let radius = head (turn .before .before) .before .before .radius .ensures in
+    let over = c .before .complete .ensures .over (omega (arith, c .if4 .left, radius)) in
+    (omega (arith, low (turn .before .before)), rw over (solving-redrawn (found turn) (drafted .from-lines .ensures))))
     (λ c. search needs)
-    loop-again-2
+    (λ c.
+    let drafted = c .before in
+    let turn = drafted .before .before .before .before .before .before in
+    (omega (arith, low (turn .before .before)), solving-redrawn (found turn) (drafted .from-lines .ensures)))
     (λ c. search needs)
     (λ c. let turn = c .before .before .before in (omega (arith, low (turn .before .before)), found turn))
     (λ c κs. search needs)

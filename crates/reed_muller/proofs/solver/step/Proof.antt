@@ -23,25 +23,12 @@ module _ (c : tie.After-struct-known3) where
   small : start .args .t < 16
   small = let b = start .pre in omega (arith, b .3, b .0 .low, b .0 .rows)
 
-decode-requires : tie.Need-decode-requires
-decode-requires c κs =
-    let b = start c .pre in
-    (leading-received (b .0) (answered c .answer .ensures) (led c .place-of-each .ensures) (b .3), b .1)
-
 returns : tie.Need-returns
 returns c =
     let read = c .before .before .before in
     let s = read .before in
     stepped-none (start s .pre .0) (answered s .answer .ensures) (led s .place-of-each .ensures) (read .decode .ensures)
     (not-true _ (c .if1 .taken)) _ _
-
-subtract-requires : tie.Need-subtract-requires
-subtract-requires c κs =
-    let found = c .before .before .before in
-    let read = found .before .before .before in
-    let (f, _, P, _, sq, _, _) = start (read .before) .pre in
-    let values = read .decode .ensures .values (not-false _ (found .if1 .left)) in
-    (f, sq, result-row _ (positive f) values, P .rows .done _ (small (read .before)))
 
 returns-2 : tie.Need-returns-2
 returns-2 c =
@@ -62,11 +49,18 @@ step-spec =
     let start = answered .before .before .before in
     omega (arith, line-full (start .args .t) (start .pre .0)))
     (λ c. search needs)
-    decode-requires
+    (λ c κs.
+    let b = start c .pre in
+    (leading-received (b .0) (answered c .answer .ensures) (led c .place-of-each .ensures) (b .3), b .1))
     returns
     (λ c. let read = c .before .before .before .before .before in omega (arith, small (read .before)))
     (λ c. let read = c .before .before .before .before .before in small (read .before))
-    subtract-requires
+    (λ c κs.
+    let found = c .before .before .before in
+    let read = found .before .before .before in
+    let (f, _, P, _, sq, _, _) = start (read .before) .pre in
+    let values = read .decode .ensures .values (not-false _ (found .if1 .left)) in
+    (f, sq, result-row _ (positive f) values, P .rows .done _ (small (read .before))))
     (λ c κs.
     let read = c .before .before .before .before .before .before .before in
     answered (read .before) .answer .ensures .size)

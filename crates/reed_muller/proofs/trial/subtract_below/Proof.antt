@@ -26,21 +26,6 @@ below c =
     let b = c .before .before .pre in
     omega (arith, c .before .loop .inv .0, c .loop-test .taken, b .4, b .0 .low, b .0 .rows)
 
-loop-again : tie.Need-loop-again Inv-loop μ-loop
-loop-again c =
-    let valued = c .before .before .before in
-    let turn = valued .before .before .before in
-    let l = turn .before .loop in
-    let start = turn .before .before in
-    let (f, _, xs, ys, _, _, _) = start .pre in
-    let g = start .args .g in
-    let e : l .j ≡ suc (l .j - 1) = omega arith in
-    let values = valued .values .ensures .1 (g .x) (powers-less (g .p) (g .x) (omega arith) xs) in
-    let W = c .subtract .ensures in
-    let lessened = without-subtracted (l .j - 1) f _ _ (line (start .args .columns .now) (l .j - 1)) (l .inv .1) values
-    (ys .powers .done (l .j - 1) (omega arith)) W in
-    (omega arith, W .rows, λ s u D. drawn-next (omega arith) (rw e at (l .inv .2 s u D)) (W .rows) lessened)
-
 returns : tie.Need-returns Inv-loop μ-loop
 returns c =
     let l = c .before .loop in
@@ -51,8 +36,7 @@ pub subtract-below-spec : {M : Type 1} → statement M
 subtract-below-spec =
     tie.close
     (tie.spec
-    Inv-loop
-    μ-loop
+    Inv-loop μ-loop
     (λ c. (omega arith, c .pre .6, λ s u D. D))
     (λ c. search needs) (λ c. search needs)
     (λ c. omega (arith, below (c .before)))
@@ -68,5 +52,17 @@ subtract-below-spec =
     let (f, _, _, ys, _, _, _) = turn .before .before .pre in
     (f, turn .before .loop .inv .1, c .before .before .values .ensures .0, ys .rows .done _ (below turn)))
     (λ c. search needs)
-    loop-again
+    (λ c.
+    let valued = c .before .before .before in
+    let turn = valued .before .before .before in
+    let l = turn .before .loop in
+    let start = turn .before .before in
+    let (f, _, xs, ys, _, _, _) = start .pre in
+    let g = start .args .g in
+    let e : l .j ≡ suc (l .j - 1) = omega arith in
+    let values = valued .values .ensures .1 (g .x) (powers-less (g .p) (g .x) (omega arith) xs) in
+    let W = c .subtract .ensures in
+    let lessened = without-subtracted (l .j - 1) f _ _ (line (start .args .columns .now) (l .j - 1)) (l .inv .1) values
+    (ys .powers .done (l .j - 1) (omega arith)) W in
+    (omega arith, W .rows, λ s u D. drawn-next (omega arith) (rw e at (l .inv .2 s u D)) (W .rows) lessened))
     returns)
