@@ -2,7 +2,7 @@
 // reciprocal of p (crate `field`).
 ghost use mathlib.Core.Path.{_≡_};
 ghost use mathlib.Core.List.{List};
-ghost use Prim.Native.Nat.{ℕ, suc, _+_, _*_, _%_, _^_, _<_};
+ghost use Prim.Native.Nat.{ℕ, suc, _+_, _*_, _%_, _<_};
 ghost use Rattle.bounded.specs.Bounded.{at};
 ghost use Rattle.field.specs.Row.{row, Row, Reciprocal};
 ghost use Rattle.polynomial.specs.Eval.{eval};
@@ -23,21 +23,6 @@ pub fn powers(x: [u16; 16], d: usize, p: u16, m: u16) -> [[u16; 16]; 16]
         t += 1;
     }
     rows
-}
-
-// The powers t of the points x.
-pub fn power(x: [u16; 16], t: usize, p: u16, m: u16) -> [u16; 16]
-    requires { ⌜ Reciprocal p m × Row p x ⌝ }
-    ensures { λ r. ⌜ r ≡ row (λ j. at x j ^ t % p) ⌝ }
-{
-    let mut power = [1; 16];
-    let mut i = 0;
-    while i < t {
-        let next = field::rows::multiply(power, x, p, m);
-        power = next;
-        i += 1;
-    }
-    power
 }
 
 // c v added to the sums. The bounds keep each of them within 32 bits.

@@ -16,7 +16,7 @@ use Rattle.distance.specs.Doubts.{Doubts}
 use Rattle.reed_solomon.specs.Strip.{Strip}
 use Rattle.reed_solomon.specs.Axis.{Valid}
 use Rattle.reed_muller.specs.declared.grid.Grid.{Grid}
-use Rattle.reed_muller.specs.Fit.{Fit}
+use Rattle.reed_muller.specs.Fit.{Fit, lineAxis, stripAxis}
 use Rattle.reed_muller.specs.Loops.{cellAt}
 use Rattle.reed_muller.specs.Answers.{unknown, Answer, Known, Answered}
 use Rattle.reed_muller.proofs.Line.{line-answered, line-unanswered}
@@ -25,7 +25,8 @@ pub row-zeros : {p : ℕ} → 0 < p → Row p (replicate 16 0)
 row-zeros z = row-of z refl λ j k. rw (getD-replicate {A = ℕ} 16 j 0 0 k) z
 
 -- a place of each of some rows
-pub column-row : {p : ℕ} {rows : List (List ℕ)} {l : List ℕ} (t : ℕ) → 0 < p → Rows p rows → l ≡ row (λ r. cellAt rows r t) → Row p l
+pub column-row : {p : ℕ} {rows : List (List ℕ)} {l : List ℕ} (t : ℕ) → 0 < p → Rows p rows → l ≡ row (λ r. cellAt rows r t) →
+    Row p l
 column-row {rows} t z R e = rw e (row-of z (length-tab 16 _) λ r k. rw (row-at (λ r. cellAt rows r t) r k) (R .done r k .small t))
 
 pub positive : {g : Grid} → Fit g → 0 < g .p
@@ -40,7 +41,7 @@ line-full {g} t f =
 
 -- the axis of a line, read at the degree t, and that of what the lines hand on
 module _ {g : Grid} {t : ℕ} (f : Fit g) (low : t ≤ g .d) where
-  pub line-valid : Valid (record { p = g .p; m = g .m; x = g .y; n = g .b; k = t; full = g .full })
+  pub line-valid : Valid (lineAxis g t)
   line-valid = record {
     prime = f .prime;
     reciprocal = f .reciprocal;
@@ -51,7 +52,7 @@ module _ {g : Grid} {t : ℕ} (f : Fit g) (low : t ≤ g .d) where
     full = omega (arith, f .full);
   }
 
-  pub strip-valid : Valid (record { p = g .p; m = g .m; x = g .x; n = g .a; k = g .d - t; full = g .full * (g .b - t) })
+  pub strip-valid : Valid (stripAxis g t)
   strip-valid = record {
     prime = f .prime;
     reciprocal = f .reciprocal;

@@ -1,8 +1,9 @@
 -- Columns that were drafted: they are subtracted one by one, and under the radius they are the answer. Assumes nothing.
 use mathlib.Core.Path.{_≡_, refl, ap}
 use mathlib.Core.List.{List}
-use Prim.Native.Nat.{ℕ, suc, _-_, _≤_, _<_}
+use Prim.Native.Nat.{ℕ, suc, _+_, _-_, _≤_, _<_}
 use native.Mathlib.Omega.{arith}
+use native.Mathlib.Numerals.{add-one}
 use Rattle.bounded.specs.Bounded.{at}
 use Rattle.field.specs.Congruence.{Cong}
 use Rattle.field.proofs.Congruence.{same, ~sym, _⨾_}
@@ -12,7 +13,7 @@ use Rattle.polynomial.proofs.Eval.{eval-cong}
 use Rattle.reed_muller.specs.declared.grid.Grid.{Grid}
 use Rattle.reed_muller.specs.Degree.{lines}
 use Rattle.reed_muller.specs.Loops.{line}
-use Rattle.reed_muller.specs.Steps.{found, Lessened, limit, Solving, Drawn, Redrawn, Completed, Solved}
+use Rattle.reed_muller.specs.Steps.{found, Lessened, limit, Solving, Drawn, Redrawn, Completed, Solved, Drafted}
 use Rattle.reed_muller.proofs.Degree.{costs-start, costs-next}
 use Rattle.reed_muller.proofs.Rest.{rest-start, rest-next}
 
@@ -64,3 +65,12 @@ pub drawn-solved : {g : Grid} {t cost : ℕ} {s u left left′ columns : List (L
     Completed g t u columns left left′ cost →
     cost < limit g → Solved g s u left′ columns cost
 drawn-solved {s} D C l = record { under = λ _. let (e, f) = C .under l in (e, f s D); over = λ h. absurd (omega arith) }
+
+-- a draft of all columns
+pub drawn-drafted : {g : Grid} {cost : ℕ} {s u left columns : List (List ℕ)} → Rows (g .p) s → Rows (g .p) columns →
+    Completed g (g .d + 1) u columns s left cost → Drafted g s u left columns cost
+drawn-drafted {g} {u = u} rows coefficients C = record {
+  coefficients = coefficients;
+  under = drawn-solved (rw (← add-one (g .d)) at (drawn-start {g = g} {u = u} rows coefficients)) C;
+  over = C .over;
+}

@@ -20,15 +20,17 @@ use Rattle.field.proofs.Row.{row-at, result-row, result-cong}
 use Rattle.polynomial.specs.Eval.{eval}
 use Rattle.polynomial.specs.Powers.{Rows}
 use Rattle.polynomial.proofs.Eval.{eval-cong}
-use Rattle.reed_solomon.specs.Strip.{Strip}
+use Rattle.reed_solomon.specs.declared.decoder.Decoded as Strip
+use Rattle.reed_solomon.specs.Axis.{Received}
+use Rattle.reed_solomon.specs.Decoded.{StripDecoded}
 use Rattle.reed_muller.specs.declared.grid.Grid.{Grid}
 use Rattle.reed_muller.specs.Line.{HandsOn}
 use Rattle.reed_muller.specs.Degree.{lines}
-use Rattle.reed_muller.specs.Fit.{Fit, DoubtRows}
+use Rattle.reed_muller.specs.Fit.{Fit, DoubtRows, stripAxis}
 use Rattle.reed_muller.specs.Loops.{line, cellAt}
 use Rattle.reed_muller.specs.Answers.{unknown, Answer, kept, KnownRows, AnsweredRows}
 use Rattle.reed_muller.specs.Steps.{found, Without, Lessened, limit, left-over, Stepped, Solving, Solved}
-use Rattle.reed_muller.proofs.Answers.{positive, column-row}
+use Rattle.reed_muller.proofs.Answers.{positive, column-row, strip-valid}
 use Rattle.reed_muller.proofs.Line.{answer-carried}
 use Rattle.reed_muller.proofs.Degree.{grid-start, grid-none, grid-next, grid-over}
 use Rattle.reed_muller.proofs.Drawn.{solving-drawn}
@@ -99,51 +101,56 @@ module _ {g : Grid} {j : ℕ} (f : Fit g) (left u left′ ws : List (List ℕ)) 
   }
 
 -- what the lines hand on is a strip: its symbols are a row, its doubts at most the full one
-module _ {g : Grid} {t : ℕ} (f : Fit g) (left u ws : List (List ℕ)) {e v : List ℕ} (A : AnsweredRows g t left u ws v)
+module _ {g : Grid} {t : ℕ} (f : Fit g) {left u ws : List (List ℕ)} {e v : List ℕ} (A : AnsweredRows g t left u ws v)
     (leading : e ≡ row λ r. cellAt ws r t) where
-  pub leading-row : Row (g .p) e
-  leading-row = column-row t (positive f) (A .rows) leading
+  pub leading-received : t ≤ g .d → Received (stripAxis g t) e v
+  leading-received low = record {
+    axis = strip-valid f low;
+    symbols = column-row t (positive f) (A .rows) leading;
+    doubts = λ r l. A .answered r l .entered .below;
+  }
 
-  pub leading-entered : (r : ℕ) → r < g .a → HandsOn (g .p - 1) (g .full) (g .b) t (at (g .y)) (cellAt left r) (cellAt u r)
+  leading-entered : (r : ℕ) → r < g .a → HandsOn (g .p - 1) (g .full) (g .b) t (at (g .y)) (cellAt left r) (cellAt u r)
       (at e r) (at v r)
   leading-entered r l = rw (leading, row-at (λ r. cellAt ws r t) r (omega (arith, f .rows))) (A .answered r l .entered)
 
-  module _ {column : List ℕ} {cost : ℕ} {ok : Bool} (good : Row (g .p) column)
-      (S : Strip (g .p - 1) (g .full * (g .b - t)) (g .a) (g .d - t) (at (g .x)) (at e) (at v) ok (at column) cost) where
-    pub stepped-none : ok ≡ false → (left′ : List (List ℕ)) (vs : List ℕ) → Stepped g t left u left′ ws false column vs
+  -- the strip, read
+  module _ {strip : Strip.Decoded} (D : StripDecoded (stripAxis g t) e v strip) where
+    pub stepped-none : strip .found ≡ false → (left′ : List (List ℕ)) (vs : List ℕ) →
+        Stepped g t left u left′ ws false (strip .message) vs
     stepped-none z left′ vs = record {
       e = e;
       v = v;
-      cost = cost;
+      cost = strip .cost;
       entered = leading-entered;
-      strip = rw z at S;
-      good = good;
+      strip = rw z at (D .strip);
+      good = D .small;
       lines = A .rows;
       rows = λ y. absurd (false≢true y);
       subtracted = λ y. absurd (false≢true y);
       known = λ y. absurd (false≢true y);
     }
 
-    pub stepped-found : ok ≡ true → {z w v′ : List ℕ} {left′ : List (List ℕ)} → DoubtRows g u → Rows (g .p) left →
-        z ≡ row (λ r. eval (suc (g .d - t)) (at column) (at (g .x) r) % g .p) → w ≡ row (λ c. at (g .y) c ^ t % g .p) →
-        Without g left z w left′ →
-        v′ ≡ row (λ r. kept (at e r) (at z r) (at v r) (g .full * (g .b - t))) → Stepped g t left u left′ ws true column v′
-    stepped-found y {z} {w} {v′} {left′} du sq values power W carried = record {
+    pub stepped-found : strip .found ≡ true → {w v′ : List ℕ} {left′ : List (List ℕ)} → DoubtRows g u → Rows (g .p) left →
+        w ≡ row (λ c. at (g .y) c ^ t % g .p) → Without g left (strip .values) w left′ →
+        v′ ≡ row (λ r. kept (at e r) (at (strip .values) r) (at v r) (g .full * (g .b - t))) →
+        Stepped g t left u left′ ws true (strip .message) v′
+    stepped-found y {w} {v′} {left′} du sq power W carried = record {
       e = e;
       v = v;
-      cost = cost;
+      cost = strip .cost;
       entered = leading-entered;
-      strip = rw y at S;
-      good = good;
+      strip = rw y at (D .strip);
+      good = D .small;
       lines = A .rows;
       rows = λ _. W .rows;
-      subtracted = λ _. S′;
-      known = λ _ j i. known-next f left u left′ ws column {z = z} du (rw i at A) (rw i at leading) (rw i at values)
-          (rw i at carried) (rw i at S′);
+      subtracted = λ _. S;
+      known = λ _ j i. known-next f left u left′ ws (strip .message) {z = strip .values} du (rw i at A) (rw i at leading)
+          (rw i at (D .values y)) (rw i at carried) (rw i at S);
     }
       where
-        S′ : (r : ℕ) → r < g .a → Lessened g t column left left′ r
-        S′ = without-subtracted t f left left′ column sq values power W
+        S : (r : ℕ) → r < g .a → Lessened g t (strip .message) left left′ r
+        S = without-subtracted t f left left′ (strip .message) sq (D .values y) power W
 
 -- the steps start: nothing is found, all is left, and no answer is known
 pub solving-start : {g : Grid} {s u columns ws : List (List ℕ)} {vs : List ℕ} → Fit g → Rows (g .p) s → Rows (g .p) columns →
@@ -161,9 +168,12 @@ solving-start {g} f sq cs ms e h = record {
   };
 }
 
-module _ {g : Grid} {t : ℕ} (f : Fit g) (td : t ≤ g .d) (s u left left′ columns ws ws′ : List (List ℕ)) {vs vs′ column : List ℕ}
-    {ok : Bool}
-    (S : Solving g (suc t) s u left columns ws vs) (T : Stepped g t left u left′ ws′ ok column vs′) where
+module _ {g : Grid} {k t : ℕ} (f : Fit g) (e : k ≡ suc t) (td : t ≤ g .d) {s u left left′ columns ws ws′ : List (List ℕ)}
+    {vs vs′ column : List ℕ} {ok : Bool} (B : Solving g k s u left columns ws vs)
+    (T : Stepped g t left u left′ ws′ ok column vs′) where
+  S : Solving g (suc t) s u left columns ws vs
+  S = rw e at B
+
   low : g .d < min (g .a) (g .b)
   low = omega (arith, f .low, f .narrow)
 

@@ -21,6 +21,8 @@
 --   Completed g t u columns left left′ cost
 --                       under the radius: what all columns leave costs so much, if those of Y^t and higher were subtracted; else
 --                       what is left is as it was
+--   Drafted g s u left columns cost
+--                       a draft of all columns: under the radius it is the answer, else what is left are all symbols
 --   Solved g s u left columns cost
 --                       what the columns leave costs so much; where that is not under the radius, no record is
 --
@@ -102,3 +104,8 @@ pub record Solved (g : Grid) (s u left columns : List (List ℕ)) (cost : ℕ) :
   pub under : cost < limit g → (cost ≡ left-over g u left) × Drawn g 0 s u left columns
   pub over : limit g ≤ cost → (h : ℕ → ℕ → ℕ) → GridNear (g .p - 1) (g .full) (g .a) (g .b) (g .d) (at (g .x)) (at (g .y))
       (cellAt u) (cellAt s) h → ⊥
+
+pub record Drafted (g : Grid) (s u left columns : List (List ℕ)) (cost : ℕ) : Type 0 where
+  pub coefficients : Rows (g .p) columns
+  pub under : cost < limit g → Solved g s u left columns cost
+  pub over : limit g ≤ cost → left ≡ s

@@ -10,9 +10,9 @@ use reed_solomon::axis::Axis;
 ghost use Prim.Native.Nat.{_≤_};
 ghost use Rattle.field.specs.Prime.{Inverses};
 ghost use Rattle.polynomial.specs.Powers.{Rows};
-ghost use Rattle.reed_muller.specs.Fit.{Fit, DoubtRows};
+ghost use Rattle.reed_muller.specs.Fit.{Fit, DoubtRows, ColumnPowers};
 ghost use Rattle.reed_muller.specs.Answers.{KnownRows};
-ghost use Rattle.reed_muller.specs.Steps.{Stepped, Solved};
+ghost use Rattle.reed_muller.specs.Steps.{Stepped, Drafted, Solved};
 
 // What a step gives: the coefficients of Y^t by rising power of X, and the costs of the lines whose answers are kept.
 pub struct Column {
@@ -21,21 +21,23 @@ pub struct Column {
     pub found: bool,
 }
 
-// The coefficients of Y^t: the lines' leading coefficients are a strip over the row points of degree d - t, whose doubts
-// are the lines' costs and whose full doubt is the lines' radius. So nothing is divided or rounded.
+// The coefficients of Y^t: the lines' leading coefficients are a strip over the row points of degree d - t, whose doubts are the
+// lines' costs and whose full doubt is the lines' radius. So nothing is divided or rounded. ys has the powers of the column
+// points.
 fn step(
     g: Grid,
     inverses: &[u16; 251],
+    ys: &[[u16; 16]; 16],
     t: usize,
     known: [u32; 16],
     messages: &mut [[u16; 16]; 16],
     left: &mut [[u16; 16]; 16],
     doubts: &[[u32; 16]; 16],
 ) -> Column
-    requires { ⌜ Fit g × (t ≤ g .d) × Rows (g .p) (now left) × DoubtRows g (now doubts) ×
-        KnownRows g t (now left) (now doubts) (now messages) known × Inverses (g .p) (now inverses) ⌝ }
-    ensures { λ r. ⌜ Stepped g t (now (left .entry)) (now (doubts .entry)) (now (left .exit)) (now (messages .exit)) (r .found)
-        (r .message) (r .known) ⌝ }
+    requires { ⌜ Fit g × Inverses (g .p) (now inverses) × ColumnPowers g (now ys) × (t ≤ g .d) × Rows (g .p) (now left) ×
+        DoubtRows g (now doubts) × KnownRows g t (now left) (now doubts) (now messages) known ⌝ }
+    ensures { λ r. ⌜ Stepped g t (now (left .entry)) (now (doubts .entry)) (now (left .exit)) (now (messages .exit))
+        (r .found) (r .message) (r .known) ⌝ }
 {
     let costs = lines::answer(g, inverses, t, messages, known, left, doubts);
     let leading = bivariate::place_of_each(messages, t);
@@ -59,9 +61,7 @@ fn step(
         };
     }
     let v = strip.values;
-    let y = g.y;
-    let power = evaluation::power(y, t, g.p, g.m);
-    remainder::subtract(g, left, v, power);
+    remainder::subtract(g, left, v, ys[t]);
     Column {
         found: true,
         message,
@@ -75,12 +75,13 @@ fn step(
 fn solve_by_degrees(
     g: Grid,
     inverses: &[u16; 251],
+    ys: &[[u16; 16]; 16],
     left: &mut [[u16; 16]; 16],
     doubts: &[[u32; 16]; 16],
     columns: &mut [[u16; 16]; 16],
 ) -> u32
-    requires { ⌜ Fit g × Rows (g .p) (now left) × DoubtRows g (now doubts) × Rows (g .p) (now columns) ×
-        Inverses (g .p) (now inverses) ⌝ }
+    requires { ⌜ Fit g × Inverses (g .p) (now inverses) × ColumnPowers g (now ys) × Rows (g .p) (now left) ×
+        DoubtRows g (now doubts) × Rows (g .p) (now columns) ⌝ }
     ensures { λ r. ⌜ Solved g (now (left .entry)) (now (doubts .entry)) (now (left .exit)) (now (columns .exit)) r ⌝ }
 {
     let radius = remainder::radius(g);
@@ -90,7 +91,7 @@ fn solve_by_degrees(
     let mut t = g.d + 1;
     while t > 0 {
         t -= 1;
-        let column = step(g, inverses, t, known, &mut messages, left, doubts);
+        let column = step(g, inverses, ys, t, known, &mut messages, left, doubts);
         if !column.found {
             return radius;
         }
@@ -100,7 +101,7 @@ fn solve_by_degrees(
         if untried {
             if draft::from_lines(g, inverses, t, &messages, known, columns) {
                 untried = false;
-                let cost = trial::complete(g, t, columns, left, doubts);
+                let cost = trial::complete(g, ys, t, columns, left, doubts);
                 if cost < radius {
                     return cost;
                 }
@@ -108,6 +109,26 @@ fn solve_by_degrees(
         }
     }
     remainder::measure(g, left, doubts)
+}
+
+// The draft from the cells, tried: its cost, or the radius where there is none. Under the radius it is subtracted; else `left`
+// stays as it was.
+fn try_cells(
+    g: Grid,
+    inverses: &[u16; 251],
+    ys: &[[u16; 16]; 16],
+    left: &mut [[u16; 16]; 16],
+    doubts: &[[u32; 16]; 16],
+    columns: &mut [[u16; 16]; 16],
+) -> u32
+    requires { ⌜ Fit g × Inverses (g .p) (now inverses) × ColumnPowers g (now ys) × Rows (g .p) (now left) ×
+        DoubtRows g (now doubts) × Rows (g .p) (now columns) ⌝ }
+    ensures { λ r. ⌜ Drafted g (now (left .entry)) (now (doubts .entry)) (now (left .exit)) (now (columns .exit)) r ⌝ }
+{
+    if !draft::from_cells(g, inverses, left, columns) {
+        return remainder::radius(g);
+    }
+    trial::complete(g, ys, g.d + 1, columns, left, doubts)
 }
 
 // The record under the radius, if there is one: its coefficients of Y^t in row t of the columns, what it leaves of the symbols in
@@ -119,16 +140,15 @@ pub fn solve(
     doubts: &[[u32; 16]; 16],
     columns: &mut [[u16; 16]; 16],
 ) -> u32
-    requires { ⌜ Fit g × Rows (g .p) (now left) × DoubtRows g (now doubts) × Rows (g .p) (now columns) ×
-        Inverses (g .p) (now inverses) ⌝ }
+    requires { ⌜ Fit g × Inverses (g .p) (now inverses) × Rows (g .p) (now left) × DoubtRows g (now doubts) ×
+        Rows (g .p) (now columns) ⌝ }
     ensures { λ r. ⌜ Solved g (now (left .entry)) (now (doubts .entry)) (now (left .exit)) (now (columns .exit)) r ⌝ }
 {
-    if !draft::from_cells(g, inverses, left, columns) {
-        return solve_by_degrees(g, inverses, left, doubts, columns);
-    }
-    let cost = trial::complete(g, g.d + 1, columns, left, doubts);
+    let y = g.y;
+    let ys = evaluation::powers(y, g.d, g.p, g.m);
+    let cost = try_cells(g, inverses, &ys, left, doubts, columns);
     if cost < remainder::radius(g) {
         return cost;
     }
-    solve_by_degrees(g, inverses, left, doubts, columns)
+    solve_by_degrees(g, inverses, &ys, left, doubts, columns)
 }

@@ -5,22 +5,22 @@ use polynomial::evaluation;
 ghost use mathlib.Core.List.{List};
 ghost use Prim.Native.Nat.{ℕ, suc, _≤_};
 ghost use Rattle.polynomial.specs.Powers.{Rows, Powers};
-ghost use Rattle.reed_muller.specs.Fit.{Fit, DoubtRows};
+ghost use Rattle.reed_muller.specs.Fit.{Fit, DoubtRows, ColumnPowers};
 ghost use Rattle.reed_muller.specs.Steps.{Drawn, Completed};
 
 // Subtracts the columns of Y^0 to Y^(t - 1), the highest first. xs and ys have the powers of the points.
 fn subtract_below(
     g: Grid,
-    t: usize,
     xs: &[[u16; 16]; 16],
     ys: &[[u16; 16]; 16],
+    t: usize,
     columns: &[[u16; 16]; 16],
     left: &mut [[u16; 16]; 16],
 )
-    requires { ⌜ Fit g × (t ≤ suc (g .d)) × Rows (g .p) (now columns) × Rows (g .p) (now left) × Rows (g .p) (now xs) ×
-        Powers (g .p) (g .x) (g .d) (now xs) × Rows (g .p) (now ys) × Powers (g .p) (g .y) (g .d) (now ys) ⌝ }
-    ensures { λ _. ⌜ Rows (g .p) (now (left .exit)) × ((s u : List (List ℕ)) →
-        Drawn g t s u (now (left .entry)) (now (columns .entry)) → Drawn g 0 s u (now (left .exit)) (now (columns .entry))) ⌝ }
+    requires { ⌜ Fit g × Rows (g .p) (now xs) × Powers (g .p) (g .x) (g .d) (now xs) × ColumnPowers g (now ys) ×
+        (t ≤ suc (g .d)) × Rows (g .p) (now columns) × Rows (g .p) (now left) ⌝ }
+    ensures { λ _. ⌜ ((s u : List (List ℕ)) → Drawn g t s u (now (left .entry)) (now (columns .entry)) →
+        Drawn g 0 s u (now (left .exit)) (now (columns .entry))) ⌝ }
 {
     let mut j = t;
     while j > 0 {
@@ -31,23 +31,24 @@ fn subtract_below(
 }
 
 // The cost of what the columns leave, those from Y^t on being subtracted already. Where it is under the radius the others are
-// subtracted; else `left` stays as it was.
+// subtracted; else `left` stays as it was. ys has the powers of the column points; those of the row points are made here, since
+// nobody else needs them.
 pub fn complete(
     g: Grid,
+    ys: &[[u16; 16]; 16],
     t: usize,
     columns: &[[u16; 16]; 16],
     left: &mut [[u16; 16]; 16],
     doubts: &[[u32; 16]; 16],
 ) -> u32
-    requires { ⌜ Fit g × (t ≤ suc (g .d)) × Rows (g .p) (now columns) × Rows (g .p) (now left) × DoubtRows g (now doubts) ⌝ }
+    requires { ⌜ Fit g × ColumnPowers g (now ys) × (t ≤ suc (g .d)) × Rows (g .p) (now columns) × Rows (g .p) (now left) ×
+        DoubtRows g (now doubts) ⌝ }
     ensures { λ r. ⌜ Completed g t (now (doubts .entry)) (now (columns .entry)) (now (left .entry)) (now (left .exit)) r ⌝ }
 {
     let x = g.x;
-    let y = g.y;
     let xs = evaluation::powers(x, g.d, g.p, g.m);
-    let ys = evaluation::powers(y, g.d, g.p, g.m);
     let before = *left;
-    subtract_below(g, t, &xs, &ys, columns, left);
+    subtract_below(g, &xs, ys, t, columns, left);
     let cost = remainder::measure(g, left, doubts);
     if cost >= remainder::radius(g) {
         *left = before;

@@ -112,8 +112,10 @@ near-same n k w w′ s v h near = omega (
       ap (cond (eqb (s j) (v j)) 0) (h j l),
 )
 
--- the strip decoder before the cell of the key c; r are the keys of the cells that have not entered
+-- the strip decoder before the cell of the key c: l are the keys of all cells, r those of the cells that have not entered
 pub record Going (g : Axis) (s u l r : List ℕ) (c : ℕ) (t : Pairs) : Type 0 where
+  pub received : Received g s u
+  pub keys : l ≡ row λ j. key (g .n) (at u j) j
   pub holds : HoldsOn g s t
   pub entering : Entering l (t .entered) r
   pub next : Least 16 r c
@@ -123,7 +125,7 @@ pub record Going (g : Axis) (s u l r : List ℕ) (c : ℕ) (t : Pairs) : Type 0 
 abbrev pub Within : (n : ℕ) (u : List ℕ) (level : ℕ) (t : Pairs) → Type 0
 Within n u level t = (j : ℕ) → j < n → at (t .entered) j ≢ 0 → at u j ≤ level
 
-module _ {g : Axis} {s u l : List ℕ} (R : Received g s u) (K : l ≡ row (λ j. key (g .n) (at u j) j)) where
+module _ {g : Axis} {s u l : List ℕ} (R : Received g s u) (K : l ≡ row λ j. key (g .n) (at u j) j) where
   placed : Placed l
   placed = keys-placed (g .n) (at u) (λ j l. omega (arith, R .doubts j l, R .axis .full)) K
 
@@ -133,127 +135,146 @@ module _ {g : Axis} {s u l : List ℕ} (R : Received g s u) (K : l ≡ row (λ j
   key-at : (j : ℕ) → j < g .n → at l j ≡ at u j * 16 + j
   key-at j i = key-row j (omega (arith, R .axis .most)) ∙ key-in (g .n) (at u j) j i
 
-  module _ {r : List ℕ} {c : ℕ} {t : Pairs} (G : Going g s u l r c t) where
-    entered-key : (j : ℕ) → j < g .n → at (t .entered) j ≢ 0 → at u j * 16 + j < c
-    entered-key j i z =
-        omega (arith, key-at j i, entered-below (G .entering) placed (G .next) j (omega (arith, R .axis .most)) z)
+module _ {g : Axis} {s u l r : List ℕ} {c : ℕ} {t : Pairs} (G : Going g s u l r c t) where
+  most : g .n ≤ 16
+  most = G .received .axis .most
 
-    left-key : (j : ℕ) → j < g .n → at (t .entered) j ≡ 0 → c ≤ at u j * 16 + j
-    left-key j i z = omega (arith, key-at j i, left-above (G .entering) placed (G .next) j (omega (arith, R .axis .most)) z)
+  entered-key : (j : ℕ) → j < g .n → at (t .entered) j ≢ 0 → at u j * 16 + j < c
+  entered-key j i z =
+      let below = entered-below (G .entering) (placed (G .received) (G .keys)) (G .next) j (omega (arith, most)) z in
+      omega (arith, key-at (G .received) (G .keys) j i, below)
 
-    pub going-within : Within (g .n) u (c / 16) t
-    going-within j i z = omega (arith, entered-key j i z)
+  left-key : (j : ℕ) → j < g .n → at (t .entered) j ≡ 0 → c ≤ at u j * 16 + j
+  left-key j i z =
+      let above = left-above (G .entering) (placed (G .received) (G .keys)) (G .next) j (omega (arith, most)) z in
+      omega (arith, key-at (G .received) (G .keys) j i, above)
 
-    -- the cell of the least key
-    module _ (h : c < g .full * 16) where
-      small : c < taken
-      small = omega (arith, R .axis .full)
+  pub going-within : Within (g .n) u (c / 16) t
+  going-within j i z = omega (arith, entered-key j i z)
 
-      going-cell : (c % 16 < g .n) × (at (t .entered) (c % 16) ≡ 0) × (at u (c % 16) * 16 + c % 16 ≡ c)
-      going-cell =
-          let d = next-cell (G .entering) placed (G .next) small in
-          let i : c % 16 < g .n = elim (decLt (c % 16) (g .n)) [
-            | yes o ↦ o
-            | no o ↦
-                let none = key-out (g .n) (at u (c % 16)) (c % 16) (omega arith) in
-                absurd (omega (arith, d .1, small, key-row (c % 16) (mod-lt c (omega arith)) ∙ none))
-          ] in
-          (i, d .0, sym (key-at (c % 16) i) ∙ d .1)
+  -- the keys that are left, without the next one, are small
+  pub going-keys : {r′ : List ℕ} → r′ ≡ row (λ j. cond (eqb (at r j) c) taken (at r j)) → (j : ℕ) → at r′ j ≤ taken
+  going-keys e = without-most c r (left-most (G .entering) (placed (G .received) (G .keys))) e
 
-      module _ {t′ : Pairs} (E : Enters (g .p) (g .k) (g .x) (c % 16) t t′) where
-        pub going-holds : HoldsOn g s t′
-        going-holds = E .holds (g .n) s (R .axis .most) (going-cell .0) (going-cell .1) (G .holds)
+  -- the cell of the least key
+  module _ (h : c < g .full * 16) where
+    small : c < taken
+    small = omega (arith, G .received .axis .full)
 
-        entered-other : (j : ℕ) → j ≢ c % 16 → at (t′ .entered) j ≡ at (t .entered) j
-        entered-other j d = ap (λ w. at w j) (E .marks) ∙ getD-set-other (t .entered) (c % 16) j 1 0 d
+    going-cell : (c % 16 < g .n) × (at (t .entered) (c % 16) ≡ 0) × (at u (c % 16) * 16 + c % 16 ≡ c)
+    going-cell =
+        let d = next-cell (G .entering) (placed (G .received) (G .keys)) (G .next) small in
+        let i : c % 16 < g .n = elim (decLt (c % 16) (g .n)) [
+          | yes o ↦ o
+          | no o ↦
+              let none = key-out (g .n) (at u (c % 16)) (c % 16) (omega arith) in
+              absurd (omega (arith, d .1, small, key-row (G .received) (G .keys) (c % 16) (mod-lt c (omega arith)) ∙ none))
+        ] in
+        (i, d .0, sym (key-at (G .received) (G .keys) (c % 16) i) ∙ d .1)
 
-        entered-cell : at (t′ .entered) (c % 16) ≡ 1
-        entered-cell =
-            let i : c % 16 < 16 = mod-lt c (omega arith) in
-            ap (λ w. at w (c % 16)) (E .marks)
-            ∙ getD-set-same (t .entered) (c % 16) 1 0 (omega (arith, i, G .holds .shaped .size))
+    module _ {t′ : Pairs} (E : Enters (g .p) (g .k) (g .x) (c % 16) t t′) where
+      pub going-holds : HoldsOn g s t′
+      going-holds = E .holds (g .n) s most (going-cell .0) (going-cell .1) (G .holds)
 
-        within-enter : {level : ℕ} → c / 16 ≡ level → Within (g .n) u level t → Within (g .n) u level t′
-        within-enter e W j i z = elim (ℕ-discrete j (c % 16)) [
-          | yes o ↦ omega (arith, ap (at u) o, going-cell .2)
-          | no o ↦ W j i λ a. z (entered-other j o ∙ a)
-        ]
+      entered-other : (j : ℕ) → j ≢ c % 16 → at (t′ .entered) j ≡ at (t .entered) j
+      entered-other j d = ap (λ w. at w j) (E .marks) ∙ getD-set-other (t .entered) (c % 16) j 1 0 d
 
-        -- it enters, and the trial after its entry failed; the next key is a later one
-        pub going-enter : {r′ : List ℕ} {c′ level : ℕ} → r′ ≡ row (λ j. cond (eqb (at r j) c) taken (at r j)) → Least 16 r′ c′ →
-            c / 16 ≡ level → Within (g .n) u level t → Refuted g s u (t′ .entered) →
-            Going g s u l r′ c′ t′ × Within (g .n) u level t′ × (c < c′)
-        going-enter {r′} {c′} d L e W now = (G′, within-enter e W, later)
-          where
-            G′ : Going g s u l r′ c′ t′
-            G′ = record {
-              holds = going-holds;
-              entering = rw (E .marks) (entering-next (G .entering) placed (G .next) d (G .holds .shaped .size) small);
-              next = L;
-              now = now;
-            }
+      entered-cell : at (t′ .entered) (c % 16) ≡ 1
+      entered-cell =
+          let i : c % 16 < 16 = mod-lt c (omega arith) in
+          ap (λ w. at w (c % 16)) (E .marks)
+          ∙ getD-set-same (t .entered) (c % 16) 1 0 (omega (arith, i, G .holds .shaped .size))
 
-            later : c < c′
-            later =
-                let i : c % 16 < 16 = mod-lt c (omega arith) in
-                let k = next-cell (G .entering) placed (G .next) small in
-                omega (arith, k .1, entered-below (G′ .entering) placed (G′ .next) (c % 16) i λ z. omega (arith, entered-cell, z))
+      within-enter : {level : ℕ} → c / 16 ≡ level → Within (g .n) u level t → Within (g .n) u level t′
+      within-enter e W j i z = elim (ℕ-discrete j (c % 16)) [
+        | yes o ↦ omega (arith, ap (at u) o, going-cell .2)
+        | no o ↦ W j i λ a. z (entered-other j o ∙ a)
+      ]
 
-    -- after a level its cells and those below have entered
-    pub going-passed : {level : ℕ} → Within (g .n) u level t → level < c / 16 → RefutedBelow g s u level →
-        RefutedBelow g s u (c / 16)
-    going-passed {level} W h P = record {
-      far = λ h j i o w. elim (decLt (at u j) level) [
-        | yes b ↦ P .far h j i b w
-        | no b ↦
-            let e : at u j ≡ level = omega (arith, W j i (there j i o)) in
-            G .now .far h (near-same (g .n) (g .k) (λ j. keep level (at u j)) (at (t .entered)) (at s) (word g h) same
-            (weight-near (g .n) (g .k) level (at s) (at u) (word g h) (rw e at w)))
-      ];
-    }
-      where
-        there : (j : ℕ) → j < g .n → at u j < c / 16 → at (t .entered) j ≢ 0
-        there j i o z = omega (arith, left-key j i z, R .axis .most)
+      -- it enters, and the trial after its entry failed; the next key is a later one
+      pub going-enter : {r′ : List ℕ} {c′ level : ℕ} → r′ ≡ row (λ j. cond (eqb (at r j) c) taken (at r j)) → Least 16 r′ c′ →
+          c / 16 ≡ level → Within (g .n) u level t → Refuted g s u (t′ .entered) →
+          Going g s u l r′ c′ t′ × Within (g .n) u level t′ × (c < c′) × (c < taken)
+      going-enter {r′} {c′} d L e W now = (G′, within-enter e W, later, small)
+        where
+          P : Placed l
+          P = placed (G .received) (G .keys)
 
-        same : (j : ℕ) → j < g .n → keep level (at u j) ≡ at (t .entered) j
-        same j i = elim (ℕ-discrete (at (t .entered) j) 0) [
-          | yes z ↦ keep-out level (at u j) (omega (arith, left-key j i z, R .axis .most)) ∙ sym z
-          | no z ↦ keep-in level (at u j) (W j i z) ∙ omega (arith, G .holds .state .bit j)
-        ]
+          G′ : Going g s u l r′ c′ t′
+          G′ = record {
+            received = G .received;
+            keys = G .keys;
+            holds = going-holds;
+            entering = rw (E .marks) (entering-next (G .entering) P (G .next) d (G .holds .shaped .size) small);
+            next = L;
+            now = now;
+          }
 
-    -- of the first k + 1 cells none can be missed
-    first-passed : t .a + t .b ≤ suc (g .k) → RefutedBelow g s u (c / 16)
-    first-passed few = record {
-      far = λ h j i o w. G .now .far h (near-more (g .n) (g .k) (λ i. keep (at u j) (at u i)) (at (t .entered)) (at s) (word g h)
-          (less j o) (omega (arith, few, G .holds .state .count))
-          (weight-near (g .n) (g .k) (at u j) (at s) (at u) (word g h) w));
-    }
-      where
-        less : (j : ℕ) → at u j < c / 16 → (i : ℕ) → i < g .n → keep (at u j) (at u i) ≤ at (t .entered) i
-        less j o i b = elim (ℕ-discrete (at (t .entered) i) 0) [
-          | yes z ↦ omega (arith, keep-out (at u j) (at u i) (omega (arith, left-key i b z, R .axis .most)))
-          | no z ↦ omega (arith, bit (leb (at u i) (at u j)))
-        ]
-          where
-            bit : (b : Bool) → cond b 1 0 ≤ 1
-            bit true = omega arith
-            bit false = omega arith
+          later : c < c′
+          later =
+              let i : c % 16 < 16 = mod-lt c (omega arith) in
+              let k = next-cell (G .entering) P (G .next) small in
+              omega (arith, k .1, entered-below (G′ .entering) P (G′ .next) (c % 16) i λ z. omega (arith, entered-cell, z))
 
-  -- the keys that are left, and those without the next one, are small
-  pub first-keys : {f : Newton} → FitsOn g s l f → (j : ℕ) → at (f .keys) j ≤ taken
-  first-keys fit = left-most (fit .entering) placed
+  -- after a level its cells and those below have entered
+  pub going-passed : {level : ℕ} → Within (g .n) u level t → level < c / 16 → RefutedBelow g s u level →
+      RefutedBelow g s u (c / 16)
+  going-passed {level} W h P = record {
+    far = λ h j i o w. elim (decLt (at u j) level) [
+      | yes b ↦ P .far h j i b w
+      | no b ↦
+          let e : at u j ≡ level = omega (arith, W j i (there j i o)) in
+          G .now .far h (near-same (g .n) (g .k) (λ j. keep level (at u j)) (at (t .entered)) (at s) (word g h) same
+          (weight-near (g .n) (g .k) level (at s) (at u) (word g h) (rw e at w)))
+    ];
+  }
+    where
+      there : (j : ℕ) → j < g .n → at u j < c / 16 → at (t .entered) j ≢ 0
+      there j i o z = omega (arith, left-key j i z, most)
 
-  pub going-keys : {r r′ : List ℕ} {c : ℕ} {t : Pairs} → Going g s u l r c t →
-      r′ ≡ row (λ j. cond (eqb (at r j) c) taken (at r j)) → (j : ℕ) → at r′ j ≤ taken
-  going-keys {r} {c = c} G e = without-most c r (left-most (G .entering) placed) e
+      same : (j : ℕ) → j < g .n → keep level (at u j) ≡ at (t .entered) j
+      same j i = elim (ℕ-discrete (at (t .entered) j) 0) [
+        | yes z ↦ keep-out level (at u j) (omega (arith, left-key j i z, most)) ∙ sym z
+        | no z ↦ keep-in level (at u j) (W j i z) ∙ omega (arith, G .holds .state .bit j)
+      ]
+
+  -- of the first k + 1 cells none can be missed
+  first-passed : t .a + t .b ≤ suc (g .k) → RefutedBelow g s u (c / 16)
+  first-passed few = record {
+    far = λ h j i o w. G .now .far h (near-more (g .n) (g .k) (λ i. keep (at u j) (at u i)) (at (t .entered)) (at s) (word g h)
+        (less j o) (omega (arith, few, G .holds .state .count))
+        (weight-near (g .n) (g .k) (at u j) (at s) (at u) (word g h) w));
+  }
+    where
+      less : (j : ℕ) → at u j < c / 16 → (i : ℕ) → i < g .n → keep (at u j) (at u i) ≤ at (t .entered) i
+      less j o i b = elim (ℕ-discrete (at (t .entered) i) 0) [
+        | yes z ↦ omega (arith, keep-out (at u j) (at u i) (omega (arith, left-key i b z, most)))
+        | no z ↦ omega (arith, bit (leb (at u i) (at u j)))
+      ]
+        where
+          bit : (b : Bool) → cond b 1 0 ≤ 1
+          bit true = omega arith
+          bit false = omega arith
+
+module _ {g : Axis} {s u l : List ℕ} (R : Received g s u) (K : l ≡ row λ j. key (g .n) (at u j) j) {f : Newton}
+    (fit : FitsOn g s l f) where
+  pub first-keys : (j : ℕ) → at (f .keys) j ≤ taken
+  first-keys = left-most (fit .entering) (placed R K)
 
   -- the state after the first k + 1 cells
-  pub going-first : {f : Newton} {c : ℕ} → FitsOn g s l f → Least 16 (f .keys) c → Refuted g s u (f .entered) →
+  pub going-first : {c : ℕ} → Least 16 (f .keys) c → Refuted g s u (f .entered) →
       Going g s u l (f .keys) c (pairsOf (g .k + 1) f) × RefutedBelow g s u (c / 16)
-  going-first {f} {c} fit L D =
-      let G : Going g s u l (f .keys) c (pairsOf (g .k + 1) f) =
-      rw (add-one (g .k)) (record { holds = fit .holds; entering = fit .entering; next = L; now = D }) in
-      (G, first-passed G (omega arith))
+  going-first {c} L D = (G, first-passed G (omega arith))
+    where
+      G : Going g s u l (f .keys) c (pairsOf (g .k + 1) f)
+      G = rw (add-one (g .k)) (record {
+        received = R;
+        keys = K;
+        holds = fit .holds;
+        entering = fit .entering;
+        next = L;
+        now = D;
+      })
 
 module _ {g : Axis} {s u : List ℕ} (R : Received g s u) {r : Decoded} where
   none-of : None r → ((h : ℕ → ℕ) → radius g ≤ spent g s u (word g h)) → StripDecoded g s u r

@@ -25,7 +25,7 @@ pub decode-spec : {M : Type 1} → statement M
 decode-spec =
     tie.close
     (tie.spec
-    (λ c κs. let b = c .before .before .before .pre in (b .0, b .1, b .2, equal-rows 0 (positive (b .0)), b .3))
+    (λ c κs. let b = c .before .before .before .pre in (b .0, b .3, b .1, b .2, equal-rows 0 (positive (b .0))))
     (λ c κs. search needs)
     returns
     (λ c κs. search needs)

@@ -21,43 +21,28 @@ Inv-loop f₀ d p m x i₀ f i = (i ≤ d) × Rows p f
 abbrev μ-loop : tie.MeasureT-loop
 μ-loop f₀ d p m x i₀ f i = d - i
 
-loop2-holds : tie.Need-loop2-holds Inv-loop2 μ-loop2 Inv-loop μ-loop
-loop2-holds c =
-    let l = c .before .before .loop in
-    let start = c .before .before .before in
-    (omega arith, omega arith, l .inv .1 .done (start .args .d) (omega (arith, start .pre .3)), l .inv .1)
-
-sub-add-multiple-2 : tie.Need-sub-add-multiple-2 Inv-loop2 μ-loop2 Inv-loop μ-loop
-sub-add-multiple-2 c =
-    let k = c .before .before .loop2 .j - 1 - c .before .before .before .before .before .loop .i in
-    omega (arith, c .before .before .before .before .before .before .pre .2 .small k)
-
-add-multiple-requires : tie.Need-add-multiple-requires Inv-loop2 μ-loop2 Inv-loop μ-loop
-add-multiple-requires c κs =
-    let l = c .before .before .loop2 in
-    let start = c .before .before .before .before .before .before in
-    (start .pre .0, l .inv .3 .done (l .j - 1) (omega (arith, start .pre .3)), l .inv .2, omega arith)
-
-loop2-again : tie.Need-loop2-again Inv-loop2 μ-loop2 Inv-loop μ-loop
-loop2-again c =
-    let l = c .before .before .before .loop2 in
-    let start = c .before .before .before .before .before .before .before in
-    let next = result-row _ (omega (arith, start .pre .0 .least)) (c .add-multiple .ensures) in
-    (omega arith, omega arith, next, upto-put _ (omega (arith, start .pre .3)) next (l .inv .3))
-
 pub change-to-powers-spec : {M : Type 1} → statement M
 change-to-powers-spec =
     tie.close
     (tie.spec
-    Inv-loop2
-    μ-loop2
-    Inv-loop
-    μ-loop
+    Inv-loop2 μ-loop2 Inv-loop μ-loop
     (λ c. search needs) (λ c. search needs) (λ c. search needs)
-    loop2-holds
+    (λ c.
+    let l = c .before .before .loop in
+    let start = c .before .before .before in
+    (omega arith, omega arith, l .inv .1 .done (start .args .d) (omega (arith, start .pre .3)), l .inv .1))
     (λ c. search needs) (λ c. search needs) (λ c. search needs) (λ c. search needs) (λ c. search needs) (λ c. search needs)
-    sub-add-multiple-2
-    add-multiple-requires
+    (λ c.
+    let k = c .before .before .loop2 .j - 1 - c .before .before .before .before .before .loop .i in
+    omega (arith, c .before .before .before .before .before .before .pre .2 .small k))
+    (λ c κs.
+    let l = c .before .before .loop2 in
+    let start = c .before .before .before .before .before .before in
+    (start .pre .0, l .inv .3 .done (l .j - 1) (omega (arith, start .pre .3)), l .inv .2, omega arith))
     (λ c. search needs) (λ c. search needs) (λ c. search needs)
-    loop2-again
+    (λ c.
+    let l = c .before .before .before .loop2 in
+    let start = c .before .before .before .before .before .before .before in
+    let next = result-row _ (omega (arith, start .pre .0 .least)) (c .add-multiple .ensures) in
+    (omega arith, omega arith, next, upto-put _ (omega (arith, start .pre .3)) next (l .inv .3)))
     (λ c. search needs) (λ c. search needs) (λ c. search needs) (λ c. search needs))

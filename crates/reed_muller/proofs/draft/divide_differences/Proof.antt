@@ -20,48 +20,30 @@ Inv-loop f₀ d p m inverses x k₀ f k = (k ≤ d) × Rows p f
 abbrev μ-loop : tie.MeasureT-loop
 μ-loop f₀ d p m inverses x k₀ f k = d - k
 
-loop2-holds : tie.Need-loop2-holds Inv-loop2 μ-loop2 Inv-loop μ-loop
-loop2-holds c =
-    let l = c .before .before .loop in
-    (omega arith, omega arith, l .inv .1 .done (l .k) (omega (arith, c .before .before .before .pre .4)), l .inv .1)
-
-sub-reduce : tie.Need-sub-reduce Inv-loop2 μ-loop2 Inv-loop μ-loop
-sub-reduce c =
-    let k = c .before .before .before .before .loop .k in
-    omega (arith, c .before .before .before .before .before .pre .3 .small k)
-
-add-reduce : tie.Need-add-reduce Inv-loop2 μ-loop2 Inv-loop μ-loop
-add-reduce c =
-    let start = c .before .before .before .before .before in
-    omega (arith, start .pre .3 .small (c .before .loop2 .j), start .pre .0 .most)
-
-quotient-requires : tie.Need-quotient-requires Inv-loop2 μ-loop2 Inv-loop μ-loop
-quotient-requires c κs =
-    let here = c .before .before .before .before .before in
-    let start = here .before .before .before .before in
-    (start .pre .0, here .loop2 .inv .3 .done (here .loop2 .j) (omega (arith, start .pre .4)), here .loop2 .inv .2, c .before .reduce2 .ensures .1)
-
-loop2-again : tie.Need-loop2-again Inv-loop2 μ-loop2 Inv-loop μ-loop
-loop2-again c =
-    let here = c .before .before .before .before .before .before in
-    (omega arith, omega arith, here .loop2 .inv .2, upto-put _ (omega (arith, here .before .before .before .before .pre .4)) (c .quotient .ensures) (here .loop2 .inv .3))
-
 pub divide-differences-spec : {M : Type 1} → statement M
 divide-differences-spec =
     tie.close
     (tie.spec
-    Inv-loop2
-    μ-loop2
-    Inv-loop
-    μ-loop
+    Inv-loop2 μ-loop2 Inv-loop μ-loop
     (λ c. search needs) (λ c. search needs) (λ c. search needs) (λ c. search needs)
-    loop2-holds
+    (λ c.
+    let l = c .before .before .loop in
+    (omega arith, omega arith, l .inv .1 .done (l .k) (omega (arith, c .before .before .before .pre .4)), l .inv .1))
     (λ c. search needs) (λ c. search needs) (λ c. search needs) (λ c. search needs)
-    sub-reduce
-    add-reduce
+    (λ c.
+    let k = c .before .before .before .before .loop .k in
+    omega (arith, c .before .before .before .before .before .pre .3 .small k))
+    (λ c.
+    let start = c .before .before .before .before .before in
+    omega (arith, start .pre .3 .small (c .before .loop2 .j), start .pre .0 .most))
     (λ c κs. search needs) (λ c. search needs) (λ c. search needs) (λ c. search needs) (λ c κs. search needs)
     (λ c. search needs) (λ c. search needs)
-    quotient-requires
+    (λ c κs.
+    let here = c .before .before .before .before .before in
+    let start = here .before .before .before .before in
+    (start .pre .0, here .loop2 .inv .3 .done (here .loop2 .j) (omega (arith, start .pre .4)), here .loop2 .inv .2, c .before .reduce2 .ensures .1))
     (λ c. search needs) (λ c. search needs) (λ c. search needs) (λ c. search needs)
-    loop2-again
+    (λ c.
+    let here = c .before .before .before .before .before .before in
+    (omega arith, omega arith, here .loop2 .inv .2, upto-put _ (omega (arith, here .before .before .before .before .pre .4)) (c .quotient .ensures) (here .loop2 .inv .3)))
     (λ c. search needs) (λ c. search needs) (λ c. search needs) (λ c. search needs))

@@ -17,20 +17,6 @@ Inv-loop f k p columns₀ t₀ columns t = (t ≤ k) × Redrawn p k columns₀ c
 abbrev μ-loop : tie.MeasureT-loop
 μ-loop f k p columns₀ t₀ columns t = k - t
 
-loop-holds : tie.Need-loop-holds Inv-loop μ-loop
-loop-holds c = (omega arith, record { rows = c .pre .2; kept = λ t l. refl })
-
-loop-again : tie.Need-loop-again Inv-loop μ-loop
-loop-again c =
-    let l = c .before .before .loop in
-    let start = c .before .before .before in (
-      omega arith,
-      record {
-        rows = upto-put _ (omega (arith, start .pre .3)) (column-row (l .t) (start .pre .0) (start .pre .1) (c .place-of-each .ensures)) (l .inv .1 .rows);
-        kept = λ j k. getD-set-other (l .columns) (l .t) j (c .place-of-each .result) [] (omega arith) ∙ l .inv .1 .kept j k;
-      },
-    )
-
 returns : tie.Need-returns Inv-loop μ-loop
 returns c = c .before .loop .inv .1
 
@@ -38,9 +24,16 @@ pub exchange-spec : {M : Type 1} → statement M
 exchange-spec =
     tie.close
     (tie.spec
-    Inv-loop
-    μ-loop
-    loop-holds
+    Inv-loop μ-loop
+    (λ c. (omega arith, record { rows = c .pre .2; kept = λ t l. refl }))
     (λ c κs. search needs) (λ c. search needs) (λ c. search needs) (λ c. search needs) (λ c. search needs)
-    loop-again
+    (λ c.
+    let l = c .before .before .loop in
+    let start = c .before .before .before in (
+      omega arith,
+      record {
+        rows = upto-put _ (omega (arith, start .pre .3)) (column-row (l .t) (start .pre .0) (start .pre .1) (c .place-of-each .ensures)) (l .inv .1 .rows);
+        kept = λ j k. getD-set-other (l .columns) (l .t) j (c .place-of-each .result) [] (omega arith) ∙ l .inv .1 .kept j k;
+      },
+    ))
     returns)

@@ -14,9 +14,6 @@ last-small c =
     ⊎-elim (λ w. omega (arith, w .0 .taken, w .1, g .gather .ensures .2))
     (λ w. omega (arith, w .1, f .low, f .rows)) (c .before .if2 .came)
 
-exchange-requires : tie.Need-exchange-requires
-exchange-requires c κs = search needs
-
 returns : tie.Need-returns-3
 returns c = search needs
 
@@ -31,6 +28,5 @@ from-lines-spec =
     (b .0 .reciprocal, b .1, g .gather .ensures .0, g .gather .ensures .1, last-small c))
     (λ c. omega (arith, last-small (c .before .before .before)))
     (λ c. last-small (c .before .before .before))
-    (λ c κs. search needs) (λ c. search needs) (λ c κs. search needs)
-    exchange-requires
+    (λ c κs. search needs) (λ c. search needs) (λ c κs. search needs) (λ c κs. search needs)
     returns)

@@ -16,18 +16,6 @@ Inv-loop f₀ z₀ known a x i₀ r₀ f z i r = (r ≤ a) × (i ≤ r) × ((p :
 abbrev μ-loop : tie.MeasureT-loop
 μ-loop f₀ z₀ known a x i₀ r₀ f z i r = a - r
 
-loop-again : tie.Need-loop-again Inv-loop μ-loop
-loop-again c =
-    let l = c .before .before .loop in
-    let f = c .before .before .before .before .pre .0 in
-    let here : l .r < 16 = omega (arith, f .rows) in
-    let there : l .i < 16 = omega (arith, f .rows) in (
-      omega arith,
-      ⊎-elim (λ w. omega (arith, w .4)) (λ w. omega (arith, w .3)) (c .if1 .came),
-      λ p R. ⊎-elim (λ w. rw (w .2) (upto-put _ there (l .inv .2 p R .done (l .r) here) (l .inv .2 p R))) (λ w. rw (w .1) (l .inv .2 p R)) (c .if1 .came),
-      λ p X Z. ⊎-elim (λ w. rw (w .3) (set-row (l .i) _ there (X .small (l .r)) (l .inv .3 p X Z))) (λ w. rw (w .2) (l .inv .3 p X Z)) (c .if1 .came),
-    )
-
 returns : tie.Need-returns Inv-loop μ-loop
 returns c =
     let l = c .before .loop in
@@ -38,10 +26,18 @@ pub gather-spec : {M : Type 1} → statement M
 gather-spec =
     tie.close
     (tie.spec
-    Inv-loop
-    μ-loop
+    Inv-loop μ-loop
     (λ c. search needs) (λ c. search needs) (λ c. search needs) (λ c. search needs) (λ c. search needs) (λ c. search needs)
     (λ c. search needs) (λ c. search needs) (λ c. search needs) (λ c. search needs) (λ c. search needs) (λ c. search needs)
     (λ c. search needs) (λ c. search needs)
-    loop-again
+    (λ c.
+    let l = c .before .before .loop in
+    let f = c .before .before .before .before .pre .0 in
+    let here : l .r < 16 = omega (arith, f .rows) in
+    let there : l .i < 16 = omega (arith, f .rows) in (
+      omega arith,
+      ⊎-elim (λ w. omega (arith, w .4)) (λ w. omega (arith, w .3)) (c .if1 .came),
+      λ p R. ⊎-elim (λ w. rw (w .2) (upto-put _ there (l .inv .2 p R .done (l .r) here) (l .inv .2 p R))) (λ w. rw (w .1) (l .inv .2 p R)) (c .if1 .came),
+      λ p X Z. ⊎-elim (λ w. rw (w .3) (set-row (l .i) _ there (X .small (l .r)) (l .inv .3 p X Z))) (λ w. rw (w .2) (l .inv .3 p X Z)) (c .if1 .came),
+    ))
     returns)

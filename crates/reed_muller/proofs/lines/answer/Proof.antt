@@ -22,19 +22,24 @@ Inv-loop g inverses t messages₀ left doubts a costs₀ r₀ messages costs r =
 abbrev μ-loop : tie.MeasureT-loop
 μ-loop g inverses t messages₀ left doubts a costs₀ r₀ messages costs r = a - r
 
-loop-holds : tie.Need-loop-holds Inv-loop μ-loop
-loop-holds c =
-    let k = c .pre .4 in
-    (refl, omega arith, k .rows, record { size = k .rows .size; numbers = k .size; done = λ j l. absurd (omega arith); todo = λ j _ l. k .known j l })
+returns : tie.Need-returns Inv-loop μ-loop
+returns c = let l = c .before .loop in record { size = l .inv .3 .numbers; rows = l .inv .2; answered = λ r h. l .inv .3 .done r (omega arith) }
 
-read-requires : tie.Need-read-requires Inv-loop μ-loop
-read-requires c κs =
+pub answer-spec : {M : Type 1} → statement M
+answer-spec =
+    tie.close
+    (tie.spec
+    Inv-loop μ-loop
+    (λ c.
+    let k = c .pre .4 in
+    (refl, omega arith, k .rows, record { size = k .rows .size; numbers = k .size; done = λ j l. absurd (omega arith); todo = λ j _ l. k .known j l }))
+    (λ c. search needs) (λ c. search needs) (λ c. search needs) (λ c. search needs) (λ c. search needs) (λ c. search needs)
+    (λ c κs.
     let start = c .before .before .before .before .before in
     let r = c .before .before .before .before .loop .r in
-    (start .pre .0, start .pre .1, start .pre .2 .done r (omega (arith, start .pre .0 .rows)), start .pre .3 r (omega arith), start .pre .5)
-
-loop-again : tie.Need-loop-again Inv-loop μ-loop
-loop-again c =
+    (start .pre .0, start .pre .1, start .pre .2 .done r (omega (arith, start .pre .0 .rows)), start .pre .3 r (omega arith), start .pre .5))
+    (λ c. search needs) (λ c. search needs) (λ c. search needs) (λ c. search needs) (λ c. search needs) (λ c. search needs)
+    (λ c.
     let start = c .before .before .before in
     let l = c .before .before .loop in
     let f = start .pre .0 in
@@ -43,20 +48,5 @@ loop-again c =
     let K = I .todo (l .r) (omega arith) (omega arith) in
     ⊎-elim (λ w. rw (w .5, w .6) (refl, omega arith, upto-put _ h (w .3 .ensures .good) (l .inv .2), both-step _ _ h (w .3 .ensures) I))
     (λ w. rw (w .1, w .2) (refl, omega arith, l .inv .2, both-pass (answered-kept f (start .pre .3 (l .r) (omega arith)) (w .0 .left) K) I))
-    (c .if1 .came)
-
-returns : tie.Need-returns Inv-loop μ-loop
-returns c = let l = c .before .loop in record { size = l .inv .3 .numbers; rows = l .inv .2; answered = λ r h. l .inv .3 .done r (omega arith) }
-
-pub answer-spec : {M : Type 1} → statement M
-answer-spec =
-    tie.close
-    (tie.spec
-    Inv-loop
-    μ-loop
-    loop-holds
-    (λ c. search needs) (λ c. search needs) (λ c. search needs) (λ c. search needs) (λ c. search needs) (λ c. search needs)
-    read-requires
-    (λ c. search needs) (λ c. search needs) (λ c. search needs) (λ c. search needs) (λ c. search needs) (λ c. search needs)
-    loop-again
+    (c .if1 .came))
     returns)

@@ -17,12 +17,6 @@ Inv-loop radius leading found costs out₀ r₀ out r = (r ≤ 16) × Upto 16 0 
 abbrev μ-loop : tie.MeasureT-loop
 μ-loop radius leading found costs out₀ r₀ out r = 16 - r
 
-loop-holds : tie.Need-loop-holds Inv-loop μ-loop
-loop-holds c = (omega arith, upto-start (c .pre))
-
-loop-again : tie.Need-loop-again Inv-loop μ-loop
-loop-again c = (omega arith, upto-step (c .keep .result) (omega arith) (c .keep .ensures) (c .before .before .loop .inv .1))
-
 returns : tie.Need-returns Inv-loop μ-loop
 returns c = upto-row (upto-less (omega arith) (c .before .loop .inv .1))
 
@@ -30,10 +24,9 @@ pub carry-spec : {M : Type 1} → statement M
 carry-spec =
     tie.close
     (tie.spec
-    Inv-loop
-    μ-loop
-    loop-holds
+    Inv-loop μ-loop
+    (λ c. (omega arith, upto-start (c .pre)))
     (λ c. search needs) (λ c. search needs) (λ c. search needs) (λ c. search needs) (λ c. search needs) (λ c. search needs)
     (λ c κs. search needs) (λ c. search needs) (λ c. search needs) (λ c. search needs) (λ c. search needs)
-    loop-again
+    (λ c. (omega arith, upto-step (c .keep .result) (omega arith) (c .keep .ensures) (c .before .before .loop .inv .1)))
     returns)

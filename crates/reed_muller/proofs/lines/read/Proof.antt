@@ -5,9 +5,6 @@ use borrow.Author.Needs.{needs}
 use Rattle.reed_muller.proofs.lines.read.Statement.{statement}
 use Rattle.reed_muller.proofs.lines.read.Tie as tie
 
-decode-requires : tie.Need-decode-requires
-decode-requires c κs = let b = c .before .pre in (record { axis = line-valid (b .0) (b .1); symbols = b .2; doubts = b .3 }, b .4)
-
 returns : tie.Need-returns
 returns c =
     let i = c .before in
@@ -19,7 +16,7 @@ pub read-spec : {M : Type 1} → statement M
 read-spec =
     tie.close
     (tie.spec
-    decode-requires
+    (λ c κs. let b = c .before .pre in (record { axis = line-valid (b .0) (b .1); symbols = b .2; doubts = b .3 }, b .4))
     returns
     (λ c. search needs) (λ c. search needs)
     (λ c. let start = c .before .before .before .before .before in omega (arith, line-full (start .args .t) (start .pre .0)))

@@ -14,12 +14,6 @@ Inv-loop message₀ columns d k₀ message k = (k ≤ d + 1) × Flat columns k m
 abbrev μ-loop : tie.MeasureT-loop
 μ-loop message₀ columns d k₀ message k = d + 1 - k
 
-loop-holds : tie.Need-loop-holds Inv-loop μ-loop
-loop-holds c = (omega arith, record { size = c .pre .0; is = λ t i h. absurd (omega arith) })
-
-loop-again : tie.Need-loop-again Inv-loop μ-loop
-loop-again c = (omega arith, flat-more (omega arith) (c .put-group .ensures) (c .before .before .before .loop .inv .1))
-
 returns : tie.Need-returns Inv-loop μ-loop
 returns c = let l = c .before .loop in let e : l .k ≡ c .before .before .args .d + 1 = omega arith in rw e at (l .inv .1)
 
@@ -27,10 +21,9 @@ pub flatten-spec : {M : Type 1} → statement M
 flatten-spec =
     tie.close
     (tie.spec
-    Inv-loop
-    μ-loop
-    loop-holds
+    Inv-loop μ-loop
+    (λ c. (omega arith, record { size = c .pre .0; is = λ t i h. absurd (omega arith) }))
     (λ c κs. (c .before .before .loop .inv .1 .size, omega arith))
     (λ c. search needs) (λ c. search needs)
-    loop-again
+    (λ c. (omega arith, flat-more (omega arith) (c .put-group .ensures) (c .before .before .before .loop .inv .1)))
     returns)

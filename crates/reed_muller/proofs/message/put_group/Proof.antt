@@ -16,30 +16,6 @@ Inv-loop message₀ columns k first j₀ message j = (j ≤ k + 1) × Stretch 13
 abbrev μ-loop : tie.MeasureT-loop
 μ-loop message₀ columns k first j₀ message j = k + 1 - j
 
-loop-holds : tie.Need-loop-holds Inv-loop μ-loop
-loop-holds c = (omega arith, stretch-start (c .before .pre .0))
-
-add-message : tie.Need-add-message Inv-loop μ-loop
-add-message c =
-    let k = c .before .before .before .before in
-    omega (arith, start-most (k .args .k) (k .pre .1), c .before .before .before .start .ensures)
-
-mul-message-3 : tie.Need-mul-message-3 Inv-loop μ-loop
-mul-message-3 c =
-    let k = c .before .before .before .before in
-    omega (arith, start-most (k .args .k) (k .pre .1), c .before .before .before .start .ensures)
-
-element-write-message : tie.Need-element-write-message Inv-loop μ-loop
-element-write-message c =
-    let k = c .before .before .before .before in
-    omega (arith, start-most (k .args .k) (k .pre .1), c .before .before .before .start .ensures)
-
-loop-again : tie.Need-loop-again Inv-loop μ-loop
-loop-again c =
-    let k = c .before .before .before .before in
-    let fits = start-most (k .args .k) (k .pre .1) in
-    (omega arith, stretch-step _ (omega (arith, fits, c .before .before .before .start .ensures)) refl (c .before .before .loop .inv .1))
-
 returns : tie.Need-returns Inv-loop μ-loop
 returns c =
     let s = c .before .loop .inv .1 in
@@ -50,14 +26,22 @@ pub put-group-spec : {M : Type 1} → statement M
 put-group-spec =
     tie.close
     (tie.spec
-    Inv-loop
-    μ-loop
+    Inv-loop μ-loop
     (λ c κs. search needs)
-    loop-holds
+    (λ c. (omega arith, stretch-start (c .before .pre .0)))
     (λ c. search needs) (λ c. search needs) (λ c. search needs) (λ c. search needs)
-    add-message
-    mul-message-3
-    element-write-message
+    (λ c.
+    let k = c .before .before .before .before in
+    omega (arith, start-most (k .args .k) (k .pre .1), c .before .before .before .start .ensures))
+    (λ c.
+    let k = c .before .before .before .before in
+    omega (arith, start-most (k .args .k) (k .pre .1), c .before .before .before .start .ensures))
+    (λ c.
+    let k = c .before .before .before .before in
+    omega (arith, start-most (k .args .k) (k .pre .1), c .before .before .before .start .ensures))
     (λ c. search needs) (λ c. search needs)
-    loop-again
+    (λ c.
+    let k = c .before .before .before .before in
+    let fits = start-most (k .args .k) (k .pre .1) in
+    (omega arith, stretch-step _ (omega (arith, fits, c .before .before .before .start .ensures)) refl (c .before .before .loop .inv .1)))
     returns)

@@ -15,25 +15,6 @@ Inv-loop g left doubts a sum₀ r₀ sum r = (a ≡ g .a) × (r ≤ a) × (sum �
 abbrev μ-loop : tie.MeasureT-loop
 μ-loop g left doubts a sum₀ r₀ sum r = a - r
 
-loop-holds : tie.Need-loop-holds Inv-loop μ-loop
-loop-holds c = (refl, omega arith, refl, omega arith)
-
-word-cost-requires : tie.Need-word-cost-requires Inv-loop μ-loop
-word-cost-requires c κs = let b = c .before .before .before .before in (b .pre .0 .columns, b .pre .1 (c .before .before .before .loop .r) (omega arith), omega (arith, b .pre .0 .full))
-
-add-sum : tie.Need-add-sum Inv-loop μ-loop
-add-sum c =
-    let f = c .before .before .before .before .before .pre .0 in
-    omega (arith, c .word-cost .ensures .1, f .rows, f .columns)
-
-loop-again : tie.Need-loop-again Inv-loop μ-loop
-loop-again c =
-    let start = c .before .before .before .before .before in
-    let l = c .before .before .before .before .loop in
-    let g = start .args .g in
-    let more = remaining-more (g .full) (l .r) (g .b) (start .args .doubts .now) (start .args .left .now) (start .pre .0 .columns) in
-    (refl, omega arith, omega (arith, more, l .inv .2, c .word-cost .ensures .0), omega (arith, c .word-cost .ensures .1, start .pre .0 .columns))
-
 returns : tie.Need-returns Inv-loop μ-loop
 returns c = let l = c .before .loop in let e : l .r ≡ c .before .before .args .g .a = omega arith in rw e at (l .inv .2)
 
@@ -41,12 +22,18 @@ pub measure-spec : {M : Type 1} → statement M
 measure-spec =
     tie.close
     (tie.spec
-    Inv-loop
-    μ-loop
-    loop-holds
+    Inv-loop μ-loop
+    (λ c. (refl, omega arith, refl, omega arith))
     (λ c. search needs) (λ c. search needs) (λ c. search needs) (λ c. search needs)
-    word-cost-requires
-    add-sum
+    (λ c κs. let b = c .before .before .before .before in (b .pre .0 .columns, b .pre .1 (c .before .before .before .loop .r) (omega arith), omega (arith, b .pre .0 .full)))
+    (λ c.
+    let f = c .before .before .before .before .before .pre .0 in
+    omega (arith, c .word-cost .ensures .1, f .rows, f .columns))
     (λ c. search needs) (λ c. search needs)
-    loop-again
+    (λ c.
+    let start = c .before .before .before .before .before in
+    let l = c .before .before .before .before .loop in
+    let g = start .args .g in
+    let more = remaining-more (g .full) (l .r) (g .b) (start .args .doubts .now) (start .args .left .now) (start .pre .0 .columns) in
+    (refl, omega arith, omega (arith, more, l .inv .2, c .word-cost .ensures .0), omega (arith, c .word-cost .ensures .1, start .pre .0 .columns)))
     returns)

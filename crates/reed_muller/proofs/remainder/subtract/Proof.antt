@@ -34,21 +34,31 @@ Inv-loop g left₀ power v a r₀ left r =
 abbrev μ-loop : tie.MeasureT-loop
 μ-loop g left₀ power v a r₀ left r = a - r
 
-loop-holds : tie.Need-loop-holds Inv-loop μ-loop
-loop-holds c = (refl, omega arith, c .pre .1, record { size = c .pre .1 .size; done = λ j l. absurd (omega arith); todo = λ j _ l. refl })
+returns : tie.Need-returns Inv-loop μ-loop
+returns c = let l = c .before .loop in record { rows = l .inv .2; each = λ r h. l .inv .3 .done r (omega arith) }
 
-sub-add-multiple : tie.Need-sub-add-multiple Inv-loop μ-loop
-sub-add-multiple c = omega (arith, c .before .before .before .before .before .pre .2 .small (c .before .before .before .before .loop .r))
-
-add-multiple-requires : tie.Need-add-multiple-requires Inv-loop μ-loop
-add-multiple-requires c κs =
+pub subtract-spec : {M : Type 1} → statement M
+subtract-spec =
+    tie.close
+    (tie.spec
+    Inv-loop μ-loop
+    (λ c. (refl, omega arith, c .pre .1, record { size = c .pre .1 .size; done = λ j l. absurd (omega arith); todo = λ j _ l. refl }))
+    (λ c. omega (arith, c .before .before .pre .0 .rows))
+    (λ c. omega (arith, c .before .before .pre .0 .rows))
+    (λ c. omega (arith, c .before .before .before .pre .0 .rows))
+    (λ c. omega (arith, c .before .before .before .pre .0 .rows))
+    (λ c. omega (arith, c .before .before .before .before .pre .0 .rows))
+    (λ c. omega (arith, c .before .before .before .before .pre .0 .rows))
+    (λ c. omega (arith, c .before .before .before .before .before .pre .2 .small (c .before .before .before .before .loop .r)))
+    (λ c κs.
     let start = c .before .before .before .before .before in
     let l = c .before .before .before .before .loop in
     let f = start .pre .0 in
-    (f .reciprocal, l .inv .2 .done (l .r) (omega (arith, f .rows)), start .pre .3, omega arith)
-
-loop-again : tie.Need-loop-again Inv-loop μ-loop
-loop-again c =
+    (f .reciprocal, l .inv .2 .done (l .r) (omega (arith, f .rows)), start .pre .3, omega arith))
+    (λ c. omega (arith, c .before .before .before .before .before .before .pre .0 .rows))
+    (λ c. omega (arith, c .before .before .before .before .before .before .pre .0 .rows))
+    (λ c. search needs) (λ c. search needs)
+    (λ c.
     let start = c .before .before .before in
     let f = start .pre .0 in
     let l = c .before .before .loop in
@@ -57,28 +67,5 @@ loop-again c =
     ⊎-elim
     (λ w. rw (w .4) (refl, omega arith, upto-put _ h (result-row _ (positive f) (w .3 .ensures)) (l .inv .2), passed-step _ h (rw as-it-was at (w .3 .ensures)) (l .inv .3)))
     (λ w. rw (w .1) (refl, omega arith, l .inv .2, passed-over (rw as-it-was (unchanged (start .args .power) (start .pre .1 .done (l .r) h) (positive f) (w .0 .left))) (l .inv .3)))
-    (c .if1 .came)
-
-returns : tie.Need-returns Inv-loop μ-loop
-returns c = let l = c .before .loop in record { rows = l .inv .2; each = λ r h. l .inv .3 .done r (omega arith) }
-
-pub subtract-spec : {M : Type 1} → statement M
-subtract-spec =
-    tie.close
-    (tie.spec
-    Inv-loop
-    μ-loop
-    loop-holds
-    (λ c. omega (arith, c .before .before .pre .0 .rows))
-    (λ c. omega (arith, c .before .before .pre .0 .rows))
-    (λ c. omega (arith, c .before .before .before .pre .0 .rows))
-    (λ c. omega (arith, c .before .before .before .pre .0 .rows))
-    (λ c. omega (arith, c .before .before .before .before .pre .0 .rows))
-    (λ c. omega (arith, c .before .before .before .before .pre .0 .rows))
-    sub-add-multiple
-    add-multiple-requires
-    (λ c. omega (arith, c .before .before .before .before .before .before .pre .0 .rows))
-    (λ c. omega (arith, c .before .before .before .before .before .before .pre .0 .rows))
-    (λ c. search needs) (λ c. search needs)
-    loop-again
+    (c .if1 .came))
     returns)

@@ -1,9 +1,10 @@
--- `reed_muller::solver::solve_by_degrees` meets its contract: the coefficients of Y^t and higher are found and subtracted. Assumes nothing.
+-- `reed_muller::solver::solve_by_degrees` meets its contract: the coefficients of Y^t and higher are found and subtracted.
+-- Assumes nothing.
 use mathlib.Core.Path.{_≡_, refl}
-use Prim.Native.Nat.{suc, _+_, _-_, _≤_}
+use Prim.Native.Nat.{suc, _+_, _-_, _≤_, _<_}
 use native.Mathlib.Omega.{arith}
 use native.Mathlib.Numerals.{add-one}
-use lib.ListN.{getD-replicate}
+use lib.ListN.{set, getD-replicate}
 use borrow.Author.Tests.{not-true, not-false}
 use Rattle.polynomial.proofs.Powers.{equal-rows}
 use Rattle.reed_muller.specs.Answers.{unknown}
@@ -16,132 +17,102 @@ use Rattle.reed_muller.proofs.solver.solve_by_degrees.Statement.{statem
 use Rattle.reed_muller.proofs.solver.solve_by_degrees.Tie as tie
 
 abbrev Inv-loop : tie.InvT-loop
-Inv-loop g inverses left₀ doubts columns₀ radius messages₀ known₀ untried₀ t₀ left columns messages known untried t =
-    (radius ≡ limit g) × (t ≤ g .d + 1) × Solving g t left₀ doubts left columns messages known
+Inv-loop g inverses ys left₀ doubts columns₀ radius messages₀ known₀ untried₀ t₀ left columns messages known untried t =
+    (t ≤ g .d + 1) × Solving g t left₀ doubts left columns messages known
 
 abbrev μ-loop : tie.MeasureT-loop
-μ-loop g inverses left₀ doubts columns₀ radius messages₀ known₀ untried₀ t₀ left columns messages known untried t =
-    t
+μ-loop g inverses ys left₀ doubts columns₀ radius messages₀ known₀ untried₀ t₀ left columns messages known untried t = t
 
-loop-holds : tie.Need-loop-holds Inv-loop μ-loop
-loop-holds c =
-    let start = c .before .before in
-    let f = start .pre .0 in (
-      c .before .radius .ensures,
-      omega arith,
-      rw (add-one (start .args .g .d))
-          (solving-start f (start .pre .1) (start .pre .3) (equal-rows 0 (positive f)) refl (λ r l. getD-replicate 16 r unknown 0 l)),
-    )
+-- a step from Y^t
+module _ (c : tie.After-step Inv-loop μ-loop) where
+  abbrev head : tie.At-loop Inv-loop μ-loop
+  head = c .before .before .before .before
 
-step-requires : tie.Need-step-requires Inv-loop μ-loop
-step-requires c κs =
-    let l = c .before .before .before .loop in
-    let start = c .before .before .before .before .before .before in
-    let e : l .t ≡ suc (l .t - 1) = omega arith in
-    (start .pre .0, omega arith, l .inv .2 .rows, start .pre .2, l .inv .2 .known (l .t - 1) e, start .pre .4)
+  abbrev start : tie.Start Inv-loop μ-loop
+  start = head .before .before .before
+
+  low : head .loop .t - 1 ≤ start .args .g .d
+  low = omega (arith, head .loop .inv .0, c .before .before .before .loop-test .taken)
+
+  small : head .loop .t - 1 < 16
+  small = let f = start .pre .0 in omega (arith, low, f .low, f .rows)
+
+  next : head .loop .t ≡ suc (head .loop .t - 1)
+  next = omega (arith, c .before .before .before .loop-test .taken)
+
+-- it found its column
+found : (c : tie.Else1 Inv-loop μ-loop) → let s = c .before .before in let last = s .step .last .1 .1 .1 .1 .1 in
+    Solving (start s .args .g) (head s .loop .t - 1) (start s .args .left .now) (start s .args .doubts .now) (last .1 .0)
+    (set (head s .loop .columns) (head s .loop .t - 1) (s .step .result .message)) (last .0) (s .step .result .known)
+found c =
+    let s = c .before .before in
+    solving-next (start s .pre .0) (next s) (low s) (head s .loop .inv .1) (s .step .ensures) (not-false _ (c .if1 .left))
 
 returns : tie.Need-returns Inv-loop μ-loop
 returns c =
-    let l = c .before .before .before .before .before .before .loop in
-    let e : l .t ≡ suc (l .t - 1) = omega arith in
-    rw (l .inv .0) (solving-none (c .before .before .before .before .before .before .before .before .before .pre .0) (omega arith) _ _ _ _ _ _ _ (rw e at (l .inv .2)) (c .before .before .step .ensures) (not-true _ (c .if1 .taken)) _)
-
-mul-w : tie.Need-mul-w Inv-loop μ-loop
-mul-w c = let f = c .before .before .before .before .before .before .before .before .before .before .pre .0 in omega (arith, f .low, f .rows)
-
-element-set-from-w : tie.Need-element-set-from-w Inv-loop μ-loop
-element-set-from-w c = let f = c .before .before .before .before .before .before .before .before .before .before .pre .0 in omega (arith, f .low, f .rows)
-
-from-lines-requires : tie.Need-from-lines-requires Inv-loop μ-loop
-from-lines-requires c κs =
-    let found = c .before .before .before .before .before in
-    let l = found .before .before .before .before .before .before .loop in
-    let start = found .before .before .before .before .before .before .before .before .before in
-    let f = start .pre .0 in
-    let e : l .t ≡ suc (l .t - 1) = omega (arith, found .before .before .before .before .before .loop-test .taken) in
-    let S = solving-next f (omega (arith, e, l .inv .1)) _ _ _ _ _ _ _ (rw e at (l .inv .2)) (found .before .before .step .ensures) (not-false _ (found .if1 .left)) in
-    (f, start .pre .4, omega arith, found .before .before .step .ensures .lines, S .coefficients)
-
-complete-requires : tie.Need-complete-requires Inv-loop μ-loop
-complete-requires c κs =
-    let found = c .before .before .before .before .before .before .before .before .before in
-    let l = found .before .before .before .before .before .before .loop in
-    let start = found .before .before .before .before .before .before .before .before .before in
-    let f = start .pre .0 in
-    let e : l .t ≡ suc (l .t - 1) = omega (arith, found .before .before .before .before .before .loop-test .taken) in
-    let S = solving-next f (omega (arith, e, l .inv .1)) _ _ _ _ _ _ _ (rw e at (l .inv .2)) (found .before .before .step .ensures) (not-false _ (found .if1 .left)) in
-    let R = c .before .before .before .from-lines .ensures in
-    (f, omega arith, R .rows, S .rows, start .pre .2)
+    let s = c .before .before in
+    rw (head s .before .before .radius .ensures)
+    (solving-none (start s .pre .0) (next s) (low s) (head s .loop .inv .1) (s .step .ensures) (not-true _ (c .if1 .taken)) _)
 
 returns-2 : tie.Need-returns-2 Inv-loop μ-loop
 returns-2 c =
-    let found = c .before .before .before .before .before .before .before .before .before .before .before in
-    let l = found .before .before .before .before .before .before .loop in
-    let start = found .before .before .before .before .before .before .before .before .before in
-    let f = start .pre .0 in
-    let e : l .t ≡ suc (l .t - 1) = omega (arith, found .before .before .before .before .before .loop-test .taken) in
-    let S = solving-next f (omega (arith, e, l .inv .1)) _ _ _ _ _ _ _ (rw e at (l .inv .2)) (found .before .before .step .ensures) (not-false _ (found .if1 .left)) in
-    let R = c .before .before .before .before .before .from-lines .ensures in
-    drawn-solved (solving-drawn (solving-redrawn S R)) (c .before .complete .ensures) (omega (arith, c .if4 .taken, l .inv .0))
-
-loop-again : tie.Need-loop-again Inv-loop μ-loop
-loop-again c =
-    let found = c .before .before .before .before .before .before .before .before .before .before .before in
-    let l = found .before .before .before .before .before .before .loop in
-    let start = found .before .before .before .before .before .before .before .before .before in
-    let f = start .pre .0 in
-    let e : l .t ≡ suc (l .t - 1) = omega (arith, found .before .before .before .before .before .loop-test .taken) in
-    let S = solving-next f (omega (arith, e, l .inv .1)) _ _ _ _ _ _ _ (rw e at (l .inv .2)) (found .before .before .step .ensures) (not-false _ (found .if1 .left)) in
-    let R = c .before .before .before .before .before .from-lines .ensures in
-    (l .inv .0, omega arith, rw (c .before .complete .ensures .over (omega (arith, c .if4 .left, l .inv .0))) (solving-redrawn S R))
-
-loop-again-2 : tie.Need-loop-again-2 Inv-loop μ-loop
-loop-again-2 c =
-    let found = c .before .before .before .before .before .before .before in
-    let l = found .before .before .before .before .before .before .loop in
-    let start = found .before .before .before .before .before .before .before .before .before in
-    let f = start .pre .0 in
-    let e : l .t ≡ suc (l .t - 1) = omega (arith, found .before .before .before .before .before .loop-test .taken) in
-    let S = solving-next f (omega (arith, e, l .inv .1)) _ _ _ _ _ _ _ (rw e at (l .inv .2)) (found .before .before .step .ensures) (not-false _ (found .if1 .left)) in
-    (l .inv .0, omega arith, solving-redrawn S (c .before .from-lines .ensures))
-
-loop-again-3 : tie.Need-loop-again-3 Inv-loop μ-loop
-loop-again-3 c =
-    let found = c .before .before .before in
-    let l = found .before .before .before .before .before .before .loop in
-    let start = found .before .before .before .before .before .before .before .before .before in
-    let f = start .pre .0 in
-    let e : l .t ≡ suc (l .t - 1) = omega (arith, found .before .before .before .before .before .loop-test .taken) in
-    let S = solving-next f (omega (arith, e, l .inv .1)) _ _ _ _ _ _ _ (rw e at (l .inv .2)) (found .before .before .step .ensures) (not-false _ (found .if1 .left)) in
-    (l .inv .0, omega arith, S)
+    let drafted = c .before .before .before .before .before in
+    let turn = drafted .before .before .before .before .before .before in
+    let radius = head (turn .before .before) .before .before .radius .ensures in
+    drawn-solved (solving-drawn (solving-redrawn (found turn) (drafted .from-lines .ensures))) (c .before .complete .ensures)
+    (omega (arith, c .if4 .taken, radius))
 
 returns-3 : tie.Need-returns-3 Inv-loop μ-loop
 returns-3 c =
     let l = c .before .before .before .loop in
     let e : l .t ≡ 0 = omega arith in
-    rw (c .measure .ensures) (solving-done (rw e at (l .inv .2)))
+    rw (c .measure .ensures) (solving-done (rw e at (l .inv .1)))
 
 pub solve-by-degrees-spec : {M : Type 1} → statement M
 solve-by-degrees-spec =
     tie.close
     (tie.spec
-    Inv-loop
-    μ-loop
+    Inv-loop μ-loop
     (λ c κs. search needs) (λ c. search needs)
-    loop-holds
+    (λ c.
+    let start = c .before .before in
+    let (f, _, _, sq, _, columns) = start .pre in
+    let S = solving-start f sq columns (equal-rows 0 (positive f)) refl (λ r l. getD-replicate 16 r unknown 0 l) in
+    (omega arith, rw (add-one (start .args .g .d)) S))
     (λ c. search needs)
-    step-requires
+    (λ c κs.
+    let head = c .before .before .before in
+    let (f, I, ys, _, du, _) = head .before .before .before .pre in
+    let S = head .loop .inv .1 in
+    (f, I, ys, omega arith, S .rows, du, S .known _ (omega arith)))
     returns
-    mul-w
-    element-set-from-w
-    from-lines-requires
-    complete-requires
+    (λ c. omega (arith, small (c .before .before .before)))
+    (λ c. small (c .before .before .before))
+    (λ c κs.
+    let turn = c .before .before .before .before .before in
+    let s = turn .before .before in
+    let b = start s .pre in
+    (b .0, b .1, low s, s .step .ensures .lines, found turn .coefficients))
+    (λ c κs.
+    let drafted = c .before .before .before in
+    let turn = drafted .before .before .before .before .before .before in
+    let s = turn .before .before in
+    let b = start s .pre in
+    (b .0, b .2, omega (arith, low s), drafted .from-lines .ensures .rows, found turn .rows, b .4))
     returns-2
     (λ c. search needs)
-    loop-again
+    (λ c.
+    let drafted = c .before .before .before .before .before in
+    let turn = drafted .before .before .before .before .before .before in
+    let radius = head (turn .before .before) .before .before .radius .ensures in
+    let over = c .before .complete .ensures .over (omega (arith, c .if4 .left, radius)) in
+    (omega (arith, low (turn .before .before)), rw over (solving-redrawn (found turn) (drafted .from-lines .ensures))))
     (λ c. search needs)
-    loop-again-2
+    (λ c.
+    let drafted = c .before in
+    let turn = drafted .before .before .before .before .before .before in
+    (omega (arith, low (turn .before .before)), solving-redrawn (found turn) (drafted .from-lines .ensures)))
     (λ c. search needs)
-    loop-again-3
+    (λ c. let turn = c .before .before .before in (omega (arith, low (turn .before .before)), found turn))
     (λ c κs. search needs)
     returns-3)

@@ -1,67 +1,67 @@
 -- `reed_muller::solver::step` meets its contract: by the laws of a step with and without an answer. Assumes nothing.
+use Prim.Native.Nat.{_<_}
 use native.Mathlib.Omega.{arith}
 use borrow.Author.Tests.{not-true, not-false}
 use Rattle.field.proofs.Row.{result-row}
-use Rattle.reed_muller.proofs.Answers.{positive, line-full, strip-valid}
-use Rattle.reed_muller.proofs.Steps.{leading-row, stepped-none, stepped-found}
+use Rattle.reed_muller.proofs.Answers.{positive, line-full}
+use Rattle.reed_muller.proofs.Steps.{leading-received, stepped-none, stepped-found}
 use borrow.Author.Needs.{needs}
 use Rattle.reed_muller.proofs.solver.step.Statement.{statement}
 use Rattle.reed_muller.proofs.solver.step.Tie as tie
 
-mul-radius : tie.Need-mul-radius
-mul-radius c =
-    let start = c .before .before .before .before .before .before .before in
-    omega (arith, line-full (start .args .t) (start .pre .0))
+-- the strip of the leading coefficients is read: the states before that
+module _ (c : tie.After-struct-known3) where
+  abbrev led : tie.After-place-of-each
+  led = c .before .before .before .before
 
-decode-requires : tie.Need-decode-requires
-decode-requires c κs =
-    let leading = c .before .before .before .before in
-    let answered = leading .before .before in
-    let b = answered .before .before .before .pre in
-    let A = answered .answer .ensures in
-    let row = leading-row (b .0) _ _ _ A (leading .place-of-each .ensures) in
-    (record { axis = strip-valid (b .0) (b .1); symbols = row; doubts = λ r l. A .answered r l .entered .below }, b .5)
+  abbrev answered : tie.After-answer
+  answered = led .before .before
+
+  abbrev start : tie.Start
+  start = answered .before .before .before
+
+  small : start .args .t < 16
+  small = let b = start .pre in omega (arith, b .3, b .0 .low, b .0 .rows)
 
 returns : tie.Need-returns
 returns c =
-    let D = c .before .before .before .decode .ensures in
-    let leading = c .before .before .before .before .before .before .before .before .place-of-each .ensures in
-    let A = c .before .before .before .before .before .before .before .before .before .before .answer .ensures in
-    stepped-none (c .before .before .before .before .before .before .before .before .before .before .before .before .before .pre .0) _ _ _ A leading (D .small) (D .strip) (not-true _ (c .if1 .taken)) _ _
-
-power-requires : tie.Need-power-requires
-power-requires c κs = let f = c .before .before .before .before .before .before .before .before .before .before .before .before .before .before .before .pre .0 in (f .reciprocal, f .columnPoints)
-
-subtract-requires : tie.Need-subtract-requires
-subtract-requires c κs =
-    let start = c .before .before .before .before .before .before .before .before .before .before .before .before .before .before .before .before .before in
-    let f = start .pre .0 in
-    let values = c .before .before .before .before .before .before .before .decode .ensures .values (not-false _ (c .before .before .before .before .if1 .left)) in
-    (f, start .pre .2, result-row _ (positive f) values, result-row _ (positive f) (c .before .power .ensures))
-
-carry-requires : tie.Need-carry-requires
-carry-requires c κs = c .before .before .before .before .before .before .before .before .before .before .before .before .before .before .before .answer .ensures .size
+    let read = c .before .before .before in
+    let s = read .before in
+    stepped-none (start s .pre .0) (answered s .answer .ensures) (led s .place-of-each .ensures) (read .decode .ensures)
+    (not-true _ (c .if1 .taken)) _ _
 
 returns-2 : tie.Need-returns-2
 returns-2 c =
-    let found = not-false _ (c .before .before .before .before .before .before .if1 .left) in
-    let D = c .before .before .before .before .before .before .before .before .before .decode .ensures in
-    let leading = c .before .before .before .before .before .before .before .before .before .before .before .before .before .before .place-of-each .ensures in
-    let A = c .before .before .before .before .before .before .before .before .before .before .before .before .before .before .before .before .answer .ensures in
-    let start = c .before .before .before .before .before .before .before .before .before .before .before .before .before .before .before .before .before .before .before in
-    stepped-found (start .pre .0) _ _ _ A leading (D .small) (D .strip) found (start .pre .3) (start .pre .2) (D .values found) (c .before .before .before .power .ensures)
-    (c .before .subtract .ensures) (c .carry .ensures)
+    let found = c .before .before .before .before .before in
+    let read = found .before .before .before in
+    let s = read .before in
+    let (f, _, P, low, sq, du, _) = start s .pre in
+    stepped-found f (answered s .answer .ensures) (led s .place-of-each .ensures) (read .decode .ensures)
+    (not-false _ (found .if1 .left)) du sq (P .powers .done _ (omega arith)) (c .before .subtract .ensures) (c .carry .ensures)
 
 pub step-spec : {M : Type 1} → statement M
 step-spec =
     tie.close
     (tie.spec
     (λ c κs. search needs) (λ c κs. search needs) (λ c. search needs) (λ c. search needs)
-    mul-radius
+    (λ c.
+    let answered = c .before .before .before .before in
+    let start = answered .before .before .before in
+    omega (arith, line-full (start .args .t) (start .pre .0)))
     (λ c. search needs)
-    decode-requires
+    (λ c κs.
+    let b = start c .pre in
+    (leading-received (b .0) (answered c .answer .ensures) (led c .place-of-each .ensures) (b .3), b .1))
     returns
-    power-requires
-    subtract-requires
-    carry-requires
+    (λ c. let read = c .before .before .before .before .before in omega (arith, small (read .before)))
+    (λ c. let read = c .before .before .before .before .before in small (read .before))
+    (λ c κs.
+    let found = c .before .before .before in
+    let read = found .before .before .before in
+    let (f, _, P, _, sq, _, _) = start (read .before) .pre in
+    let values = read .decode .ensures .values (not-false _ (found .if1 .left)) in
+    (f, sq, result-row _ (positive f) values, P .rows .done _ (small (read .before))))
+    (λ c κs.
+    let read = c .before .before .before .before .before .before .before in
+    answered (read .before) .answer .ensures .size)
     returns-2)

@@ -7,7 +7,8 @@ use Rattle.reed_solomon.proofs.decoder.attempt.Statement.{statement}
 use Rattle.reed_solomon.proofs.decoder.attempt.Tie as tie
 
 -- the usable cells are enough
-enough : (c : tie.After-marked) → let g = c .before .before .before .args .g in Enough (g .p) (g .n) (g .k) (g .x) (c .marked .result)
+enough : (c : tie.After-marked) → let g = c .before .before .before .args .g in
+    Enough (g .p) (g .n) (g .k) (g .x) (c .marked .result)
 enough c =
     let (R, _, K, C) = c .before .before .before .pre in
     enough-usable R (C .holds) (c .before .usable-cells .ensures) K (c .marked .ensures) (C .hoped)
@@ -16,7 +17,8 @@ returns : tie.Need-returns
 returns c =
     let marked = c .before .before in
     let (R, _, K, C) = marked .before .before .before .pre in
-    tried-usable R (C .holds) (marked .before .usable-cells .ensures) K (marked .marked .ensures) (c .before .through .ensures _ (enough marked)) (c .measured .ensures)
+    tried-usable R (C .holds) (marked .before .usable-cells .ensures) K (marked .marked .ensures)
+    (c .before .through .ensures _ (enough marked)) (c .measured .ensures)
 
 pub attempt-spec : {M : Type 1} → statement M
 attempt-spec =

@@ -14,15 +14,6 @@ Inv-loop v marked₀ j₀ marked j = (j ≤ 16) × (marked ≡ sum j (at v)) × 
 abbrev μ-loop : tie.MeasureT-loop
 μ-loop v marked₀ j₀ marked j = 16 - j
 
-loop-holds : tie.Need-loop-holds Inv-loop μ-loop
-loop-holds c = (omega arith, refl, omega arith)
-
-loop-again : tie.Need-loop-again Inv-loop μ-loop
-loop-again c =
-    let l = c .before .loop in
-    let v = at (c .before .before .args .t1) in
-    (omega arith, omega (arith, sum-more (l .j) v, l .inv .1), omega (arith, c .before .before .pre (l .j)))
-
 returns : tie.Need-returns Inv-loop μ-loop
 returns c = let e : c .before .loop .j ≡ 16 = omega arith in rw e at (c .before .loop .inv .1)
 
@@ -30,12 +21,14 @@ pub count-spec : {M : Type 1} → statement M
 count-spec =
     tie.close
     (tie.spec
-    Inv-loop
-    μ-loop
-    loop-holds
+    Inv-loop μ-loop
+    (λ c. (omega arith, refl, omega arith))
     (λ c. search needs) (λ c. search needs)
     (λ c. omega (arith, c .before .before .pre (c .before .loop .j)))
     (λ c. search needs) (λ c. search needs)
-    loop-again
+    (λ c.
+    let l = c .before .loop in
+    let v = at (c .before .before .args .t1) in
+    (omega arith, omega (arith, sum-more (l .j) v, l .inv .1), omega (arith, c .before .before .pre (l .j))))
     (λ c. search needs)
     returns)

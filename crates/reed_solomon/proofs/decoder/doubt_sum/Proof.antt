@@ -13,22 +13,6 @@ Inv-loop n u doubts₀ j₀ doubts j = (j ≤ n) × (doubts ≡ sum j (at u)) ×
 abbrev μ-loop : tie.MeasureT-loop
 μ-loop n u doubts₀ j₀ doubts j = n - j
 
-loop-holds : tie.Need-loop-holds Inv-loop μ-loop
-loop-holds c = (omega arith, refl, omega arith)
-
-add-doubts : tie.Need-add-doubts Inv-loop μ-loop
-add-doubts c =
-    let start = c .before .before in
-    omega (arith, start .pre .0, start .pre .1 (c .before .loop .j) (c .loop-test .taken))
-
-loop-again : tie.Need-loop-again Inv-loop μ-loop
-loop-again c =
-    let start = c .before .before in
-    let l = c .before .loop in
-    let u = at (start .args .t2) in
-    let d = start .pre .1 (l .j) (c .loop-test .taken) in
-    (omega arith, omega (arith, sum-more (l .j) u, l .inv .1), omega (arith, d, l .inv .2))
-
 returns : tie.Need-returns Inv-loop μ-loop
 returns c =
     let at-loop = c .before in
@@ -38,13 +22,19 @@ pub doubt-sum-spec : {M : Type 1} → statement M
 doubt-sum-spec =
     tie.close
     (tie.spec
-    Inv-loop
-    μ-loop
-    loop-holds
+    Inv-loop μ-loop
+    (λ c. (omega arith, refl, omega arith))
     (λ c. omega (arith, c .before .before .pre .0))
     (λ c. omega (arith, c .before .before .pre .0))
-    add-doubts
+    (λ c.
+    let start = c .before .before in
+    omega (arith, start .pre .0, start .pre .1 (c .before .loop .j) (c .loop-test .taken)))
     (λ c. omega (arith, c .before .before .pre .0))
     (λ c. omega arith)
-    loop-again
+    (λ c.
+    let start = c .before .before in
+    let l = c .before .loop in
+    let u = at (start .args .t2) in
+    let d = start .pre .1 (l .j) (c .loop-test .taken) in
+    (omega arith, omega (arith, sum-more (l .j) u, l .inv .1), omega (arith, d, l .inv .2)))
     returns)

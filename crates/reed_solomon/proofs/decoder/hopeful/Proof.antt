@@ -1,4 +1,5 @@
--- `reed_solomon::decoder::hopeful` meets its contract: each refusal says why no near polynomial is under the radius. Assumes nothing.
+-- `reed_solomon::decoder::hopeful` meets its contract: each refusal says why no near polynomial is under the radius.
+-- Assumes nothing.
 use mathlib.Core.Path.{_≡_, sym, _∙_}
 use mathlib.Core.Bool.{false≢true}
 use native.Mathlib.Omega.{arith}
@@ -14,7 +15,8 @@ returns : tie.Need-returns
 returns c = λ d1 e1. record { yes = λ e. absurd (false≢true e); no = λ _ s R H. refuted-low R H (c .if1 .taken) }
 
 -- the usable cells were counted
-counted : (c : tie.After-count) → c .count .result ≡ sum 16 (usable (at (c .before .before .before .before .args .entered)) (at (c .before .before .before .before .args .e)))
+counted : (c : tie.After-count) → let args = c .before .before .before .before .args in
+    c .count .result ≡ sum 16 (usable (at (args .entered)) (at (args .e)))
 counted c =
     let start = c .before .before .before .before in
     c .count .ensures ∙ usable-sum (at (start .args .entered)) (at (start .args .e)) (c .before .usable-cells .ensures)
@@ -34,8 +36,10 @@ returns-3 c =
         high = compared .before .before .before .if1 .left;
         count = sym (counted (compared .before)) ∙ compared .if2 .left;
       };
-      no = λ e s R H. refuted-suspect R H (costed .before .suspect-cells .ensures)
-          (omega (arith, costed .word-cost .ensures .0, c .radius .ensures .0, ltb-false (costed .word-cost .result) (c .radius .result) e));
+      no = λ e s R H.
+          let over = ltb-false (costed .word-cost .result) (c .radius .result) e in
+          refuted-suspect R H (costed .before .suspect-cells .ensures)
+          (omega (arith, costed .word-cost .ensures .0, c .radius .ensures .0, over));
     }
 
 pub hopeful-spec : {M : Type 1} → statement M
@@ -49,7 +53,5 @@ hopeful-spec =
     let start = c .before .before .before in
     usable-bits (at (start .args .entered)) (at (start .args .e)) (c .usable-cells .ensures) (start .pre .3))
     returns-2
-    (λ c κs. search needs)
-    (λ c κs. search needs)
-    (λ c κs. search needs)
+    (λ c κs. search needs) (λ c κs. search needs) (λ c κs. search needs)
     returns-3)

@@ -21,17 +21,14 @@ returns-2 c =
     let compared = c .before .before .before .before in
     let costed = compared .before .before in
     let (R, fit) = costed .before .before .pre in
-    hit (found-rest R (fit .fits) refl (c .before .coefficients .ensures) (c .add-multiple .ensures) (costed .word-cost .ensures .0)
-    (omega (arith, compared .before .radius .ensures .0, compared .if1 .left)))
+    hit (found-rest R (fit .fits) refl (c .before .coefficients .ensures) (c .add-multiple .ensures)
+    (costed .word-cost .ensures .0) (omega (arith, compared .before .radius .ensures .0, compared .if1 .left)))
 
 pub measured-spec : {M : Type 1} → statement M
 measured-spec =
     tie.close
     (tie.spec
-    (λ c κs. search needs)
-    (λ c κs. search needs)
-    (λ c κs. search needs)
+    (λ c κs. search needs) (λ c κs. search needs) (λ c κs. search needs)
     returns
-    (λ c κs. search needs)
-    (λ c κs. search needs)
+    (λ c κs. search needs) (λ c κs. search needs)
     returns-2)

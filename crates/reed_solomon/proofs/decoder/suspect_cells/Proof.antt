@@ -17,12 +17,6 @@ Inv-loop d e out₀ j₀ out j = (j ≤ 16) × Upto 16 0 (λ k v. v ≡ suspect 
 abbrev μ-loop : tie.MeasureT-loop
 μ-loop d e out₀ j₀ out j = 16 - j
 
-loop-holds : tie.Need-loop-holds Inv-loop μ-loop
-loop-holds c = (omega arith, upto-start refl)
-
-loop-again : tie.Need-loop-again Inv-loop μ-loop
-loop-again c = (omega arith, upto-step (c .chosen .result) (omega arith) (c .chosen .ensures) (c .before .before .loop .inv .1))
-
 returns : tie.Need-returns Inv-loop μ-loop
 returns c = upto-row (upto-less (omega arith) (c .before .loop .inv .1))
 
@@ -30,10 +24,9 @@ pub suspect-cells-spec : {M : Type 1} → statement M
 suspect-cells-spec =
     tie.close
     (tie.spec
-    Inv-loop
-    μ-loop
-    loop-holds
+    Inv-loop μ-loop
+    (λ c. (omega arith, upto-start refl))
     (λ c. search needs) (λ c. search needs) (λ c. search needs) (λ c. search needs) (λ c κs. search needs) (λ c. search needs)
     (λ c. search needs) (λ c. search needs) (λ c. search needs)
-    loop-again
+    (λ c. (omega arith, upto-step (c .chosen .result) (omega arith) (c .chosen .ensures) (c .before .before .loop .inv .1)))
     returns)

@@ -1,0 +1,28 @@
+-- `reed_muller::solver::try_cells` meets its contract: by the law of a draft of all columns. Assumes nothing.
+use mathlib.Core.Path.{refl}
+use native.Mathlib.Omega.{arith}
+use Rattle.reed_muller.proofs.Drawn.{drawn-drafted}
+use borrow.Author.Needs.{needs}
+use Rattle.reed_muller.proofs.solver.try_cells.Statement.{statement}
+use Rattle.reed_muller.proofs.solver.try_cells.Tie as tie
+
+returns : tie.Need-returns
+returns c = record {
+  coefficients = c .before .before .from-cells .ensures;
+  under = λ l. absurd (omega (arith, c .radius .ensures));
+  over = λ _. refl;
+}
+
+returns-2 : tie.Need-returns-2
+returns-2 c =
+    let drawn = c .before .before .before .before .before in
+    drawn-drafted (drawn .before .before .before .pre .3) (drawn .from-cells .ensures) (c .complete .ensures)
+
+pub try-cells-spec : {M : Type 1} → statement M
+try-cells-spec =
+    tie.close
+    (tie.spec
+    (λ c κs. search needs) (λ c κs. search needs)
+    returns
+    (λ c. search needs) (λ c κs. search needs)
+    returns-2)
