@@ -24,9 +24,13 @@ module _ (t p m : ℕ) (r : Reciprocal p m) where
 pub remainder-is : (t p q r : ℕ) → r < p → t ≡ q * p + r → r ≡ t % p
 remainder-is t p q r h e = sym (ap (λ x. x % p) (e ∙ omega arith) ∙ add-mul-mod-self-right r q p ∙ mod-eq-of-lt h)
 
--- a product of two residues, and of one with the modulus itself, fits 16 bits with a residue added
+-- a product of two residues, and of one with the modulus itself, fits 16 bits
 pub product-fits : {p x y : ℕ} → p ≤ 251 → x ≤ p → y < p → x * y ≤ 62750
 product-fits {p} {x} {y} h a b = mul-le-mul {n₁ = x} {m₁ = y} {n₂ = 251} {m₂ = 250} (omega arith) (omega arith)
+
+-- and so does one with a residue added
+pub sum-fits : {p v x y : ℕ} → p ≤ 251 → v < p → x ≤ p → y < p → v + x * y ≤ 63000
+sum-fits h l a b = omega (arith, product-fits h a b)
 
 -- a number of three bytes by its high two and its low one
 pub fold-is : {p : ℕ} (t h c : ℕ) → 0 < p → h ≡ t / 256 % p → c ≡ 256 % p → (h * c + t % 256) % p ≡ t % p
