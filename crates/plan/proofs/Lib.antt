@@ -1,3 +1,4 @@
 -- The laws of what a plan says.
 pub mod Residues
 pub mod Ready
+pub mod Values

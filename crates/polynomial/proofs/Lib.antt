@@ -9,3 +9,4 @@ pub mod Coefficients
 pub mod Grid
 pub mod Powers
 pub mod Columns
+pub mod Cells

@@ -1,5 +1,6 @@
--- The degree step over any set of lines: it starts, it finds the next coefficients of every message under the radius or shows that there
--- is none, and after the last step what is left, measured against 0, is the cost. Then the same for two coordinates. Assumes nothing.
+-- The degree step over any set of lines: it starts, it finds the next coefficients of every message under the radius or shows
+-- that there is none, and after the last step what is left, measured against 0, is the cost. Then the same for two coordinates.
+-- Assumes nothing.
 use mathlib.Core.Path.{_≡_, refl, sym, ap, _∙_}
 use mathlib.Core.Bool.{Bool, true, false, false≢true}
 use Prim.Native.Nat.{ℕ, suc, _+_, _*_, _-_, _%_, _^_, _≤_, _<_, min}
@@ -17,50 +18,64 @@ use Rattle.polynomial.proofs.Grid.{distance-split}
 use Rattle.distance.proofs.Cost.{cell-less}
 use Rattle.reed_solomon.specs.Strip.{Strip}
 use Rattle.reed_muller.specs.Line.{HandsOn, Subtracted}
-use Rattle.reed_muller.specs.Degree.{total, remaining, Agrees, Costs, NearMessage, Left, lines, Bivariate, gridCost, GridNear, GridCosts, GridLeft}
+use Rattle.reed_muller.specs.Degree.{total, remaining, Agrees, Costs, NearMessage, Left, lines, Bivariate}
+use Rattle.reed_muller.specs.Degree.{gridCost, GridNear, GridCosts, GridLeft}
 
-module _ {q F a b d : ℕ} {y : ℕ → ℕ} {u : ℕ → ℕ → ℕ} where
-  pub costs-start : (s found : ℕ → ℕ → ℕ) → Costs q F a b d y u (suc d) s s found
+module _ {q full a b d : ℕ} {y : ℕ → ℕ} {u : ℕ → ℕ → ℕ} where
+  pub costs-start : (s found : ℕ → ℕ → ℕ) → Costs q full a b d y u (suc d) s s found
   costs-start s found = record { keeps = λ g n. refl }
 
   -- the values w of the coefficients of Y^t, subtracted, leave the cost of the lower terms
-  pub costs-next : {s left left′ found found′ : ℕ → ℕ → ℕ} {t : ℕ} (w : ℕ → ℕ) → t ≤ d → Costs q F a b d y u (suc t) s left found →
+  pub costs-next : {s left left′ found found′ : ℕ → ℕ → ℕ} {t : ℕ} (w : ℕ → ℕ) → t ≤ d →
+      Costs q full a b d y u (suc t) s left found →
       ((r : ℕ) → r < a → Subtracted q b t y (w r) (left r) (left′ r)) → ((r : ℕ) → r < a → Cong q (found′ t r) (w r)) →
-      ((t′ r : ℕ) → t < t′ → t′ ≤ d → r < a → Cong q (found′ t′ r) (found t′ r)) → Costs q F a b d y u t s left′ found′
+      ((t′ r : ℕ) → t < t′ → t′ ≤ d → r < a → Cong q (found′ t′ r) (found t′ r)) → Costs q full a b d y u t s left′ found′
   costs-next {left} {left′} {found′} {t} w td C sub new old = record {
     keeps = λ g f. less g f ∙ C .keeps g λ t′ r l m i. ~sym (old t′ r l m i) ⨾ f t′ r (omega arith) m i;
   }
     where
-      less : (g : ℕ → ℕ → ℕ) → Agrees q a d t found′ g → total q F a b y u t left′ g ≡ total q F a b y u (suc t) left g
+      less : (g : ℕ → ℕ → ℕ) → Agrees q a d t found′ g → total q full a b y u t left′ g ≡ total q full a b y u (suc t) left g
       less g f = sum-eq a λ r l. sum-eq b λ c m.
-          cell-less F (left r c) (left′ r c) (u r c) (eval t (λ t. g t r) (y c)) (g t r * y c ^ t) (sub r l .before c m) (sub r l .after c m)
+          cell-less full (left r c) (left′ r c) (u r c) (eval t (λ t. g t r) (y c)) (g t r * y c ^ t) (sub r l .before c m)
+          (sub r l .after c m)
           (~add (same refl) (~mul-right (y c ^ t) (~sym (f t r (omega arith) td l) ⨾ new r l)) ⨾ sub r l .term c m)
 
   -- after the last step
-  pub costs-last : {s left found : ℕ → ℕ → ℕ} → Costs q F a b d y u 0 s left found → (g : ℕ → ℕ → ℕ) → Agrees q a d 0 found g →
-      total q F a b y u (suc d) s g ≡ remaining F a b u left
-  costs-last {left} C g f = sym (C .keeps g f) ∙ sum-eq a λ r _. sum-eq b λ c _. ap (cell F (left r c) (u r c)) (zero-mod (suc q))
+  pub costs-last : {s left found : ℕ → ℕ → ℕ} → Costs q full a b d y u 0 s left found → (g : ℕ → ℕ → ℕ) → Agrees q a d 0 found g →
+      total q full a b y u (suc d) s g ≡ remaining full a b u left
+  costs-last {left} C g f =
+      sym (C .keeps g f) ∙ sum-eq a λ r _. sum-eq b λ c _. ap (cell full (left r c) (u r c)) (zero-mod (suc q))
 
-module _ {q F a b d D : ℕ} {y : ℕ → ℕ} {u : ℕ → ℕ → ℕ} {Code : (ℕ → ℕ → ℕ) → Type 0} where
-  pub left-start : (s found : ℕ → ℕ → ℕ) → Left q F a b d D y u Code (suc d) s s found
+module _ {q full a b d D : ℕ} {y : ℕ → ℕ} {u : ℕ → ℕ → ℕ} {Code : (ℕ → ℕ → ℕ) → Type 0} where
+  pub left-start : (s found : ℕ → ℕ → ℕ) → Left q full a b d D y u Code (suc d) s s found
   left-start s found = record { agrees = λ g n t r l m. absurd (omega arith); costs = costs-start s found }
 
   -- E is the distance of the words that the coefficients of Y^t form
-  module _ {s left found : ℕ → ℕ → ℕ} {t : ℕ} (td : t ≤ d) (E : ℕ) (enough : D ≤ (b - t) * E) (L : Left q F a b d D y u Code (suc t) s left found)
-      {e v : ℕ → ℕ} (cellAt : (r : ℕ) → r < a → HandsOn q F b t y (left r) (u r) (e r) (v r)) where
+  module _ {s left found : ℕ → ℕ → ℕ} {t : ℕ} (td : t ≤ d) (E : ℕ) (enough : D ≤ (b - t) * E)
+      (L : Left q full a b d D y u Code (suc t) s left found)
+      {e v : ℕ → ℕ} (cellAt : (r : ℕ) → r < a → HandsOn q full b t y (left r) (u r) (e r) (v r)) where
     -- these are under their radius
-    pub lower-near : (g : ℕ → ℕ → ℕ) → NearMessage q F a b d D y u Code s g → cost (F * (b - t)) a e v (λ r. g t r % suc q) < F * (b - t) * E
-    lower-near g n = omega (arith, sum-le a (λ r l. cellAt r l .cheap (λ t. g t r)), L .costs .keeps g (L .agrees g n), n .1, mul-le-mul-left F enough)
+    pub lower-near : (g : ℕ → ℕ → ℕ) → NearMessage q full a b d D y u Code s g →
+        cost (full * (b - t)) a e v (λ r. g t r % suc q) < full * (b - t) * E
+    lower-near g n = omega (
+      arith,
+      sum-le a (λ r l. cellAt r l .cheap (λ t. g t r)),
+      L .costs .keeps g (L .agrees g n),
+      n .1,
+      mul-le-mul-left full enough,
+    )
 
-    -- what the reader with one coordinate fewer answers: w has the coefficients of Y^t of every message that is under the radius there
+    -- what the reader with one coordinate fewer answers: w has the coefficients of Y^t of every message under the radius there
     module _ {answered : Bool} {w : ℕ → ℕ}
-        (S : (g : ℕ → ℕ → ℕ) → Code g → cost (F * (b - t)) a e v (λ r. g t r % suc q) < F * (b - t) * E →
+        (S : (g : ℕ → ℕ → ℕ) → Code g → cost (full * (b - t)) a e v (λ r. g t r % suc q) < full * (b - t) * E →
         (answered ≡ true) × ((r : ℕ) → r < a → Cong q (w r) (g t r))) where
-      pub left-none : answered ≡ false → (g : ℕ → ℕ → ℕ) → NearMessage q F a b d D y u Code s g → ⊥
+      pub left-none : answered ≡ false → (g : ℕ → ℕ → ℕ) → NearMessage q full a b d D y u Code s g → ⊥
       left-none z g n = false≢true (sym z ∙ S g (n .0) (lower-near g n) .0)
 
       pub left-next : {left′ found′ : ℕ → ℕ → ℕ} → ((r : ℕ) → r < a → Subtracted q b t y (w r) (left r) (left′ r)) →
-          ((r : ℕ) → r < a → Cong q (found′ t r) (w r)) → ((t′ r : ℕ) → t < t′ → t′ ≤ d → r < a → Cong q (found′ t′ r) (found t′ r)) → Left q F a b d D y u Code t s left′ found′
+          ((r : ℕ) → r < a → Cong q (found′ t r) (w r)) →
+          ((t′ r : ℕ) → t < t′ → t′ ≤ d → r < a → Cong q (found′ t′ r) (found t′ r)) →
+          Left q full a b d D y u Code t s left′ found′
       left-next sub new old = record {
         agrees = λ g n t′ r l m i. elim (ℕ-discrete t′ t) [
           | yes z ↦ rw z (new r i ⨾ S g (n .0) (lower-near g n) .1 r i)
@@ -74,25 +89,29 @@ pub bivariate-strip : {q R a : ℕ} (d t : ℕ) {x e v w : ℕ → ℕ} {answere
     (g : ℕ → ℕ → ℕ) → Bivariate d x g → cost R a e v (λ r. g t r % suc q) < R * (a - (d - t)) →
     (answered ≡ true) × ((r : ℕ) → r < a → Cong q (eval (suc (d - t)) w (x r)) (g t r))
 bivariate-strip {q} {R} {a} d t {x} {e} {v} S g (h, is) n =
-    let column-cost : cost R a e v (λ r. g t r % suc q) ≡ cost R a e v (values q (suc (d - t)) (λ i. h i t) x) = sum-eq a (λ r _. ap (λ z. cell R (e r) (v r) (z % suc q)) (is t r)) in
+    let column-cost : cost R a e v (λ r. g t r % suc q) ≡ cost R a e v (values q (suc (d - t)) (λ i. h i t) x) =
+    sum-eq a (λ r _. ap (λ z. cell R (e r) (v r) (z % suc q)) (is t r)) in
     let o = S .only (λ i. h i t) (rw column-cost at n) in
     (o .0, λ r l. eval-cong (suc (d - t)) (x r) (λ i k. o .1 i (omega arith)) ⨾ same (sym (is t r)))
 
-module _ {q F a b d : ℕ} (x : ℕ → ℕ) {y : ℕ → ℕ} {u : ℕ → ℕ → ℕ} where
-  pub grid-start : (s found : ℕ → ℕ → ℕ) → GridLeft q F a b d x y u (suc d) s s found
+module _ {q full a b d : ℕ} (x : ℕ → ℕ) {y : ℕ → ℕ} {u : ℕ → ℕ → ℕ} where
+  pub grid-start : (s found : ℕ → ℕ → ℕ) → GridLeft q full a b d x y u (suc d) s s found
   grid-start s found = left-start s (lines d x found)
 
-  module _ {s left : ℕ → ℕ → ℕ} (found : ℕ → ℕ → ℕ) {t : ℕ} (small : d < min a b) (td : t ≤ d) (L : GridLeft q F a b d x y u (suc t) s left found)
-      {e v : ℕ → ℕ} (cellAt : (r : ℕ) → r < a → HandsOn q F b t y (left r) (u r) (e r) (v r))
-      {answered : Bool} {w : ℕ → ℕ} {c : ℕ} (S : Strip q (F * (b - t)) a (d - t) x e v answered w c) where
+  module _ {s left : ℕ → ℕ → ℕ} (found : ℕ → ℕ → ℕ) {t : ℕ} (small : d < min a b) (td : t ≤ d)
+      (L : GridLeft q full a b d x y u (suc t) s left found)
+      {e v : ℕ → ℕ} (cellAt : (r : ℕ) → r < a → HandsOn q full b t y (left r) (u r) (e r) (v r))
+      {answered : Bool} {w : ℕ → ℕ} {c : ℕ} (S : Strip q (full * (b - t)) a (d - t) x e v answered w c) where
     -- the strip of leading coefficients has no answer: no record is under the radius
-    pub grid-none : answered ≡ false → (h : ℕ → ℕ → ℕ) → GridNear q F a b d x y u s h → ⊥
-    grid-none z h n = left-none td (a - (d - t)) (distance-split a b d t td small) L cellAt (bivariate-strip d t S) z (lines d x h) ((h, λ t r. refl), n)
+    pub grid-none : answered ≡ false → (h : ℕ → ℕ → ℕ) → GridNear q full a b d x y u s h → ⊥
+    grid-none z h n = left-none td (a - (d - t)) (distance-split a b d t td small) L cellAt (bivariate-strip d t S) z
+        (lines d x h) ((h, λ t r. refl), n)
 
     -- it has, and z r are its values: subtracted, they leave the lower terms
-    pub grid-next : {left′ : ℕ → ℕ → ℕ} (found′ : ℕ → ℕ → ℕ) (z : ℕ → ℕ) → ((r : ℕ) → r < a → Cong q (z r) (eval (suc (d - t)) w (x r))) →
+    pub grid-next : {left′ : ℕ → ℕ → ℕ} (found′ : ℕ → ℕ → ℕ) (z : ℕ → ℕ) →
+        ((r : ℕ) → r < a → Cong q (z r) (eval (suc (d - t)) w (x r))) →
         ((r : ℕ) → r < a → Subtracted q b t y (z r) (left r) (left′ r)) → ((i : ℕ) → i + t ≤ d → Cong q (found′ i t) (w i)) →
-        ((t′ i : ℕ) → t < t′ → i + t′ ≤ d → Cong q (found′ i t′) (found i t′)) → GridLeft q F a b d x y u t s left′ found′
+        ((t′ i : ℕ) → t < t′ → i + t′ ≤ d → Cong q (found′ i t′) (found i t′)) → GridLeft q full a b d x y u t s left′ found′
     grid-next found′ z value sub new old = left-next td (a - (d - t)) (distance-split a b d t td small) L cellAt
         (λ g m n. let o = bivariate-strip d t S g m n in (o .0, λ r l. value r l ⨾ o .1 r l)) sub
         (λ r l. eval-cong (suc (d - t)) (x r) (λ i k. new i (omega arith)) ⨾ ~sym (value r l))
@@ -100,11 +119,12 @@ module _ {q F a b d : ℕ} (x : ℕ → ℕ) {y : ℕ → ℕ} {u : ℕ → ℕ 
 
   module _ {s left : ℕ → ℕ → ℕ} (found : ℕ → ℕ → ℕ) where
     -- the record found costs what is left
-    pub grid-cost : GridCosts q F a b d x y u 0 s left found → (h : ℕ → ℕ → ℕ) → ((t i : ℕ) → i + t ≤ d → Cong q (found i t) (h i t)) →
-        gridCost q F a b d x y u s h ≡ remaining F a b u left
+    pub grid-cost : GridCosts q full a b d x y u 0 s left found → (h : ℕ → ℕ → ℕ) →
+        ((t i : ℕ) → i + t ≤ d → Cong q (found i t) (h i t)) →
+        gridCost q full a b d x y u s h ≡ remaining full a b u left
     grid-cost C h e = costs-last C (lines d x h) λ t r _ m _. eval-cong (suc (d - t)) (x r) λ i k. e t i (omega arith)
 
     -- where every record under the radius is the one found, and that is not under it, there is none
-    pub grid-over : GridLeft q F a b d x y u 0 s left found → F * gridDistance a b d ≤ remaining F a b u left →
-        (h : ℕ → ℕ → ℕ) → GridNear q F a b d x y u s h → ⊥
+    pub grid-over : GridLeft q full a b d x y u 0 s left found → full * gridDistance a b d ≤ remaining full a b u left →
+        (h : ℕ → ℕ → ℕ) → GridNear q full a b d x y u s h → ⊥
     grid-over L m h n = omega (arith, costs-last (L .costs) (lines d x h) (L .agrees (lines d x h) ((h, λ t r. refl), n)))

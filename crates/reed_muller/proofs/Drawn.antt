@@ -17,11 +17,13 @@ use Rattle.reed_muller.proofs.Degree.{costs-start, costs-next}
 use Rattle.reed_muller.proofs.Rest.{rest-start, rest-next}
 
 -- nothing is subtracted
-pub drawn-start : {g : Grid} {s u columns : List (List ℕ)} → Rows (g .p) s → Rows (g .p) columns → Drawn g (suc (g .d)) s u s columns
+pub drawn-start : {g : Grid} {s u columns : List (List ℕ)} → Rows (g .p) s → Rows (g .p) columns →
+    Drawn g (suc (g .d)) s u s columns
 drawn-start rows coefficients = record { rows = rows; coefficients = coefficients; costs = costs-start _ _; rest = rest-start _ }
 
 -- one column more
-pub drawn-next : {g : Grid} {t : ℕ} {s u left left′ columns : List (List ℕ)} → t ≤ g .d → Drawn g (suc t) s u left columns → Rows (g .p) left′ →
+pub drawn-next : {g : Grid} {t : ℕ} {s u left left′ columns : List (List ℕ)} → t ≤ g .d → Drawn g (suc t) s u left columns →
+    Rows (g .p) left′ →
     ((r : ℕ) → r < g .a → Lessened g t (line columns t) left left′ r) → Drawn g t s u left′ columns
 drawn-next {g} {t} {columns} td D rows sub = record {
   rows = rows;
@@ -34,11 +36,13 @@ drawn-next {g} {t} {columns} td D rows sub = record {
     value r = eval (suc (g .d - t)) (at (line columns t)) (at (g .x) r)
 
 -- the columns that the steps found
-pub solving-drawn : {g : Grid} {k : ℕ} {s u left columns ws : List (List ℕ)} {vs : List ℕ} → Solving g k s u left columns ws vs → Drawn g k s u left columns
+pub solving-drawn : {g : Grid} {k : ℕ} {s u left columns ws : List (List ℕ)} {vs : List ℕ} → Solving g k s u left columns ws vs →
+    Drawn g k s u left columns
 solving-drawn S = record { rows = S .rows; coefficients = S .coefficients; costs = S .steps .costs; rest = S .rest }
 
 -- the columns below Y^k are of no matter to the steps
-pub solving-redrawn : {g : Grid} {k : ℕ} {s u left columns columns′ ws : List (List ℕ)} {vs : List ℕ} → Solving g k s u left columns ws vs →
+pub solving-redrawn : {g : Grid} {k : ℕ} {s u left columns columns′ ws : List (List ℕ)} {vs : List ℕ} →
+    Solving g k s u left columns ws vs →
     Redrawn (g .p) k columns columns′ → Solving g k s u left columns′ ws vs
 solving-redrawn {g} {k} {columns} {columns′} S R = record {
   rows = S .rows;
@@ -51,10 +55,12 @@ solving-redrawn {g} {k} {columns} {columns′} S R = record {
   known = S .known;
 }
   where
-    alike : (t r : ℕ) → k ≤ t → Cong (g .p - 1) (lines (g .d) (at (g .x)) (found columns′) t r) (lines (g .d) (at (g .x)) (found columns) t r)
+    alike : (t r : ℕ) → k ≤ t → Cong (g .p - 1) (lines (g .d) (at (g .x)) (found columns′) t r)
+        (lines (g .d) (at (g .x)) (found columns) t r)
     alike t r l = same (ap (λ w. eval (suc (g .d - t)) (at w) (at (g .x) r)) (R .kept t l))
 
 -- a draft under the radius
-pub drawn-solved : {g : Grid} {t cost : ℕ} {s u left left′ columns : List (List ℕ)} → Drawn g t s u left columns → Completed g t u columns left left′ cost →
+pub drawn-solved : {g : Grid} {t cost : ℕ} {s u left left′ columns : List (List ℕ)} → Drawn g t s u left columns →
+    Completed g t u columns left left′ cost →
     cost < limit g → Solved g s u left′ columns cost
 drawn-solved {s} D C l = record { under = λ _. let (e, f) = C .under l in (e, f s D); over = λ h. absurd (omega arith) }

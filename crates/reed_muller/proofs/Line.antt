@@ -28,39 +28,51 @@ cell-other R c e v w l h = go (eqb e w)
     go true = omega arith
     go false = omega arith
 
-module _ {q F n k : ℕ} {y s u : ℕ → ℕ} (ay : Apart q n y) (du : (j : ℕ) → j < n → u j ≤ F) where
+module _ {q full n k : ℕ} {y s u : ℕ → ℕ} (ay : Apart q n y) (du : (j : ℕ) → j < n → u j ≤ full) where
   -- an answered line: the answer's leading coefficient, and its cost as the doubt
-  pub line-answered : {w : ℕ → ℕ} {g : ℕ} → Strip q F n k y s u true w g → HandsOn q F n k y s u (w k % suc q) g
+  pub line-answered : {w : ℕ → ℕ} {g : ℕ} → Strip q full n k y s u true w g → HandsOn q full n k y s u (w k % suc q) g
   line-answered {w} {g} S = record { below = omega (arith, S .sound refl .1); cheap = λ h. kind h (same-or-far ay k w h) }
     where
-      kind : (h : ℕ → ℕ) → ((i : ℕ) → i ≤ k → Cong q (w i) (h i)) ⊎ (n - k ≤ changed n (values q (suc k) w y) (values q (suc k) h y)) →
-          cell (F * (n - k)) (w k % suc q) g (h k % suc q) ≤ cost F n s u (values q (suc k) h y)
-      kind h (inl e) = rw (eq-eqb _ _ (to-mod (e k (omega arith)))) (omega (arith, S .sound refl .0, cost-cong F n k y s u e))
-      kind h (inr l) = cell-other (F * (n - k)) (cost F n s u (values q (suc k) h y)) (w k % suc q) g (h k % suc q) (S .sound refl .1)
-          (omega (arith, S .sound refl .0, cost-two-words F n s u (values q (suc k) w y) (values q (suc k) h y) du, mul-le-mul-left (2 * F) l))
+      kind : (h : ℕ → ℕ) → ((i : ℕ) → i ≤ k → Cong q (w i) (h i)) ⊎
+          (n - k ≤ changed n (values q (suc k) w y) (values q (suc k) h y)) →
+          cell (full * (n - k)) (w k % suc q) g (h k % suc q) ≤ cost full n s u (values q (suc k) h y)
+      kind h (inl e) = rw (eq-eqb _ _ (to-mod (e k (omega arith)))) (omega (arith, S .sound refl .0, cost-cong full n k y s u e))
+      kind h (inr l) = cell-other (full * (n - k)) (cost full n s u (values q (suc k) h y)) (w k % suc q) g (h k % suc q)
+          (S .sound refl .1)
+          (omega (
+            arith,
+            S .sound refl .0,
+            cost-two-words full n s u (values q (suc k) w y) (values q (suc k) h y) du,
+            mul-le-mul-left (2 * full) l,
+          ))
 
   -- a polynomial measured under the radius
-  pub answer-measured : (w : ℕ → ℕ) → cost F n s u (values q (suc k) w y) < F * (n - k) → Strip q F n k y s u true w (cost F n s u (values q (suc k) w y))
-  answer-measured w l = record { sound = λ _. (refl, l); only = λ h m. (refl, near-one ay F k s u du w h l m) }
+  pub answer-measured : (w : ℕ → ℕ) → cost full n s u (values q (suc k) w y) < full * (n - k) →
+      Strip q full n k y s u true w (cost full n s u (values q (suc k) w y))
+  answer-measured w l = record { sound = λ _. (refl, l); only = λ h m. (refl, near-one ay full k s u du w h l m) }
 
   -- the answer of degree k + 1 to the symbols from which its highest term was subtracted
-  pub answer-carried : {s₀ w : ℕ → ℕ} {g : ℕ} (e : ℕ) → Strip q F n (suc k) y s₀ u true w g → Cong q (w (suc k)) e →
-      Subtracted q n (suc k) y e s₀ s → Strip q F n k y s u true w g
-  answer-carried {s₀} {w} {g} e S c T = rw (S .sound refl .0 ∙ same-cost) (answer-measured w (omega (arith, S .sound refl .0, S .sound refl .1, same-cost, mul-le-mul-left F less)))
+  pub answer-carried : {s₀ w : ℕ → ℕ} {g : ℕ} (e : ℕ) → Strip q full n (suc k) y s₀ u true w g → Cong q (w (suc k)) e →
+      Subtracted q n (suc k) y e s₀ s → Strip q full n k y s u true w g
+  answer-carried {s₀} {w} {g} e S c T = rw (S .sound refl .0 ∙ same-cost)
+      (answer-measured w (omega (arith, S .sound refl .0, S .sound refl .1, same-cost, mul-le-mul-left full less)))
     where
       less : n - suc k ≤ n - k
       less = omega arith
 
-      same-cost : cost F n s₀ u (values q (suc (suc k)) w y) ≡ cost F n s u (values q (suc k) w y)
-      same-cost = sum-eq n λ j l. sym (cell-less F (s₀ j) (s j) (u j) (eval (suc k) w (y j)) (w (suc k) * y j ^ suc k) (T .before j l) (T .after j l)
+      same-cost : cost full n s₀ u (values q (suc (suc k)) w y) ≡ cost full n s u (values q (suc k) w y)
+      same-cost = sum-eq n λ j l. sym (cell-less full (s₀ j) (s j) (u j) (eval (suc k) w (y j)) (w (suc k) * y j ^ suc k)
+          (T .before j l) (T .after j l)
           (~add (same refl) (~mul-right (y j ^ suc k) c) ⨾ T .term j l))
 
 -- an unanswered line: any symbol, with the full doubt
-pub line-unanswered : {q F n k : ℕ} {y s u : ℕ → ℕ} {w : ℕ → ℕ} {g : ℕ} (e : ℕ) → Strip q F n k y s u false w g → HandsOn q F n k y s u e (F * (n - k))
-line-unanswered {q} {F} {n} {k} {y} {s} {u} e S = record { below = omega arith; cheap = λ h. rw (cell-full (F * (n - k)) e (h k % suc q)) (over h) }
+pub line-unanswered : {q full n k : ℕ} {y s u : ℕ → ℕ} {w : ℕ → ℕ} {g : ℕ} (e : ℕ) → Strip q full n k y s u false w g →
+    HandsOn q full n k y s u e (full * (n - k))
+line-unanswered {q} {full} {n} {k} {y} {s} {u} e S =
+    record { below = omega arith; cheap = λ h. rw (cell-full (full * (n - k)) e (h k % suc q)) (over h) }
   where
-    over : (h : ℕ → ℕ) → F * (n - k) ≤ cost F n s u (values q (suc k) h y)
-    over h = elim (decLe (F * (n - k)) (cost F n s u (values q (suc k) h y))) [
+    over : (h : ℕ → ℕ) → full * (n - k) ≤ cost full n s u (values q (suc k) h y)
+    over h = elim (decLe (full * (n - k)) (cost full n s u (values q (suc k) h y))) [
       | yes l ↦ l
       | no l ↦ absurd (false≢true (S .only h (omega arith) .0))
     ]

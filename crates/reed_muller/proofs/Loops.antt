@@ -1,4 +1,5 @@
--- The laws of the loops over pairs that are changed where they stand, and over a stretch: start, step, and an element passed. Assumes nothing.
+-- The laws of the loops over pairs that are changed where they stand, and over a stretch: start, step, and an element passed.
+-- Assumes nothing.
 use mathlib.Core.Logic.{_≢_}
 use mathlib.Core.Path.{_≡_, refl, _∙_}
 use mathlib.Core.List.{List}
@@ -11,7 +12,8 @@ use Rattle.bounded.specs.Bounded.{at}
 use Rattle.reed_muller.specs.Loops.{Both, Stretch}
 
 module _ {A : Type 0} {n : ℕ} {z : A} {U T : ℕ → A → ℕ → Type 0} where
-  pub both-step : {l : List A} {k : List ℕ} {i : ℕ} (v : A) (w : ℕ) → i < 16 → T i v w → Both n z U T l k i → Both n z U T (set l i v) (set k i w) (i + 1)
+  pub both-step : {l : List A} {k : List ℕ} {i : ℕ} (v : A) (w : ℕ) → i < 16 → T i v w → Both n z U T l k i →
+      Both n z U T (set l i v) (set k i w) (i + 1)
   both-step {l} {k} {i} v w b t p = record {
     size = length-set l i v ∙ p .size;
     numbers = length-set k i w ∙ p .numbers;
@@ -20,7 +22,8 @@ module _ {A : Type 0} {n : ℕ} {z : A} {U T : ℕ → A → ℕ → Type 0} whe
           rw (e, getD-set-same l i v z h, getD-set-same k i w 0 h′) t
       | no e ↦ rw (getD-set-other l i j v z e, getD-set-other k i j w 0 e) (p .done j (omega arith))
     ];
-    todo = λ j m o. let e : j ≢ i = omega arith in rw (getD-set-other l i j v z e, getD-set-other k i j w 0 e) (p .todo j (omega arith) o);
+    todo = λ j m o. let e : j ≢ i = omega arith in rw (getD-set-other l i j v z e, getD-set-other k i j w 0 e)
+        (p .todo j (omega arith) o);
   }
 
   pub both-pass : {l : List A} {k : List ℕ} {i : ℕ} → T i (getD l i z) (at k i) → Both n z U T l k i → Both n z U T l k (i + 1)
@@ -35,7 +38,8 @@ module _ {n a : ℕ} {f : ℕ → ℕ} {old : List ℕ} where
   pub stretch-start : length old ≡ n → Stretch n a f old old 0
   stretch-start e = record { size = e; done = λ i l. absurd (omega arith); kept = λ m l. refl }
 
-  pub stretch-step : {l : List ℕ} {j : ℕ} (v : ℕ) → a + j < n → v ≡ f j → Stretch n a f old l j → Stretch n a f old (set l (a + j) v) (j + 1)
+  pub stretch-step : {l : List ℕ} {j : ℕ} (v : ℕ) → a + j < n → v ≡ f j → Stretch n a f old l j →
+      Stretch n a f old (set l (a + j) v) (j + 1)
   stretch-step {l} {j} v b e p = record {
     size = length-set l (a + j) v ∙ p .size;
     done = λ i k. elim (ℕ-discrete i j) [

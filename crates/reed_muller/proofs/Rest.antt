@@ -1,5 +1,5 @@
--- What is left of the symbols through the degree steps: all of them at the start, a term less after each step, and after the last the
--- symbol less the value. Assumes nothing.
+-- What is left of the symbols through the degree steps: all of them at the start, a term less after each step, and after the last
+-- the symbol less the value. Assumes nothing.
 use mathlib.Core.Path.{refl}
 use Prim.Native.Nat.{ℕ, suc, _+_, _*_, _-_, _^_, _≤_, _<_}
 use native.Mathlib.Omega.{arith}
@@ -26,8 +26,10 @@ module _ {q a b d : ℕ} {y : ℕ → ℕ} {s : ℕ → ℕ → ℕ} where
 
   -- after the last step
   pub rest-whole : (x : ℕ → ℕ) {left : ℕ → ℕ → ℕ} (found h : ℕ → ℕ → ℕ) → ((r c : ℕ) → r < a → c < b → left r c < suc q) →
-      Rest q a b d y 0 s left (lines d x found) → ((t i : ℕ) → i + t ≤ d → Cong q (found i t) (h i t)) → Remains q a b d x y s left h
+      Rest q a b d y 0 s left (lines d x found) → ((t i : ℕ) → i + t ≤ d → Cong q (found i t) (h i t)) →
+      Remains q a b d x y s left h
   rest-whole x found h small R e = record {
     below = small;
-    whole = λ r c l m. R .makes (lines d x h) (λ t r _ k _. eval-cong (suc (d - t)) (x r) λ i n. e t i (omega arith)) r c l m ⨾ same (omega arith);
+    whole = λ r c l m. R .makes (lines d x h) (λ t r _ k _. eval-cong (suc (d - t)) (x r) λ i n. e t i (omega arith)) r c l m
+        ⨾ same (omega arith);
   }

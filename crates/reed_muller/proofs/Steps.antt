@@ -1,4 +1,5 @@
--- One degree step and all of them: what is subtracted, which answers are carried, and that the steps keep their invariant. Assumes nothing.
+-- One degree step and all of them: what is subtracted, which answers are carried, and that the steps keep their invariant.
+-- Assumes nothing.
 use mathlib.Core.Logic.{_≢_}
 use mathlib.Core.Path.{_≡_, refl, sym, ap, _∙_}
 use mathlib.Core.Bool.{Bool, true, false, cond, false≢true}
@@ -60,7 +61,8 @@ module _ {g : Grid} (t : ℕ) (f : Fit g) (left left′ : List (List ℕ)) (colu
         term = λ c m.
             let k : c < 16 = omega (arith, f .columns) in
             added-again (omega (arith, result-row _ (positive f) values .small r)) (positive f)
-            (result-cong _ (positive f) (W .each r l) c k) (result-cong _ (positive f) values r h) (result-cong _ (positive f) power c k);
+            (result-cong _ (positive f) (W .each r l) c k) (result-cong _ (positive f) values r h)
+            (result-cong _ (positive f) power c k);
       }
 
 -- a cost that was kept
@@ -73,16 +75,20 @@ kept-from e z v R = go (eqb e z) (ltb v R) refl refl
     go true false i j h = absurd (h refl)
     go false b i j h = absurd (h refl)
 
-module _ {g : Grid} {j : ℕ} (f : Fit g) (left u left′ ws : List (List ℕ)) (column : List ℕ) {e z v v′ : List ℕ} (du : DoubtRows g u)
-    (A : AnsweredRows g (suc j) left u ws v) (leading : e ≡ row λ r. cellAt ws r (suc j)) (values : z ≡ row λ r. eval (suc (g .d - suc j)) (at column) (at (g .x) r) % g .p)
-    (carried : v′ ≡ row λ r. kept (at e r) (at z r) (at v r) (g .full * (g .b - suc j))) (S : (r : ℕ) → r < g .a → Lessened g (suc j) column left left′ r) where
+module _ {g : Grid} {j : ℕ} (f : Fit g) (left u left′ ws : List (List ℕ)) (column : List ℕ) {e z v v′ : List ℕ}
+    (du : DoubtRows g u)
+    (A : AnsweredRows g (suc j) left u ws v) (leading : e ≡ row λ r. cellAt ws r (suc j))
+    (values : z ≡ row λ r. eval (suc (g .d - suc j)) (at column) (at (g .x) r) % g .p)
+    (carried : v′ ≡ row λ r. kept (at e r) (at z r) (at v r) (g .full * (g .b - suc j)))
+    (S : (r : ℕ) → r < g .a → Lessened g (suc j) column left left′ r) where
   -- an answer whose leading coefficient was found is the answer of what is left
   answer-kept : (r : ℕ) → r < g .a → at v′ r ≢ unknown → Answer g j (line left′ r) (line u r) (line ws r) (at v′ r)
   answer-kept r l h =
       let i : r < 16 = omega (arith, f .rows) in
       let same-cost : at v′ r ≡ kept (at e r) (at z r) (at v r) (g .full * (g .b - suc j)) = rw carried (row-at _ r i) in
       let (k, m, n) = kept-from (at e r) (at z r) (at v r) (g .full * (g .b - suc j)) (λ y. h (same-cost ∙ y)) in
-      rw (same-cost ∙ n) (answer-carried (f .columnsApart) (du r l) (eval (suc (g .d - suc j)) (at column) (at (g .x) r)) (A .answered r l .strip m)
+      rw (same-cost ∙ n) (answer-carried (f .columnsApart) (du r l) (eval (suc (g .d - suc j)) (at column) (at (g .x) r))
+      (A .answered r l .strip m)
       (same (sym (rw leading (row-at _ r i)) ∙ k) ⨾ result-cong _ (positive f) values r i) (S r l))
 
   pub known-next : KnownRows g j left′ u ws v′
@@ -98,7 +104,8 @@ module _ {g : Grid} {t : ℕ} (f : Fit g) (left u ws : List (List ℕ)) {e v : L
   pub leading-row : Row (g .p) e
   leading-row = column-row t (positive f) (A .rows) leading
 
-  pub leading-entered : (r : ℕ) → r < g .a → HandsOn (g .p - 1) (g .full) (g .b) t (at (g .y)) (cellAt left r) (cellAt u r) (at e r) (at v r)
+  pub leading-entered : (r : ℕ) → r < g .a → HandsOn (g .p - 1) (g .full) (g .b) t (at (g .y)) (cellAt left r) (cellAt u r)
+      (at e r) (at v r)
   leading-entered r l = rw (leading, row-at (λ r. cellAt ws r t) r (omega (arith, f .rows))) (A .answered r l .entered)
 
   module _ {column : List ℕ} {cost : ℕ} {ok : Bool} (good : Row (g .p) column)
@@ -118,7 +125,8 @@ module _ {g : Grid} {t : ℕ} (f : Fit g) (left u ws : List (List ℕ)) {e v : L
     }
 
     pub stepped-found : ok ≡ true → {z w v′ : List ℕ} {left′ : List (List ℕ)} → DoubtRows g u → Rows (g .p) left →
-        z ≡ row (λ r. eval (suc (g .d - t)) (at column) (at (g .x) r) % g .p) → w ≡ row (λ c. at (g .y) c ^ t % g .p) → Without g left z w left′ →
+        z ≡ row (λ r. eval (suc (g .d - t)) (at column) (at (g .x) r) % g .p) → w ≡ row (λ c. at (g .y) c ^ t % g .p) →
+        Without g left z w left′ →
         v′ ≡ row (λ r. kept (at e r) (at z r) (at v r) (g .full * (g .b - t))) → Stepped g t left u left′ ws true column v′
     stepped-found y {z} {w} {v′} {left′} du sq values power W carried = record {
       e = e;
@@ -130,14 +138,16 @@ module _ {g : Grid} {t : ℕ} (f : Fit g) (left u ws : List (List ℕ)) {e v : L
       lines = A .rows;
       rows = λ _. W .rows;
       subtracted = λ _. S′;
-      known = λ _ j i. known-next f left u left′ ws column {z = z} du (rw i at A) (rw i at leading) (rw i at values) (rw i at carried) (rw i at S′);
+      known = λ _ j i. known-next f left u left′ ws column {z = z} du (rw i at A) (rw i at leading) (rw i at values)
+          (rw i at carried) (rw i at S′);
     }
       where
         S′ : (r : ℕ) → r < g .a → Lessened g t column left left′ r
         S′ = without-subtracted t f left left′ column sq values power W
 
 -- the steps start: nothing is found, all is left, and no answer is known
-pub solving-start : {g : Grid} {s u columns ws : List (List ℕ)} {vs : List ℕ} → Fit g → Rows (g .p) s → Rows (g .p) columns → Rows (g .p) ws →
+pub solving-start : {g : Grid} {s u columns ws : List (List ℕ)} {vs : List ℕ} → Fit g → Rows (g .p) s → Rows (g .p) columns →
+    Rows (g .p) ws →
     length vs ≡ 16 → ((r : ℕ) → r < 16 → at vs r ≡ unknown) → Solving g (suc (g .d)) s u s columns ws vs
 solving-start {g} f sq cs ms e h = record {
   rows = sq;
@@ -151,7 +161,8 @@ solving-start {g} f sq cs ms e h = record {
   };
 }
 
-module _ {g : Grid} {t : ℕ} (f : Fit g) (td : t ≤ g .d) (s u left left′ columns ws ws′ : List (List ℕ)) {vs vs′ column : List ℕ} {ok : Bool}
+module _ {g : Grid} {t : ℕ} (f : Fit g) (td : t ≤ g .d) (s u left left′ columns ws ws′ : List (List ℕ)) {vs vs′ column : List ℕ}
+    {ok : Bool}
     (S : Solving g (suc t) s u left columns ws vs) (T : Stepped g t left u left′ ws′ ok column vs′) where
   low : g .d < min (g .a) (g .b)
   low = omega (arith, f .low, f .narrow)
@@ -165,7 +176,8 @@ module _ {g : Grid} {t : ℕ} (f : Fit g) (td : t ≤ g .d) (s u left left′ co
 
   -- the column found stands in its place, and those found before stay
   new : (i : ℕ) → Cong (g .p - 1) (found (set columns t column) i t) (at column i)
-  new i = let h : t < length columns = omega (arith, S .coefficients .size, f .low, f .rows) in same (ap (λ m. at m i) (getD-set-same columns t column [] h))
+  new i = let h : t < length columns = omega (arith, S .coefficients .size, f .low, f .rows) in
+      same (ap (λ m. at m i) (getD-set-same columns t column [] h))
 
   old : (t′ i : ℕ) → t < t′ → Cong (g .p - 1) (found (set columns t column) i t′) (found columns i t′)
   old t′ i l = same (ap (λ m. at m i) (getD-set-other columns t t′ column [] (omega arith)))
@@ -187,4 +199,5 @@ module _ {g : Grid} {t : ℕ} (f : Fit g) (td : t ≤ g .d) (s u left left′ co
 -- after the last step
 pub solving-done : {g : Grid} {s u left columns ws : List (List ℕ)} {vs : List ℕ} → Solving g 0 s u left columns ws vs →
     Solved g s u left columns (left-over g u left)
-solving-done {g} {columns} S = record { under = λ _. (refl, solving-drawn S); over = grid-over (at (g .x)) (found columns) (S .steps) }
+solving-done {g} {columns} S =
+    record { under = λ _. (refl, solving-drawn S); over = grid-over (at (g .x)) (found columns) (S .steps) }

@@ -1,7 +1,7 @@
 -- A grid whose numbers fit together, and the doubts of its cells.
 --
---   Fit g           p is prime and m its reciprocal; at most sixteen points each way, all apart; d is below both sides; the full doubt
---                   is below 4096, so that the full doubt of a line, full (b - t), is below 65536
+--   Fit g           p is prime and m its reciprocal; at most sixteen points each way, all apart; d is below both sides; the full
+--                   doubt is below 4096, so that the full doubt of a line, full (b - t), is below 65536
 --   DoubtRows g u   no doubt of the grid's cells is above the full doubt
 --
 -- What this file is for: what the decoder asks of its caller.

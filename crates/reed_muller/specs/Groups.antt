@@ -9,14 +9,13 @@ use mathlib.Core.List.{List}
 use Prim.Native.Nat.{ℕ, _+_, _-_, _≤_, _<_}
 use lib.ListN.{length}
 use Rattle.bounded.specs.Bounded.{at}
-use Rattle.polynomial.specs.Record.{start}
-use Rattle.polynomial.specs.Record.{coef}
+use Rattle.polynomial.specs.Record.{start, coef}
 use Rattle.reed_muller.specs.Loops.{cellAt}
 
 pub record Grouped (columns : List (List ℕ)) (k : ℕ) (old r : List ℕ) : Type 0 where
   pub size : length r ≡ 136
   pub group : (j : ℕ) → j ≤ k → at r (start k + j) ≡ cellAt columns j (k - j)
-  pub kept : (m : ℕ) → m < start k → at r m ≡ at old m
+  pub kept : (i : ℕ) → i < start k → at r i ≡ at old i
 
 pub record Flat (columns : List (List ℕ)) (k : ℕ) (r : List ℕ) : Type 0 where
   pub size : length r ≡ 136

@@ -1,7 +1,9 @@
--- A line of a mark, as a row: n points y, symbols s, doubts u and full doubt F, modulo suc q. It is read as a strip of degree k.
+-- A line of a mark, as a row: n points y, symbols s, doubts u and the full doubt, modulo suc q; read as a strip of degree k.
 --
---   HandsOn q F n k y s u e v   the cell that the line becomes in the code with one coordinate fewer, symbol e and doubt v at most the
---                               full doubt F (n - k): for the leading coefficient of any polynomial h it costs at most what h costs in the line
+--   HandsOn q full n k y s u e v
+--                               the cell that the line becomes in the code with one coordinate fewer, symbol e and doubt v at
+--                               most its full doubt full (n - k): for the leading coefficient of any polynomial h it costs at
+--                               most what h costs in the line
 --   Subtracted q n t y e s s′   symbols s, all below the modulus, with the term e Y^t subtracted are s′
 --
 -- What this file is for: what a line hands on, and what is left of it; the degree step asks no more of a line.
@@ -10,9 +12,9 @@ use Rattle.field.specs.Congruence.{Cong}
 use Rattle.distance.specs.Cost.{cell, cost}
 use Rattle.polynomial.specs.Eval.{values}
 
-pub record HandsOn (q F n k : ℕ) (y s u : ℕ → ℕ) (e v : ℕ) : Type 0 where
-  pub below : v ≤ F * (n - k)
-  pub cheap : (h : ℕ → ℕ) → cell (F * (n - k)) e v (h k % suc q) ≤ cost F n s u (values q (suc k) h y)
+pub record HandsOn (q full n k : ℕ) (y s u : ℕ → ℕ) (e v : ℕ) : Type 0 where
+  pub below : v ≤ full * (n - k)
+  pub cheap : (h : ℕ → ℕ) → cell (full * (n - k)) e v (h k % suc q) ≤ cost full n s u (values q (suc k) h y)
 
 pub record Subtracted (q n t : ℕ) (y : ℕ → ℕ) (e : ℕ) (s s′ : ℕ → ℕ) : Type 0 where
   pub before : (c : ℕ) → c < n → s c < suc q

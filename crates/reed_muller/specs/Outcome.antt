@@ -1,8 +1,8 @@
--- What the decoder of marks returns, for a grid g, symbols s and doubts u: whether it found a record, its message m and its cost, and
--- what is left of the symbols.
+-- What the decoder of marks returns, for a grid g, symbols s and doubts u: whether it found a record, its message and its cost,
+-- and what is left of the symbols.
 --
 --   under g cost   whether a cost is under the radius: so the decoder tells that it found a record
---   Outcome g s u left found m cost
+--   Outcome g s u left found message cost
 --     decoded   the message is the one record under the radius, and the cost is its own; or no record is under the radius
 --     remains   where it found one, what is left of each cell is its symbol less the record's value, modulo p
 --
@@ -23,6 +23,8 @@ use Rattle.reed_muller.specs.Steps.{limit}
 abbrev pub under : Grid → ℕ → Bool
 under g cost = ltb cost (limit g)
 
-pub record Outcome (g : Grid) (s u left : List (List ℕ)) (found : Bool) (m : List ℕ) (cost : ℕ) : Type 0 where
-  pub decoded : Decoded (g .p - 1) (g .full) (g .a) (g .b) (g .d) (at (g .x)) (at (g .y)) (cellAt s) (cellAt u) found (coef m) cost
-  pub remains : found ≡ true → Remains (g .p - 1) (g .a) (g .b) (g .d) (at (g .x)) (at (g .y)) (cellAt s) (cellAt left) (coef m)
+pub record Outcome (g : Grid) (s u left : List (List ℕ)) (found : Bool) (message : List ℕ) (cost : ℕ) : Type 0 where
+  pub decoded : Decoded (g .p - 1) (g .full) (g .a) (g .b) (g .d) (at (g .x)) (at (g .y)) (cellAt s) (cellAt u) found
+      (coef message) cost
+  pub remains : found ≡ true → Remains (g .p - 1) (g .a) (g .b) (g .d) (at (g .x)) (at (g .y)) (cellAt s) (cellAt left)
+      (coef message)

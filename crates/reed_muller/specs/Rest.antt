@@ -1,7 +1,7 @@
 -- What is left of the symbols s, on a lines of b points y, when the terms of Y^k and higher were subtracted, modulo suc q.
 --
---   Rest q a b d y k s left found   whatever message g has the coefficients found, of Y^k and higher, what is left and all of g make
---                                   the symbol and the terms of g below Y^k
+--   Rest q a b d y k s left found   whatever message g has the coefficients found, of Y^k and higher, what is left and all of g
+--                                   make the symbol and the terms of g below Y^k
 --   Remains q a b d x y s left h    what is left is below the modulus, and with the value of the polynomial h makes the symbol
 --
 -- What this file is for: a cell is changed where something is left, so nothing has to be evaluated to count them.

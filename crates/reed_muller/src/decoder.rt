@@ -23,7 +23,8 @@ pub fn decode(
 ) -> [[u16; 16]; 16]
     requires { ⌜ Fit g × Rows (g .p) symbols × DoubtRows g doubts × Inverses (g .p) (now inverses)
         × (length (now message) ≡ 136) ⌝ }
-    ensures { λ left. ⌜ Outcome g symbols doubts left (under g (now (cost .exit))) (now (message .exit)) (now (cost .exit)) ⌝ }
+    ensures { λ left. ⌜ Outcome g symbols doubts left (under g (now (cost .exit))) (now (message .exit)) (now (cost .exit))
+        × (length (now (message .exit)) ≡ 136) ⌝ }
 {
     let mut left = symbols;
     let mut columns = [[0u16; 16]; 16];

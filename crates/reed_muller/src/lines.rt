@@ -1,5 +1,6 @@
 // The lines of a mark: each row of what is left, read as a strip over the column points.
 use crate::grid::Grid;
+use reed_solomon::axis::Axis;
 ghost use mathlib.Core.Path.{_≡_};
 ghost use Prim.Native.Nat.{_≤_, _<_};
 ghost use lib.ListN.{length};
@@ -22,21 +23,20 @@ pub const UNKNOWN: u32 = 4294967295;
 
 // A line read as a strip of degree t. Where it has no answer it counts as unread, with the full doubt.
 fn read(g: Grid, inverses: &[u16; 251], t: usize, symbols: [u16; 16], doubts: [u32; 16]) -> Line
-    requires { ⌜ Fit g × (t ≤ g .d) × Row (g .p) symbols × Doubts (g .full) (g .b) (at doubts) × Inverses (g .p) (now inverses) ⌝ }
+    requires { ⌜ Fit g × (t ≤ g .d) × Row (g .p) symbols × Doubts (g .full) (g .b) (at doubts) ×
+        Inverses (g .p) (now inverses) ⌝ }
     ensures { λ r. ⌜ Answered g t symbols doubts (r .message) (r .cost) ⌝ }
 {
     let y = g.y;
-    let strip = reed_solomon::decoder::decode(
-        g.p,
-        g.m,
-        inverses,
-        y,
-        g.b,
-        t,
-        g.full,
-        symbols,
-        doubts,
-    );
+    let axis = Axis {
+        p: g.p,
+        m: g.m,
+        x: y,
+        n: g.b,
+        k: t,
+        full: g.full,
+    };
+    let strip = reed_solomon::decoder::decode(axis, inverses, symbols, doubts);
     if strip.found {
         let w = strip.message;
         return Line {
@@ -60,7 +60,8 @@ pub fn answer(
     left: &[[u16; 16]; 16],
     doubts: &[[u32; 16]; 16],
 ) -> [u32; 16]
-    requires { ⌜ Fit g × (t ≤ g .d) × Rows (g .p) (now left) × DoubtRows g (now doubts) × KnownRows g t (now left) (now doubts) (now messages) known × Inverses (g .p) (now inverses) ⌝ }
+    requires { ⌜ Fit g × (t ≤ g .d) × Rows (g .p) (now left) × DoubtRows g (now doubts) ×
+        KnownRows g t (now left) (now doubts) (now messages) known × Inverses (g .p) (now inverses) ⌝ }
     ensures { λ r. ⌜ AnsweredRows g t (now (left .entry)) (now (doubts .entry)) (now (messages .exit)) r ⌝ }
 {
     let a = g.a;

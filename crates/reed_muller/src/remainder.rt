@@ -43,12 +43,12 @@ pub fn measure(g: Grid, left: &[[u16; 16]; 16], doubts: &[[u32; 16]; 16]) -> u32
     sum
 }
 
-// full m n, for sides of at most sixteen.
-fn area(full: u32, m: usize, n: usize) -> u32
-    requires { ⌜ (full < 4096) × (m ≤ 16) × (n ≤ 16) ⌝ }
-    ensures { λ r. ⌜ r ≡ full * (m * n) ⌝ }
+// full a b, for sides of at most sixteen.
+fn area(full: u32, a: usize, b: usize) -> u32
+    requires { ⌜ (full < 4096) × (a ≤ 16) × (b ≤ 16) ⌝ }
+    ensures { λ r. ⌜ r ≡ full * (a * b) ⌝ }
 {
-    full * ((m * n) as u32)
+    full * ((a * b) as u32)
 }
 
 // The full doubt times the least number of cells in which two records differ, max(a, b) (min(a, b) - d).

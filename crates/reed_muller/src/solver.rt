@@ -1,4 +1,4 @@
-// The degree steps: one coefficient of Y at a time, from Y^d down to Y^0, is read from the lines and subtracted. Drafts come first.
+// The degree steps: one coefficient of Y at a time, from Y^d down to Y^0, is read from the lines and subtracted. Drafts go first.
 use crate::draft;
 use crate::grid::Grid;
 use crate::lines;
@@ -6,6 +6,7 @@ use crate::remainder;
 use crate::trial;
 use polynomial::bivariate;
 use polynomial::evaluation;
+use reed_solomon::axis::Axis;
 ghost use Prim.Native.Nat.{_≤_};
 ghost use Rattle.field.specs.Prime.{Inverses};
 ghost use Rattle.polynomial.specs.Powers.{Rows};
@@ -31,24 +32,24 @@ fn step(
     left: &mut [[u16; 16]; 16],
     doubts: &[[u32; 16]; 16],
 ) -> Column
-    requires { ⌜ Fit g × (t ≤ g .d) × Rows (g .p) (now left) × DoubtRows g (now doubts) × KnownRows g t (now left) (now doubts) (now messages) known × Inverses (g .p) (now inverses) ⌝ }
-    ensures { λ r. ⌜ Stepped g t (now (left .entry)) (now (doubts .entry)) (now (left .exit)) (now (messages .exit)) (r .found) (r .message) (r .known) ⌝ }
+    requires { ⌜ Fit g × (t ≤ g .d) × Rows (g .p) (now left) × DoubtRows g (now doubts) ×
+        KnownRows g t (now left) (now doubts) (now messages) known × Inverses (g .p) (now inverses) ⌝ }
+    ensures { λ r. ⌜ Stepped g t (now (left .entry)) (now (doubts .entry)) (now (left .exit)) (now (messages .exit)) (r .found)
+        (r .message) (r .known) ⌝ }
 {
     let costs = lines::answer(g, inverses, t, messages, known, left, doubts);
     let leading = bivariate::place_of_each(messages, t);
     let radius = g.full * ((g.b - t) as u32);
     let x = g.x;
-    let strip = reed_solomon::decoder::decode(
-        g.p,
-        g.m,
-        inverses,
+    let axis = Axis {
+        p: g.p,
+        m: g.m,
         x,
-        g.a,
-        g.d - t,
-        radius,
-        leading,
-        costs,
-    );
+        n: g.a,
+        k: g.d - t,
+        full: radius,
+    };
+    let strip = reed_solomon::decoder::decode(axis, inverses, leading, costs);
     let message = strip.message;
     if !strip.found {
         return Column {
@@ -68,9 +69,9 @@ fn step(
     }
 }
 
-// All steps, from Y^d down: the coefficients of Y^t go to row t of the columns, and what is left stays in `left`. Returns what it costs;
-// at a step without an answer the radius, since then no record is under it. As soon as enough lines are known the columns that are
-// missing are drafted from them, once.
+// All steps, from Y^d down: the coefficients of Y^t go to row t of the columns, and what is left stays in `left`. Returns what it
+// costs; at a step without an answer the radius, since then no record is under it. As soon as enough lines are known the columns
+// that are missing are drafted from them, once.
 fn solve_by_degrees(
     g: Grid,
     inverses: &[u16; 251],
@@ -78,7 +79,8 @@ fn solve_by_degrees(
     doubts: &[[u32; 16]; 16],
     columns: &mut [[u16; 16]; 16],
 ) -> u32
-    requires { ⌜ Fit g × Rows (g .p) (now left) × DoubtRows g (now doubts) × Rows (g .p) (now columns) × Inverses (g .p) (now inverses) ⌝ }
+    requires { ⌜ Fit g × Rows (g .p) (now left) × DoubtRows g (now doubts) × Rows (g .p) (now columns) ×
+        Inverses (g .p) (now inverses) ⌝ }
     ensures { λ r. ⌜ Solved g (now (left .entry)) (now (doubts .entry)) (now (left .exit)) (now (columns .exit)) r ⌝ }
 {
     let radius = remainder::radius(g);
@@ -108,8 +110,8 @@ fn solve_by_degrees(
     remainder::measure(g, left, doubts)
 }
 
-// The record under the radius, if there is one: its coefficients of Y^t in row t of the columns, what it leaves of the symbols in `left`,
-// and its cost. Where there is none a cost that is not under the radius.
+// The record under the radius, if there is one: its coefficients of Y^t in row t of the columns, what it leaves of the symbols in
+// `left`, and its cost. Where there is none a cost that is not under the radius.
 pub fn solve(
     g: Grid,
     inverses: &[u16; 251],
@@ -117,7 +119,8 @@ pub fn solve(
     doubts: &[[u32; 16]; 16],
     columns: &mut [[u16; 16]; 16],
 ) -> u32
-    requires { ⌜ Fit g × Rows (g .p) (now left) × DoubtRows g (now doubts) × Rows (g .p) (now columns) × Inverses (g .p) (now inverses) ⌝ }
+    requires { ⌜ Fit g × Rows (g .p) (now left) × DoubtRows g (now doubts) × Rows (g .p) (now columns) ×
+        Inverses (g .p) (now inverses) ⌝ }
     ensures { λ r. ⌜ Solved g (now (left .entry)) (now (doubts .entry)) (now (left .exit)) (now (columns .exit)) r ⌝ }
 {
     if !draft::from_cells(g, inverses, left, columns) {

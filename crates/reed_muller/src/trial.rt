@@ -17,8 +17,10 @@ fn subtract_below(
     columns: &[[u16; 16]; 16],
     left: &mut [[u16; 16]; 16],
 )
-    requires { ⌜ Fit g × (t ≤ suc (g .d)) × Rows (g .p) (now columns) × Rows (g .p) (now left) × Rows (g .p) (now xs) × Powers (g .p) (g .x) (g .d) (now xs) × Rows (g .p) (now ys) × Powers (g .p) (g .y) (g .d) (now ys) ⌝ }
-    ensures { λ _. ⌜ Rows (g .p) (now (left .exit)) × ((s u : List (List ℕ)) → Drawn g t s u (now (left .entry)) (now (columns .entry)) → Drawn g 0 s u (now (left .exit)) (now (columns .entry))) ⌝ }
+    requires { ⌜ Fit g × (t ≤ suc (g .d)) × Rows (g .p) (now columns) × Rows (g .p) (now left) × Rows (g .p) (now xs) ×
+        Powers (g .p) (g .x) (g .d) (now xs) × Rows (g .p) (now ys) × Powers (g .p) (g .y) (g .d) (now ys) ⌝ }
+    ensures { λ _. ⌜ Rows (g .p) (now (left .exit)) × ((s u : List (List ℕ)) →
+        Drawn g t s u (now (left .entry)) (now (columns .entry)) → Drawn g 0 s u (now (left .exit)) (now (columns .entry))) ⌝ }
 {
     let mut j = t;
     while j > 0 {
@@ -28,8 +30,8 @@ fn subtract_below(
     }
 }
 
-// The cost of what the columns leave, those from Y^t on being subtracted already. Where it is under the radius the others are subtracted;
-// else `left` stays as it was.
+// The cost of what the columns leave, those from Y^t on being subtracted already. Where it is under the radius the others are
+// subtracted; else `left` stays as it was.
 pub fn complete(
     g: Grid,
     t: usize,

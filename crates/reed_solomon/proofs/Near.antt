@@ -1,6 +1,6 @@
--- Where a polynomial P of degree at most k is near, the interpolation knows it: the first degree is over the second and k, the second
--- pair's E is 0 at the missed marked cells and nowhere else, so that all other marked symbols are right, and at every cell D and E tell
--- whether the symbol is. Assumes nothing.
+-- Where a polynomial P of degree at most k is near, the interpolation knows it: the first degree is over the second and k, the
+-- second pair's E is 0 at the missed marked cells and nowhere else, so that all other marked symbols are right, and at every cell
+-- D and E tell whether the symbol is. Assumes nothing.
 use mathlib.Core.Logic.{_≢_}
 use mathlib.Core.Path.{_≡_, refl, sym, ap, _∙_}
 use mathlib.Core.Bool.{Bool, true, false, cond}
@@ -57,8 +57,10 @@ eqb-same a b c d f g = elim (ℕ-discrete a b) [
 part : (b : Bool) (m : ℕ) → m ≤ 1 → cond b m 0 ≤ 1
 part b m l = omega (arith, both b m)
 
-module _ {q n k a b o : ℕ} {x y w P D1 E1 D2 E2 : ℕ → ℕ} (prime : Prime (suc q)) (ax : Apart q n x) (v : Interpolates q n k x y w a b D1 E1 D2 E2)
-    (L : Lead q n x k o P) (small : (j : ℕ) → j < n → (y j < suc q) × (P j < suc q) × (E2 j < suc q) × (D2 j < suc q)) (near : Near n k w y P) where
+module _ {q n k a b o : ℕ} {x y w P D1 E1 D2 E2 : ℕ → ℕ} (prime : Prime (suc q)) (ax : Apart q n x)
+    (v : Interpolates q n k x y w a b D1 E1 D2 E2)
+    (L : Lead q n x k o P) (small : (j : ℕ) → j < n → (y j < suc q) × (P j < suc q) × (E2 j < suc q) × (D2 j < suc q))
+    (near : Near n k w y P) where
   -- the marked cells whose symbol is right, and those where E2 is 0
   abbrev right : ℕ → ℕ
   right j = cond (eqb (y j) (P j)) (w j) 0
@@ -72,10 +74,12 @@ module _ {q n k a b o : ℕ} {x y w P D1 E1 D2 E2 : ℕ → ℕ} (prime : Prime 
   one : ¬ (Cong q 1 0)
   one = nonzero 1 (prime .least) λ e. omega arith
 
-  right-zero : (D E : ℕ → ℕ) → ((j : ℕ) → j < n → w j ≢ 0 → Cong q (D j) 0) → (j : ℕ) → j < n → right j ≢ 0 → Cong q (residual q y P D E j) 0
+  right-zero : (D E : ℕ → ℕ) → ((j : ℕ) → j < n → w j ≢ 0 → Cong q (D j) 0) → (j : ℕ) → j < n → right j ≢ 0 →
+      Cong q (residual q y P D E j) 0
   right-zero D E z j l h =
       let (e, m) = chosen (eqb (y j) (P j)) (w j) h in
-      ~add (z j l m) (same {b = (P j + q * P j) * E j} (ap (λ t. (t + q * P j) * E j) (eqb-true _ _ e))) ⨾ less (P j * E j) (omega arith)
+      ~add (z j l m) (same {b = (P j + q * P j) * E j} (ap (λ t. (t + q * P j) * E j) (eqb-true _ _ e)))
+      ⨾ less (P j * E j) (omega arith)
 
   right-bit : (j : ℕ) → j < n → right j ≤ 1
   right-bit j _ = part (eqb (y j) (P j)) (w j) (v .bit j)
@@ -86,14 +90,16 @@ module _ {q n k a b o : ℕ} {x y w P D1 E1 D2 E2 : ℕ → ℕ} (prime : Prime 
   second-few : b ≤ missed n w y P
   second-few = elim (decLe b (missed n w y P)) [
     | yes l ↦ l
-    | no l ↦ absurd (one (roots ax n right (omega arith) (v .degrees P L .s1) right-bit (right-zero D1 E1 (v .zero1)) (omega (arith, all-right, v .count)) .0))
+    | no l ↦ absurd (one (roots ax n right (omega arith) (v .degrees P L .s1) right-bit (right-zero D1 E1 (v .zero1))
+        (omega (arith, all-right, v .count)) .0))
   ]
 
   pub first-over : b + k < a
   first-over = omega (arith, second-few, v .count)
 
   residual-zero : Agree q n (residual q y P D2 E2) (λ j. 0)
-  residual-zero = roots ax n right (omega arith) (narrow (b + k) (v .degrees P L .s2) .1) right-bit (right-zero D2 E2 (v .zero2)) (omega (arith, all-right, second-few)) .1
+  residual-zero = roots ax n right (omega arith) (narrow (b + k) (v .degrees P L .s2) .1) right-bit (right-zero D2 E2 (v .zero2))
+      (omega (arith, all-right, second-few)) .1
 
   -- so at a marked cell E2 is 0 or the symbol is right
   product-zero : (j : ℕ) → j < n → w j ≢ 0 → Cong q ((y j + q * P j) * E2 j) 0
@@ -103,7 +109,8 @@ module _ {q n k a b o : ℕ} {x y w P D1 E1 D2 E2 : ℕ → ℕ} (prime : Prime 
   usable-right j l h =
       let (e, m) = left-out (eqb (E2 j) 0) (w j) h in
       let (r, s, t, _) = small j l in
-      below-eq r s (difference (y j) (P j) (divide-out prime (y j + q * P j) (E2 j) (nonzero (E2 j) t (eqb-false _ _ e)) (product-zero j l m)))
+      below-eq r s (difference (y j) (P j) (divide-out prime (y j + q * P j) (E2 j) (nonzero (E2 j) t (eqb-false _ _ e))
+      (product-zero j l m)))
 
   missed-hidden : (j : ℕ) → j < n → cond (eqb (y j) (P j)) 0 (w j) ≤ hidden j
   missed-hidden j l = go (eqb (y j) (P j)) (eqb (E2 j) 0) refl refl
@@ -111,7 +118,11 @@ module _ {q n k a b o : ℕ} {x y w P D1 E1 D2 E2 : ℕ → ℕ} (prime : Prime 
       go : (c d : Bool) → eqb (y j) (P j) ≡ c → eqb (E2 j) 0 ≡ d → cond c 0 (w j) ≤ cond d (w j) 0
       go true d e f = omega arith
       go false true e f = omega arith
-      go false false e f = elim (ℕ-discrete (w j) 0) [ yes z ↦ omega arith | no z ↦ absurd (eqb-false _ _ e (usable-right j l (rw f z))) ]
+      go false false e f = elim (ℕ-discrete (w j) 0) [
+        | yes z ↦ omega arith
+        | no z ↦ absurd
+            (eqb-false _ _ e (usable-right j l (rw f z)))
+      ]
 
   -- E2 has no more zeros than its degree, marked or not
   zeros-few : sum n zeros ≤ b
@@ -129,13 +140,22 @@ module _ {q n k a b o : ℕ} {x y w P D1 E1 D2 E2 : ℕ → ℕ} (prime : Prime 
       go false = omega arith
 
   pub usable-all : sum n (usable w E2) ≡ a
-  usable-all = omega (arith, split n (λ j. eqb (E2 j) 0) w, v .count, zeros-few, second-few, sum-le n hidden-zeros, sum-le n missed-hidden)
+  usable-all = omega (
+    arith,
+    split n (λ j. eqb (E2 j) 0) w,
+    v .count,
+    zeros-few,
+    second-few,
+    sum-le n hidden-zeros,
+    sum-le n missed-hidden,
+  )
 
   -- so where E2 is 0 the symbol is missed
   zero-missed : (j : ℕ) → j < n → eqb (E2 j) 0 ≡ true → eqb (y j) (P j) ≡ false
   zero-missed j l e =
       left-out (eqb (y j) (P j)) (w j) (λ z.
-      let h = sum-tight n {f = λ j. cond (eqb (y j) (P j)) 0 (w j)} {g = zeros} (λ j l. omega (arith, missed-hidden j l, hidden-zeros j l)) (omega (arith, zeros-few, second-few)) j l in
+      let h = sum-tight n {f = λ j. cond (eqb (y j) (P j)) 0 (w j)} {g = zeros}
+      (λ j l. omega (arith, missed-hidden j l, hidden-zeros j l)) (omega (arith, zeros-few, second-few)) j l in
       let i : zeros j ≡ 1 = ap (λ b. cond b 1 0) e in
       omega (arith, h, i, z)) .0
 
@@ -143,12 +163,14 @@ module _ {q n k a b o : ℕ} {x y w P D1 E1 D2 E2 : ℕ → ℕ} (prime : Prime 
   value-zero : (j : ℕ) → j < n → y j ≡ P j → D2 j ≡ 0
   value-zero j l e =
       let (_, _, _, t) = small j l in
-      below-eq t (omega arith) (rest (same {b = (y j + q * P j) * E2 j + D2 j} (omega arith)) (residual-zero j l) (same (ap (λ t. (t + q * P j) * E2 j) e) ⨾ less (P j * E2 j) (omega arith)))
+      below-eq t (omega arith) (rest (same {b = (y j + q * P j) * E2 j + D2 j} (omega arith)) (residual-zero j l)
+      (same (ap (λ t. (t + q * P j) * E2 j) e) ⨾ less (P j * E2 j) (omega arith)))
 
   zero-value : (j : ℕ) → j < n → eqb (E2 j) 0 ≡ false → D2 j ≡ 0 → y j ≡ P j
   zero-value j l e z =
       let (r, s, t, _) = small j l in
-      below-eq r s (difference (y j) (P j) (divide-out prime (y j + q * P j) (E2 j) (nonzero (E2 j) t (eqb-false _ _ e)) (rest (same refl) (residual-zero j l) (same z))))
+      below-eq r s (difference (y j) (P j) (divide-out prime (y j + q * P j) (E2 j) (nonzero (E2 j) t (eqb-false _ _ e))
+      (rest (same refl) (residual-zero j l) (same z))))
 
   pub suspect-right : (j : ℕ) → j < n → eqb (suspect D2 E2 j) 0 ≡ eqb (y j) (P j)
   suspect-right j l = go (eqb (E2 j) 0) refl

@@ -1,5 +1,6 @@
--- A trial misses no polynomial: what is near makes the first degree high enough, leaves a usable cells, costs what the second pair tells,
--- and is the candidate through k + 1 of these cells. So where no candidate is under the radius, no near polynomial is. Assumes nothing.
+-- A trial misses no polynomial: what is near makes the first degree high enough, leaves a usable cells, costs what the second
+-- pair tells, and is the candidate through k + 1 of these cells. So where no candidate is under the radius, no near polynomial
+-- is. Assumes nothing.
 use mathlib.Core.Logic.{_≢_}
 use mathlib.Core.Path.{_≡_, refl, sym, ap, ap₂, _∙_}
 use mathlib.Core.List.{List}
@@ -19,20 +20,26 @@ use Rattle.field.specs.Row.{row}
 use Rattle.field.proofs.Congruence.{same, ~sym, _⨾_, remainder, below-eq, cancel, mod-cong, cong-mod}
 use Rattle.field.proofs.Row.{row-at, beyond}
 use Rattle.distance.specs.Cost.{cell, cost}
-use Rattle.polynomial.specs.Eval.{eval, values}
+use Rattle.distance.specs.Doubts.{Doubts}
+use Rattle.polynomial.specs.Eval.{eval}
 use Rattle.polynomial.specs.Lead.{Lead}
 use Rattle.polynomial.proofs.Eval.{eval-lead}
 use Rattle.polynomial.proofs.Lead.{lead-eq}
-use Rattle.reed_solomon.specs.declared.decoder.Decoded.{Decoded}
 use Rattle.welch_berlekamp.specs.declared.newton.Newton.{Newton}
 use Rattle.welch_berlekamp.specs.Order.{taken, key}
 use Rattle.welch_berlekamp.specs.Pairs.{Pairs, pairs, Holds}
-use Rattle.reed_solomon.specs.Near.{missed, Near, usable, suspect, Refuted}
-use Rattle.welch_berlekamp.specs.Newton.{Enough, Fits, Coefficients}
-use Rattle.reed_solomon.specs.Decoded.{Received, Confirmed, Tried, hit, miss, Hoped, Candidate}
+use Rattle.welch_berlekamp.specs.Newton.{Enough, Coefficients}
 use Rattle.welch_berlekamp.proofs.Cursor.{zeros-at, key-in, key-out, keys-placed, marked-placed}
 use Rattle.welch_berlekamp.proofs.State.{ones-at}
+use Rattle.reed_solomon.specs.declared.axis.Axis.{Axis}
+use Rattle.reed_solomon.specs.declared.decoder.Decoded.{Decoded}
+use Rattle.reed_solomon.specs.Axis.{Valid, Received, word, spent, radius, HoldsOn, FitsOn}
+use Rattle.reed_solomon.specs.Near.{missed, Near, usable, suspect, Refuted}
+use Rattle.reed_solomon.specs.Decoded.{Confirmed, Tried, hit, miss, Hoped, Candidate}
 use Rattle.reed_solomon.proofs.Near.{first-over, usable-all, usable-right, suspect-right, eqb-same}
+
+pub modulus : {g : Axis} → Valid g → suc (g .p - 1) ≡ g .p
+modulus v = omega (arith, v .prime .least)
 
 usable-bit : (b : Bool) (w : ℕ) → w ≤ 1 → cond b 0 w ≤ 1
 usable-bit true w l = omega arith
@@ -57,173 +64,217 @@ module _ (w e : ℕ → ℕ) {v : List ℕ} (i : v ≡ row (usable w e)) where
 pub holds-few : {p n k : ℕ} {x s : List ℕ} {t : Pairs} → Holds p n k x s t → t .a + t .b ≤ n
 holds-few {n} H = omega (arith, H .state .count, sum-const n 1, sum-le n λ j _. H .state .bit j)
 
-pub candidate : {p n k : ℕ} {x s d1 e1 d2 e w : List ℕ} {a b : ℕ} → Holds p n k x s (pairs d1 e1 d2 e a b w) → Hoped k (pairs d1 e1 d2 e a b w) → Candidate p n k x s e w
-candidate {d1 = d1} {e1 = e1} {d2 = d2} {a = a} {b = b} H h = record { d1 = d1; e1 = e1; d2 = d2; a = a; b = b; holds = H; hoped = h }
+pub candidate : {g : Axis} {s d1 e1 d2 e w : List ℕ} {a b : ℕ} → HoldsOn g s (pairs d1 e1 d2 e a b w) →
+    Hoped (g .k) (pairs d1 e1 d2 e a b w) → Candidate g s e w
+candidate {d1 = d1} {e1 = e1} {d2 = d2} {a = a} {b = b} H h =
+    record { d1 = d1; e1 = e1; d2 = d2; a = a; b = b; holds = H; hoped = h }
 
 -- what a row of values costs
-pub cost-values : {p m n k : ℕ} {x s : List ℕ} (F : ℕ) (u w : List ℕ) {v : List ℕ} → Received p m x n k F s u → v ≡ row (λ j. eval (suc k) (at w) (at x j) % p) →
-    cost F n (at s) (at u) (at v) ≡ cost F n (at s) (at u) (values (p - 1) (suc k) (at w) (at x))
-cost-values {p} {n} {k} {x} {s} F u w R e = sum-eq n λ j l.
-    ap (cell F (at s j) (at u j))
-    (ap (λ t. at t j) e ∙ row-at (λ j. eval (suc k) (at w) (at x j) % p) j (omega (arith, R .4)) ∙ ap (λ t. eval (suc k) (at w) (at x j) % t) (sym whole))
+pub cost-values : {g : Axis} → Valid g → (s u w : List ℕ) {v : List ℕ} →
+    v ≡ row (λ j. eval (suc (g .k)) (at w) (at (g .x) j) % g .p) → spent g s u (at v) ≡ spent g s u (word g (at w))
+cost-values {g} valid s u w e = sum-eq (g .n) λ j l.
+    ap (cell (g .full) (at s j) (at u j))
+    (ap (λ t. at t j) e ∙ row-at (λ j. value j % g .p) j (omega (arith, valid .most))
+    ∙ ap (λ t. value j % t) (sym (modulus valid)))
   where
-    whole : suc (p - 1) ≡ p
-    whole = omega (arith, R .1 .least)
+    value : ℕ → ℕ
+    value j = eval (suc (g .k)) (at w) (at (g .x) j)
 
 -- two words with the same cells right
-cost-right : (F n : ℕ) (s u v s′ v′ : ℕ → ℕ) → ((j : ℕ) → j < n → eqb (s j) (v j) ≡ eqb (s′ j) (v′ j)) → cost F n s u v ≡ cost F n s′ u v′
-cost-right F n s u v s′ v′ h = sum-eq n λ j l. ap (λ b. cond b (u j) (2 * F - u j)) (h j l)
+cost-right : (full n : ℕ) (s u v s′ v′ : ℕ → ℕ) → ((j : ℕ) → j < n → eqb (s j) (v j) ≡ eqb (s′ j) (v′ j)) →
+    cost full n s u v ≡ cost full n s′ u v′
+cost-right full n s u v s′ v′ h = sum-eq n λ j l. ap (λ b. cond b (u j) (2 * full - u j)) (h j l)
 
-module _ {p m n k F : ℕ} {x s : List ℕ} (u : List ℕ) {t : Pairs} (R : Received p m x n k F s u) (H : Holds p n k x s t) where
-  whole : suc (p - 1) ≡ p
-  whole = omega (arith, R .1 .least)
-
-  abbrev word : (ℕ → ℕ) → ℕ → ℕ
-  word h = values (p - 1) (suc k) h (at x)
-
+module _ {g : Axis} {s u : List ℕ} {t : Pairs} (R : Received g s u) (H : HoldsOn g s t) where
   abbrev free : ℕ → ℕ
   free = usable (at (t .entered)) (at (t .e2))
 
-  prime : Prime (suc (p - 1))
-  prime = rw whole (R .0)
+  prime : Prime (suc (g .p - 1))
+  prime = rw (modulus (R .axis)) (R .axis .prime)
 
-  word-lead : (h : ℕ → ℕ) → Lead (p - 1) n (at x) k (h k) (word h)
-  word-lead h = lead-eq (same refl) (λ j _. remainder (eval (suc k) h (at x j))) (eval-lead k h)
+  word-lead : (h : ℕ → ℕ) → Lead (g .p - 1) (g .n) (at (g .x)) (g .k) (h (g .k)) (word g h)
+  word-lead h = lead-eq (same refl) (λ j _. remainder (eval (suc (g .k)) h (at (g .x) j))) (eval-lead (g .k) h)
 
-  small : (h : ℕ → ℕ) (j : ℕ) → j < n → (at s j < suc (p - 1)) × (word h j < suc (p - 1)) × (at (t .e2) j < suc (p - 1)) × (at (t .d2) j < suc (p - 1))
-  small h j _ = (rw whole (R .7 .small j), mod-lt (eval (suc k) h (at x j)) (omega arith), rw whole (H .shaped .e2 .small j), rw whole (H .shaped .d2 .small j))
+  small : (h : ℕ → ℕ) (j : ℕ) → j < g .n → (at s j < suc (g .p - 1)) × (word g h j < suc (g .p - 1)) ×
+      (at (t .e2) j < suc (g .p - 1)) × (at (t .d2) j < suc (g .p - 1))
+  small h j _ =
+      let e = modulus (R .axis) in (
+        rw e (R .symbols .small j),
+        mod-lt (eval (suc (g .k)) h (at (g .x) j)) (omega arith),
+        rw e (H .shaped .e2 .small j),
+        rw e (H .shaped .d2 .small j),
+      )
 
-  pub refuted-low : t .a ≤ t .b + k → Refuted (p - 1) F n k (at x) (at s) (at u) (at (t .entered))
-  refuted-low l = record { far = λ h near. absurd (omega (arith, first-over prime (R .3) (H .state) (word-lead h) (small h) near)) }
+  pub refuted-low : t .a ≤ t .b + g .k → Refuted g s u (t .entered)
+  refuted-low l = record {
+    far = λ h near. absurd (omega (arith, first-over prime (R .axis .apart) (H .state) (word-lead h) (small h) near));
+  }
 
   -- the second pair tells the cost
-  refuted-cost : (v : List ℕ) → ((j : ℕ) → j < n → at v j ≡ suspect (at (t .d2)) (at (t .e2)) j) → F * (n - k) ≤ cost F n (at v) (at u) (at (replicate 16 0)) →
-      Refuted (p - 1) F n k (at x) (at s) (at u) (at (t .entered))
+  refuted-cost : (v : List ℕ) → ((j : ℕ) → j < g .n → at v j ≡ suspect (at (t .d2)) (at (t .e2)) j) →
+      radius g ≤ spent g v u (at (replicate 16 0)) → Refuted g s u (t .entered)
   refuted-cost v e l = record {
     far = λ h near. omega (
       arith,
-      cost-right F n (at v) (at u) (at (replicate 16 0)) (at s) (word h) λ j o.
-          ap₂ eqb (e j o) (zeros-at 16 j) ∙ suspect-right prime (R .3) (H .state) (word-lead h) (small h) near j o,
+      cost-right (g .full) (g .n) (at v) (at u) (at (replicate 16 0)) (at s) (word g h) λ j o.
+          ap₂ eqb (e j o) (zeros-at 16 j) ∙ suspect-right prime (R .axis .apart) (H .state) (word-lead h) (small h) near j o,
     );
   }
 
-  pub refuted-suspect : {v : List ℕ} → v ≡ row (suspect (at (t .d2)) (at (t .e2))) → F * (n - k) ≤ cost F n (at v) (at u) (at (replicate 16 0)) →
-      Refuted (p - 1) F n k (at x) (at s) (at u) (at (t .entered))
-  refuted-suspect {v} e l = refuted-cost v (λ j o. ap (λ t. at t j) e ∙ row-at (suspect (at (t .d2)) (at (t .e2))) j (omega (arith, R .4))) l
+  pub refuted-suspect : {v : List ℕ} → v ≡ row (suspect (at (t .d2)) (at (t .e2))) →
+      radius g ≤ spent g v u (at (replicate 16 0)) →
+      Refuted g s u (t .entered)
+  refuted-suspect {v} e l = refuted-cost v
+      (λ j o. ap (λ t. at t j) e ∙ row-at (suspect (at (t .d2)) (at (t .e2))) j (omega (arith, R .axis .most))) l
 
-  free-count : sum 16 free ≡ sum n free
-  free-count = sum-short n 16 free (R .4) λ j l. usable-none (eqb (at (t .e2) j) 0) (H .beyond j l)
+  free-count : sum 16 free ≡ sum (g .n) free
+  free-count = sum-short (g .n) 16 free (R .axis .most) λ j l. usable-none (eqb (at (t .e2) j) 0) (H .beyond j l)
 
-  pub refuted-count : sum 16 free ≢ t .a → Refuted (p - 1) F n k (at x) (at s) (at u) (at (t .entered))
-  refuted-count d = record { far = λ h near. absurd (d (free-count ∙ usable-all prime (R .3) (H .state) (word-lead h) (small h) near)) }
+  pub refuted-count : sum 16 free ≢ t .a → Refuted g s u (t .entered)
+  refuted-count d = record {
+    far = λ h near. absurd (d (free-count ∙ usable-all prime (R .axis .apart) (H .state) (word-lead h) (small h) near));
+  }
 
   -- v is the row of usable cells
   module _ {v : List ℕ} (e : v ≡ row free) where
     free-at : (j : ℕ) → at v j ≡ free j
     free-at j = elim (decLt j 16) [
       | yes l ↦ ap (λ l. at l j) e ∙ row-at free j l
-      | no l ↦ beyond v j (omega (arith, ap length e, length-tab 16 free)) ∙ sym (usable-none (eqb (at (t .e2) j) 0) (H .beyond j (omega (arith, R .4))))
+      | no l ↦ beyond v j (omega (arith, ap length e, length-tab 16 free))
+          ∙ sym (usable-none (eqb (at (t .e2) j) 0) (H .beyond j (omega (arith, R .axis .most))))
     ]
 
     -- l are the keys of the usable cells
-    module _ {a l : List ℕ} (K : a ≡ row (λ j. key n (at u j) j)) (M : l ≡ row (λ j. cond (eqb (at v j) 0) taken (at a j))) where
-      marked-at : (j : ℕ) → j < 16 → at l j ≡ cond (eqb (at v j) 0) taken (key n (at u j) j)
+    module _ {a l : List ℕ} (K : a ≡ row (λ j. key (g .n) (at u j) j))
+        (M : l ≡ row (λ j. cond (eqb (at v j) 0) taken (at a j))) where
+      marked-at : (j : ℕ) → j < 16 → at l j ≡ cond (eqb (at v j) 0) taken (key (g .n) (at u j) j)
       marked-at j i =
           ap (λ t. at t j) M ∙ row-at (λ j. cond (eqb (at v j) 0) taken (at a j)) j i
-          ∙ ap (cond (eqb (at v j) 0) taken) (ap (λ t. at t j) K ∙ row-at (λ j. key n (at u j) j) j i)
+          ∙ ap (cond (eqb (at v j) 0) taken) (ap (λ t. at t j) K ∙ row-at (λ j. key (g .n) (at u j) j) j i)
 
-      pub enough-usable : Hoped k t → Enough p n k x l
+      -- by whether the cell is usable
+      marked-free : (j : ℕ) → j < g .n → at v j ≢ 0 → at l j ≡ at u j * 16 + j
+      marked-free j o z =
+          marked-at j (omega (arith, R .axis .most))
+          ∙ ap (λ b. cond b taken (key (g .n) (at u j) j)) (ne-eqb (at v j) 0 z) ∙ key-in (g .n) (at u j) j o
+
+      marked-none : (j : ℕ) → j < g .n → at v j ≡ 0 → at l j ≡ taken
+      marked-none j o z =
+          marked-at j (omega (arith, R .axis .most)) ∙ ap (λ b. cond b taken (key (g .n) (at u j) j)) (eq-eqb (at v j) 0 z)
+
+      pub enough-usable : Hoped (g .k) t → Enough (g .p) (g .n) (g .k) (g .x) l
       enough-usable h = record {
-        most = R .4;
-        apart = R .3;
-        placed = marked-placed (at v) (keys-placed n (at u) (λ j l. omega (arith, R .8 j l, R .6)) K) M;
-        beyond = λ j o i. omega (arith, marked-at j i ∙ ap (cond (eqb (at v j) 0) taken) (key-out n (at u j) j o) ∙ either (eqb (at v j) 0));
-        enough = omega (arith, h .high, h .count, free-count, sum-eq n {f = at v} {g = free} (λ j _. free-at j), sum-le n {f = at v} {g = λ j. cond (ltb (at l j) taken) 1 0} keyed);
+        most = R .axis .most;
+        apart = R .axis .apart;
+        placed = marked-placed (at v) (keys-placed (g .n) (at u) (λ j l. omega (arith, R .doubts j l, R .axis .full)) K) M;
+        beyond = λ j o i. omega (
+          arith,
+          marked-at j i ∙ ap (cond (eqb (at v j) 0) taken) (key-out (g .n) (at u j) j o) ∙ either (eqb (at v j) 0),
+        );
+        enough = omega (
+          arith,
+          h .high,
+          h .count,
+          free-count,
+          sum-eq (g .n) {f = at v} {g = free} (λ j _. free-at j),
+          sum-le (g .n) {f = at v} {g = λ j. cond (ltb (at l j) taken) 1 0} keyed,
+        );
       }
         where
           either : (b : Bool) → _≡_ {A = ℕ} (cond b taken taken) taken
           either true = refl
           either false = refl
 
-          keyed : (j : ℕ) → j < n → at v j ≤ cond (ltb (at l j) taken) 1 0
+          keyed : (j : ℕ) → j < g .n → at v j ≤ cond (ltb (at l j) taken) 1 0
           keyed j o = elim (ℕ-discrete (at v j) 0) [
             | yes z ↦ omega arith
-            | no z ↦
-                let i : at l j ≡ at u j * 16 + j = marked-at j (omega (arith, R .4)) ∙ ap (λ b. cond b taken (key n (at u j) j)) (ne-eqb (at v j) 0 z) ∙ key-in n (at u j) j o in
-                rw (lt-ltb (at l j) taken (omega (arith, i, R .8 j o, R .6, R .4))) (usable-bits (at (t .entered)) (at (t .e2)) e (H .state .bit) j)
+            | no z ↦ rw (lt-ltb (at l j) taken (omega (arith, marked-free j o z, R .doubts j o, R .axis .full, R .axis .most)))
+                (usable-bits (at (t .entered)) (at (t .e2)) e (H .state .bit) j)
           ]
 
       -- what is near goes through every usable cell, so it is near for the k + 1 of them that f goes through
-      refuted-usable : {f : Newton} → Fits p n k x s l (suc k) f → Refuted (p - 1) F n k (at x) (at s) (at u) (at (f .entered)) →
-          Refuted (p - 1) F n k (at x) (at s) (at u) (at (t .entered))
-      refuted-usable {f} G D = record { far = λ h near. D .far h (omega (arith, none h near, G .holds .state .count)) }
+      refuted-usable : {f : Newton} → FitsOn g s l f → Refuted g s u (f .entered) → Refuted g s u (t .entered)
+      refuted-usable {f} fit D = record { far = λ h near. D .far h (omega (arith, none h near, fit .holds .state .count)) }
         where
-          right : (h : ℕ → ℕ) → Near n k (at (t .entered)) (at s) (word h) → (j : ℕ) → j < n → cond (eqb (at s j) (word h j)) 0 (at (f .entered) j) ≡ 0
+          right : (h : ℕ → ℕ) → Near (g .n) (g .k) (at (t .entered)) (at s) (word g h) → (j : ℕ) → j < g .n →
+              cond (eqb (at s j) (word g h j)) 0 (at (f .entered) j) ≡ 0
           right h near j o = elim (ℕ-discrete (at (f .entered) j) 0) [
-            | yes z ↦ usable-none (eqb (at s j) (word h j)) z
-            | no z ↦ ap (λ b. cond b 0 (at (f .entered) j)) (eq-eqb (at s j) (word h j)
-                (usable-right prime (R .3) (H .state) (word-lead h) (small h) near j o λ e. marked z (free-at j ∙ e)))
+            | yes z ↦ usable-none (eqb (at s j) (word g h j)) z
+            | no z ↦ ap (λ b. cond b 0 (at (f .entered) j)) (eq-eqb (at s j) (word g h j)
+                (usable-right prime (R .axis .apart) (H .state) (word-lead h) (small h) near j o λ e. marked z (free-at j ∙ e)))
           ]
             where
               marked : at (f .entered) j ≢ 0 → at v j ≢ 0
-              marked z e = omega (arith, G .entering .some j (omega (arith, R .4)) z, marked-at j (omega (arith, R .4)) ∙ ap (λ b. cond b taken (key n (at u j) j)) (eq-eqb (at v j) 0 e))
+              marked z e = omega (arith, fit .entering .some j (omega (arith, R .axis .most)) z, marked-none j o e)
 
-          none : (h : ℕ → ℕ) → Near n k (at (t .entered)) (at s) (word h) → missed n (at (f .entered)) (at s) (word h) ≡ 0
-          none h near = sum-eq n (right h near) ∙ sum-const n 0 ∙ mul-zero n
+          none : (h : ℕ → ℕ) → Near (g .n) (g .k) (at (t .entered)) (at s) (word g h) →
+              missed (g .n) (at (f .entered)) (at s) (word g h) ≡ 0
+          none h near = sum-eq (g .n) (right h near) ∙ sum-const (g .n) 0 ∙ mul-zero (g .n)
 
-      pub tried-usable : {f : Newton} {r : Decoded} → Fits p n k x s l (suc k) f → Tried p F n k x s u (f .entered) r → Tried p F n k x s u (t .entered) r
-      tried-usable G (hit D) = hit D
-      tried-usable G (miss N D) = miss N (refuted-usable G D)
+      pub tried-usable : {f : Newton} {r : Decoded} → FitsOn g s l f → Tried g s u (f .entered) r → Tried g s u (t .entered) r
+      tried-usable fit (hit D) = hit D
+      tried-usable fit (miss N D) = miss N (refuted-usable fit D)
+
+-- the doubts are small enough for keys
+pub received-doubts : {g : Axis} {s u : List ℕ} → Received g s u → (g .n ≤ 16) × Doubts 65535 (g .n) (at u)
+received-doubts R = (R .axis .most, λ j l. omega (arith, R .doubts j l, R .axis .full))
 
 -- all cells have keys
-pub enough-all : {p m n k F : ℕ} {x s l : List ℕ} (u : List ℕ) → Received p m x n k F s u → l ≡ row (λ j. key n (at u j) j) → Enough p n k x l
-enough-all {n} {l} u R K = record {
-  most = R .4;
-  apart = R .3;
-  placed = keys-placed n (at u) (λ j l. omega (arith, R .8 j l, R .6)) K;
-  beyond = λ j o i. omega (arith, here j i ∙ key-out n (at u j) j o);
+pub enough-all : {g : Axis} {s u l : List ℕ} → Received g s u → l ≡ row (λ j. key (g .n) (at u j) j) →
+    Enough (g .p) (g .n) (g .k) (g .x) l
+enough-all {g} {u = u} {l = l} R K = record {
+  most = R .axis .most;
+  apart = R .axis .apart;
+  placed = keys-placed (g .n) (at u) (λ j l. omega (arith, R .doubts j l, R .axis .full)) K;
+  beyond = λ j o i. omega (arith, here j i ∙ key-out (g .n) (at u j) j o);
   enough = omega (
     arith,
-    R .5,
-    sum-const n 1,
-    sum-le n {f = λ j. 1} {g = λ j. cond (ltb (at l j) taken) 1 0} λ j o. rw (lt-ltb (at l j) taken
-        (omega (arith, here j (omega (arith, R .4)) ∙ key-in n (at u j) j o, R .8 j o, R .6, R .4))) (omega arith),
+    R .axis .low,
+    sum-const (g .n) 1,
+    sum-le (g .n) {f = λ j. 1} {g = λ j. cond (ltb (at l j) taken) 1 0} λ j o. rw (lt-ltb (at l j) taken (below j o))
+        (omega arith),
   );
 }
   where
-    here : (j : ℕ) → j < 16 → at l j ≡ key n (at u j) j
-    here j i = ap (λ t. at t j) K ∙ row-at (λ j. key n (at u j) j) j i
+    here : (j : ℕ) → j < 16 → at l j ≡ key (g .n) (at u j) j
+    here j i = ap (λ t. at t j) K ∙ row-at (λ j. key (g .n) (at u j) j) j i
+
+    below : (j : ℕ) → j < g .n → at l j < taken
+    below j o =
+        let i : j < 16 = omega (arith, R .axis .most) in
+        omega (arith, here j i ∙ key-in (g .n) (at u j) j o, R .doubts j o, R .axis .full)
 
 -- the polynomial f, measured by its rest
-module _ {p m n k F : ℕ} {x s l : List ℕ} (u : List ℕ) {f : Newton} (R : Received p m x n k F s u) (G : Fits p n k x s l (suc k) f) where
-  pub refuted-rest : F * (n - k) ≤ cost F n (at (f .rest)) (at u) (at (replicate 16 0)) → Refuted (p - 1) F n k (at x) (at s) (at u) (at (f .entered))
-  refuted-rest h = refuted-cost u R (G .holds) (f .rest) (λ j o. sym (ap (λ b. cond b 1 (at (f .rest) j)) (ne-eqb _ _ λ e. one j o e))) h
+module _ {g : Axis} {s u l : List ℕ} {f : Newton} (R : Received g s u) (fit : FitsOn g s l f) where
+  pub refuted-rest : radius g ≤ spent g (f .rest) u (at (replicate 16 0)) → Refuted g s u (f .entered)
+  refuted-rest h =
+      refuted-cost R (fit .holds) (f .rest) (λ j o. sym (ap (λ b. cond b 1 (at (f .rest) j)) (ne-eqb _ _ λ e. one j o e))) h
     where
-      one : (j : ℕ) → j < n → at (replicate 16 1) j ≡ 0 → ⊥
-      one j o e = omega (arith, ones-at j (omega (arith, R .4)))
+      one : (j : ℕ) → j < g .n → at (replicate 16 1) j ≡ 0 → ⊥
+      one j o e = omega (arith, ones-at j (omega (arith, R .axis .most)))
 
-  pub found-rest : {r : Decoded} → r .found ≡ true → Coefficients p k (f .slopes) (f .nodes) (r .message) → r .values ≡ row (λ j. (at (f .rest) j + 1 * at s j) % p) →
-      r .cost ≡ cost F n (at (f .rest)) (at u) (at (replicate 16 0)) → r .cost < F * (n - k) → Confirmed p F n k x s u r
+  pub found-rest : {r : Decoded} → r .found ≡ true → Coefficients (g .p) (g .k) (f .slopes) (f .nodes) (r .message) →
+      r .values ≡ row (λ j. (at (f .rest) j + 1 * at s j) % g .p) → r .cost ≡ spent g (f .rest) u (at (replicate 16 0)) →
+      r .cost < radius g → Confirmed g s u r
   found-rest {r} t C e c b = record {
     found = t;
     message = C .row;
     above = C .above;
-    values = e ∙ tab-eq 16 λ j i. cong-mod pos (same (omega arith) ⨾ G .formed j i ⨾ ~sym (C .evaluates (at x j)));
-    measured = c ∙ cost-right F n (at (f .rest)) (at u) (at (replicate 16 0)) (at s) (at (r .values)) right;
+    values = e ∙ tab-eq 16 λ j i. cong-mod pos (same (omega arith) ⨾ fit .formed j i ⨾ ~sym (C .evaluates (at (g .x) j)));
+    measured = c ∙ cost-right (g .full) (g .n) (at (f .rest)) (at u) (at (replicate 16 0)) (at s) (at (r .values)) right;
     under = b;
   }
     where
-      pos : 0 < p
-      pos = omega (arith, R .1 .least)
+      pos : 0 < g .p
+      pos = omega (arith, R .axis .prime .least)
 
-      whole : suc (p - 1) ≡ p
-      whole = omega arith
+      value : (j : ℕ) → j < g .n → at (r .values) j ≡ (at (f .rest) j + 1 * at s j) % g .p
+      value j o = ap (λ t. at t j) e ∙ row-at (λ j. (at (f .rest) j + 1 * at s j) % g .p) j (omega (arith, R .axis .most))
 
-      value : (j : ℕ) → j < n → at (r .values) j ≡ (at (f .rest) j + 1 * at s j) % p
-      value j o = ap (λ t. at t j) e ∙ row-at (λ j. (at (f .rest) j + 1 * at s j) % p) j (omega (arith, R .4))
-
-      right : (j : ℕ) → j < n → eqb (at (f .rest) j) (at (replicate 16 0) j) ≡ eqb (at s j) (at (r .values) j)
+      right : (j : ℕ) → j < g .n → eqb (at (f .rest) j) (at (replicate 16 0) j) ≡ eqb (at s j) (at (r .values) j)
       right j o = eqb-same (at (f .rest) j) (at (replicate 16 0) j) (at s j) (at (r .values) j)
-          (λ z. sym (value j o ∙ ap (λ t. (t + 1 * at s j) % p) (z ∙ zeros-at 16 j) ∙ ap (λ t. t % p) (omega arith) ∙ mod-eq-of-lt (R .7 .small j)))
-          (λ z. below-eq (rw whole (G .whole .rest .small j)) (rw (whole, zeros-at 16 j) pos)
-          (cancel (same {a = at s j} refl) (same (omega arith) ⨾ ~sym (mod-cong pos (at (f .rest) j + 1 * at s j)) ⨾ same {b = at (replicate 16 0) j + at s j} (omega (arith, value j o, z, zeros-at 16 j)))))
+          (λ z. sym (value j o ∙ ap (λ t. (t + 1 * at s j) % g .p) (z ∙ zeros-at 16 j) ∙ ap (λ t. t % g .p) (omega arith)
+          ∙ mod-eq-of-lt (R .symbols .small j)))
+          (λ z. below-eq (rw (modulus (R .axis)) (fit .whole .rest .small j)) (rw (modulus (R .axis), zeros-at 16 j) pos)
+          (cancel (same {a = at s j} refl) (same (omega arith) ⨾ ~sym (mod-cong pos (at (f .rest) j + 1 * at s j))
+          ⨾ same {b = at (replicate 16 0) j + at s j} (omega (arith, value j o, z, zeros-at 16 j)))))

@@ -1,7 +1,8 @@
-// The strip decoder (document 004, chapter 4, by generalised minimum distance): levels of doubt rise, the cells of a level enter the
-// interpolation one by one, and after each the candidate, if there may be one, is measured against the whole strip. A measured one
-// under the radius is the only one, so that it ends the trial. The first k + 1 cells have one polynomial through them, which is
-// measured first.
+// The strip decoder (document 004, chapter 4, by generalised minimum distance): levels of doubt rise, the cells of a level enter
+// the interpolation one by one, and after each the candidate, if there may be one, is measured against the whole strip. A
+// measured one under the radius is the only one, so that it ends the trial. The first k + 1 cells have one polynomial through
+// them, which is measured first.
+use crate::axis::Axis;
 use distance::word;
 use field::rows;
 use welch_berlekamp::interpolation;
@@ -11,17 +12,17 @@ use welch_berlekamp::order;
 ghost use mathlib.Core.Path.{_≡_};
 ghost use mathlib.Core.Bool.{cond};
 ghost use mathlib.Core.List.{List};
-ghost use Prim.Native.Nat.{ℕ, _<_, _≤_};
+ghost use Prim.Native.Nat.{ℕ, _≤_};
 ghost use lib.Dec.{eqb};
 ghost use Rattle.bounded.specs.Bounded.{at, sum};
 ghost use Rattle.field.specs.Prime.{Inverses};
-ghost use Rattle.field.specs.Row.{row, Row, Reciprocal};
+ghost use Rattle.field.specs.Row.{row};
 ghost use Rattle.distance.specs.Doubts.{Doubts};
-ghost use Rattle.welch_berlekamp.specs.Newton.{Whole};
 ghost use Rattle.welch_berlekamp.specs.Order.{key};
 ghost use Rattle.welch_berlekamp.specs.Pairs.{pairs};
+ghost use Rattle.reed_solomon.specs.Axis.{Valid, Received};
 ghost use Rattle.reed_solomon.specs.Near.{usable, suspect};
-ghost use Rattle.reed_solomon.specs.Decoded.{Received, StripDecoded, None, Tried, TrialOf, Hope, Candidate};
+ghost use Rattle.reed_solomon.specs.Decoded.{StripDecoded, None, Tried, Fitted, Hope, Candidate};
 
 // Of an answer that there is none, all else is 0.
 pub struct Decoded {
@@ -109,28 +110,19 @@ fn doubt_sum(n: usize, u: [u32; 16]) -> u32
 }
 
 // The polynomial f, if it costs under the radius.
-fn measured(
-    f: Newton,
-    p: u16,
-    m: u16,
-    n: usize,
-    k: usize,
-    full: u32,
-    s: [u16; 16],
-    u: [u32; 16],
-) -> Decoded
-    requires { ⌜ Reciprocal p m × Whole p f × Row p s × (n ≤ 16) × (k < n) × (full < 65536) × Doubts full n (at u) ⌝ }
-    ensures { λ r. ⌜ TrialOf p m full n k s u f r ⌝ }
+fn measured(g: Axis, f: Newton, s: [u16; 16], u: [u32; 16]) -> Decoded
+    requires { ⌜ Received g s u × Fitted g s f ⌝ }
+    ensures { λ r. ⌜ Tried g s u (f .entered) r ⌝ }
 {
     let rest = f.rest;
-    let cost = word::word_cost(n, rest, u, [0; 16], full);
-    if cost >= word::radius(full, 1, n, k) {
+    let cost = word::word_cost(g.n, rest, u, [0; 16], g.full);
+    if cost >= word::radius(g.full, 1, g.n, g.k) {
         return none();
     }
     let slopes = f.slopes;
     let nodes = f.nodes;
-    let message = newton::coefficients(slopes, nodes, k, p, m);
-    let values = rows::add_multiple(rest, 1, s, p, m);
+    let message = newton::coefficients(slopes, nodes, g.k, g.p, g.m);
+    let values = rows::add_multiple(rest, 1, s, g.p, g.m);
     Decoded {
         found: true,
         message,
@@ -139,76 +131,62 @@ fn measured(
     }
 }
 
-// Whether the pairs may have a candidate. A near polynomial makes E2 zero at just the entered cells where it is missed, b in number,
-// and at no other point: so it is missed where E2 is 0 or D2 is not, which tells its cost.
+// Whether the pairs may have a candidate. A near polynomial makes E2 zero at just the entered cells where it is missed, b in
+// number, and at no other point: so it is missed where E2 is 0 or D2 is not, which tells its cost.
 fn hopeful(
+    g: Axis,
     d: [u16; 16],
     e: [u16; 16],
     a: usize,
     b: usize,
     entered: [u16; 16],
-    n: usize,
-    k: usize,
-    full: u32,
     u: [u32; 16],
 ) -> bool
-    requires { ⌜ (n ≤ 16) × (k < n) × (full < 65536) × Doubts full n (at u) × (b ≤ 16) × ((j : ℕ) → at entered j ≤ 1) ⌝ }
-    ensures { λ r. ⌜ ((d1 e1 : List ℕ) → Hope full n k u (pairs d1 e1 d e a b entered) r) ⌝ }
+    requires { ⌜ Valid g × Doubts (g .full) (g .n) (at u) × (b ≤ 16) × ((j : ℕ) → at entered j ≤ 1) ⌝ }
+    ensures { λ r. ⌜ ((d1 e1 : List ℕ) → Hope g u (pairs d1 e1 d e a b entered) r) ⌝ }
 {
-    if a <= b + k {
+    if a <= b + g.k {
         return false;
     }
     if count(usable_cells(entered, e)) != a {
         return false;
     }
-    let cost = word::word_cost(n, suspect_cells(d, e), u, [0; 16], full);
-    cost < word::radius(full, 1, n, k)
+    let cost = word::word_cost(g.n, suspect_cells(d, e), u, [0; 16], g.full);
+    cost < word::radius(g.full, 1, g.n, g.k)
 }
 
 // The candidate, measured: a near polynomial goes through all usable cells.
 fn attempt(
+    g: Axis,
+    inverses: &[u16; 251],
     e: [u16; 16],
     entered: [u16; 16],
     keys: [u32; 16],
-    p: u16,
-    m: u16,
-    inverses: &[u16; 251],
-    x: [u16; 16],
-    n: usize,
-    k: usize,
-    full: u32,
     s: [u16; 16],
     u: [u32; 16],
 ) -> Decoded
-    requires { ⌜ Received p m x n k full s u × Inverses p (now inverses) × (keys ≡ row (λ j. key n (at u j) j)) × Candidate p n k x s e entered ⌝ }
-    ensures { λ r. ⌜ Tried p full n k x s u entered r ⌝ }
+    requires { ⌜ Received g s u × Inverses (g .p) (now inverses) × (keys ≡ row (λ j. key (g .n) (at u j) j)) ×
+        Candidate g s e entered ⌝ }
+    ensures { λ r. ⌜ Tried g s u entered r ⌝ }
 {
+    let x = g.x;
     let v = usable_cells(entered, e);
-    let f = newton::through(order::marked(v, keys), x, s, k, p, m, inverses);
-    measured(f, p, m, n, k, full, s, u)
+    let f = newton::through(order::marked(v, keys), x, s, g.k, g.p, g.m, inverses);
+    measured(g, f, s, u)
 }
 
-// The polynomial of degree at most k that costs under full * (n - k), by its k + 1 coefficients, its values and its cost; or none.
-pub fn decode(
-    p: u16,
-    m: u16,
-    inverses: &[u16; 251],
-    x: [u16; 16],
-    n: usize,
-    k: usize,
-    full: u32,
-    s: [u16; 16],
-    u: [u32; 16],
-) -> Decoded
-    requires { ⌜ Received p m x n k full s u × Inverses p (now inverses) ⌝ }
-    ensures { λ r. ⌜ StripDecoded p full n k x s u (r .found) (r .message) (r .values) (r .cost) ⌝ }
+// The polynomial of degree at most k that costs under full * (n - k), by its k + 1 coefficients, values and cost; or none.
+pub fn decode(g: Axis, inverses: &[u16; 251], s: [u16; 16], u: [u32; 16]) -> Decoded
+    requires { ⌜ Received g s u × Inverses (g .p) (now inverses) ⌝ }
+    ensures { λ r. ⌜ StripDecoded g s u r ⌝ }
 {
-    if doubt_sum(n, u) >= word::radius(full, 1, n, k) {
+    if doubt_sum(g.n, u) >= word::radius(g.full, 1, g.n, g.k) {
         return none();
     }
-    let all = order::keys(n, u);
-    let f = newton::through(all, x, s, k, p, m, inverses);
-    let mut answer = measured(f, p, m, n, k, full, s, u);
+    let x = g.x;
+    let all = order::keys(g.n, u);
+    let f = newton::through(all, x, s, g.k, g.p, g.m, inverses);
+    let mut answer = measured(g, f, s, u);
     if answer.found {
         return answer;
     }
@@ -216,12 +194,12 @@ pub fn decode(
     let mut e1 = [0u16; 16];
     let mut d2 = f.rest;
     let mut e2 = [1u16; 16];
-    let mut a = k + 1;
+    let mut a = g.k + 1;
     let mut b = 0;
     let mut entered = f.entered;
     let mut keys = f.keys;
     let mut next = order::least(keys);
-    'levels: while next < full * 16 {
+    'levels: while next < g.full * 16 {
         let level = next / 16;
         while next / 16 == level {
             let r = (next % 16) as usize;
@@ -238,13 +216,13 @@ pub fn decode(
                 &mut entered,
                 x,
                 r,
-                k,
-                p,
-                m,
+                g.k,
+                g.p,
+                g.m,
                 inverses,
             );
-            if hopeful(d2, e2, a, b, entered, n, k, full, u) {
-                let tried = attempt(e2, entered, all, p, m, inverses, x, n, k, full, s, u);
+            if hopeful(g, d2, e2, a, b, entered, u) {
+                let tried = attempt(g, inverses, e2, entered, all, s, u);
                 if tried.found {
                     answer = tried;
                     break 'levels;

@@ -1,15 +1,12 @@
 -- `reed_muller::lines::read` meets its contract: by the laws of a line that was found and of one that was not. Assumes nothing.
 use native.Mathlib.Omega.{arith}
-use Rattle.reed_muller.proofs.Answers.{line-full, answered-found, answered-none}
+use Rattle.reed_muller.proofs.Answers.{line-full, line-valid, answered-found, answered-none}
 use borrow.Author.Needs.{needs}
 use Rattle.reed_muller.proofs.lines.read.Statement.{statement}
 use Rattle.reed_muller.proofs.lines.read.Tie as tie
 
 decode-requires : tie.Need-decode-requires
-decode-requires c κs =
-    let b = c .before .pre in
-    let f = b .0 in
-    ((f .prime, f .reciprocal, f .columnPoints, f .columnsApart, f .columns, omega (arith, f .narrow), omega (arith, f .full), b .2, b .3), b .4)
+decode-requires c κs = let b = c .before .pre in (record { axis = line-valid (b .0) (b .1); symbols = b .2; doubts = b .3 }, b .4)
 
 returns : tie.Need-returns
 returns c =

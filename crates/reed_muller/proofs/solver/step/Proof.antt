@@ -2,7 +2,7 @@
 use native.Mathlib.Omega.{arith}
 use borrow.Author.Tests.{not-true, not-false}
 use Rattle.field.proofs.Row.{result-row}
-use Rattle.reed_muller.proofs.Answers.{positive, line-full}
+use Rattle.reed_muller.proofs.Answers.{positive, line-full, strip-valid}
 use Rattle.reed_muller.proofs.Steps.{leading-row, stepped-none, stepped-found}
 use borrow.Author.Needs.{needs}
 use Rattle.reed_muller.proofs.solver.step.Statement.{statement}
@@ -15,12 +15,12 @@ mul-radius c =
 
 decode-requires : tie.Need-decode-requires
 decode-requires c κs =
-    let start = c .before .before .before .before .before .before .before .before .before in
-    let f = start .pre .0 in
-    let A = c .before .before .before .before .before .before .answer .ensures in
-    let row = leading-row f _ _ _ A (c .before .before .before .before .place-of-each .ensures) in
-    let fits = line-full (start .args .t) f in
-    ((f .prime, f .reciprocal, f .rowPoints, f .rowsApart, f .rows, omega (arith, f .low), omega (arith, fits, f .full), row, λ r l. A .answered r l .entered .below), start .pre .5)
+    let leading = c .before .before .before .before in
+    let answered = leading .before .before in
+    let b = answered .before .before .before .pre in
+    let A = answered .answer .ensures in
+    let row = leading-row (b .0) _ _ _ A (leading .place-of-each .ensures) in
+    (record { axis = strip-valid (b .0) (b .1); symbols = row; doubts = λ r l. A .answered r l .entered .below }, b .5)
 
 returns : tie.Need-returns
 returns c =

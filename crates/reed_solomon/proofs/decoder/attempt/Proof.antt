@@ -1,36 +1,30 @@
--- `reed_solomon::decoder::attempt` meets its contract: the usable cells are enough, and what is near goes through them. Assumes nothing.
+-- `reed_solomon::decoder::attempt` meets its contract: the usable cells are enough, and what is near goes through them.
+-- Assumes nothing.
+use Rattle.welch_berlekamp.specs.Newton.{Enough}
 use Rattle.reed_solomon.proofs.Trial.{enough-usable, tried-usable}
 use borrow.Author.Needs.{needs}
 use Rattle.reed_solomon.proofs.decoder.attempt.Statement.{statement}
 use Rattle.reed_solomon.proofs.decoder.attempt.Tie as tie
 
-through-requires : tie.Need-through-requires
-through-requires c κs =
-    let start = c .before .before in
-    let b = start .pre in
-    (b .0 .1, b .1, b .0 .2, b .0 .7, record { n = start .args .n; enough = enough-usable (start .args .u) (b .0) (b .3 .holds) (c .before .usable-cells .ensures) (b .2) (c .marked .ensures) (b .3 .hoped) })
-
-measured-requires : tie.Need-measured-requires
-measured-requires c κs =
-    let start = c .before .before .before in
-    let b = start .pre in
-    let f = c .through .ensures _ (enough-usable (start .args .u) (b .0) (b .3 .holds) (c .before .before .usable-cells .ensures) (b .2) (c .before .marked .ensures) (b .3 .hoped)) in
-    (b .0 .1, f .whole, b .0 .7, b .0 .4, b .0 .5, b .0 .6, b .0 .8)
+-- the usable cells are enough
+enough : (c : tie.After-marked) → let g = c .before .before .before .args .g in Enough (g .p) (g .n) (g .k) (g .x) (c .marked .result)
+enough c =
+    let (R, _, K, C) = c .before .before .before .pre in
+    enough-usable R (C .holds) (c .before .usable-cells .ensures) K (c .marked .ensures) (C .hoped)
 
 returns : tie.Need-returns
 returns c =
-    let after-marked = c .before .before in
-    let after-usable-cells = after-marked .before in
-    let start = after-usable-cells .before in
-    let b = start .pre in
-    let f = c .before .through .ensures _ (enough-usable (start .args .u) (b .0) (b .3 .holds) (after-usable-cells .usable-cells .ensures) (b .2) (after-marked .marked .ensures) (b .3 .hoped)) in
-    tried-usable (start .args .u) (b .0) (b .3 .holds) (after-usable-cells .usable-cells .ensures) (b .2) (after-marked .marked .ensures) f (c .measured .ensures .tried _ _ (b .0) f)
+    let marked = c .before .before in
+    let (R, _, K, C) = marked .before .before .before .pre in
+    tried-usable R (C .holds) (marked .before .usable-cells .ensures) K (marked .marked .ensures) (c .before .through .ensures _ (enough marked)) (c .measured .ensures)
 
 pub attempt-spec : {M : Type 1} → statement M
 attempt-spec =
     tie.close
     (tie.spec
     (λ c κs. search needs) (λ c κs. search needs)
-    through-requires
-    measured-requires
+    (λ c κs.
+    let (R, I, _, _) = c .before .before .before .pre in
+    (R .axis .reciprocal, I, R .axis .points, R .symbols, record { n = _; enough = enough c }))
+    (λ c κs. (c .before .before .before .before .pre .0, record { keys = _; fits = c .through .ensures _ (enough (c .before)) }))
     returns)

@@ -1,6 +1,0 @@
--- What the proofs of writing, measuring and reading share.
-pub mod Loading
-pub mod Early
-pub mod Strip
-pub mod Square
-pub mod SquareMark

@@ -1,0 +1,2 @@
+-- The laws of measuring row by row.
+pub mod Rows

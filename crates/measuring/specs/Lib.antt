@@ -1,0 +1,2 @@
+-- What the contracts of measuring need beside the definitions.
+pub mod Measured

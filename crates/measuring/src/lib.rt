@@ -1,0 +1,104 @@
+// What a record costs against a photograph, and how many cells it changes, where nothing is refused.
+use definitions::Reading;
+use distance::word;
+use field::bytes;
+use plan::Plan;
+use polynomial::bivariate;
+use polynomial::evaluation;
+use polynomial::limit;
+ghost use mathlib.Core.Path.{_≡_};
+ghost use mathlib.Core.List.{List};
+ghost use Prim.Native.Nat.{ℕ, _*_, _≤_, _<_};
+ghost use lib.ListN.{length};
+ghost use Rattle.bounded.specs.Bounded.{at};
+ghost use Rattle.polynomial.specs.Record.{gridValue};
+ghost use Rattle.polynomial.specs.Powers.{Rows, Powers, Columns};
+ghost use Rattle.distance.specs.Doubts.{Doubts};
+ghost use Rattle.definitions.specs.Code.{strip, square, IsRecord};
+ghost use Rattle.definitions.specs.Calls.{readingOf};
+ghost use Rattle.definitions.specs.Photograph.{Photograph};
+ghost use Rattle.plan.specs.Says.{Says, Ready};
+ghost use Rattle.measuring.specs.Measured.{Measured};
+
+// The reading of a record against a mark.
+pub fn measure_mark(plan: Plan, record: &[u8], symbols: &[u8], doubts: &[u8]) -> Reading
+    requires { ⌜ ((P : List ℕ) × Says P plan × Photograph square P (now symbols) (now doubts) × IsRecord square P (now «record»)) ⌝ }
+    ensures { λ r. ⌜ ((P : List ℕ) → Says P plan → Photograph square P (now (symbols .entry)) (now (doubts .entry)) →
+        r ≡ readingOf square P (now (symbols .entry)) (now (doubts .entry)) (now («record» .entry))) ⌝ }
+{
+    let x = plan.x;
+    let y = plan.y;
+    let xs = evaluation::powers(x, plan.d, plan.p, plan.m);
+    let ys = evaluation::powers(y, plan.d, plan.p, plan.m);
+    let columns = bivariate::columns(record, &xs, plan.d, plan.p, plan.m);
+    let tally = measure_rows(plan, &columns, &ys, symbols, doubts);
+    let radius = limit::radius(plan.full, plan.a, plan.b, plan.d);
+    answers::reading(radius, tally.cost, tally.changed)
+}
+
+// The same against a strip, over the row points.
+pub fn measure_strip(plan: Plan, record: &[u8], symbols: &[u8], doubts: &[u8]) -> Reading
+    requires { ⌜ ((P : List ℕ) × Says P plan × Photograph strip P (now symbols) (now doubts) × IsRecord strip P (now «record»)) ⌝ }
+    ensures { λ r. ⌜ ((P : List ℕ) → Says P plan → Photograph strip P (now (symbols .entry)) (now (doubts .entry)) →
+        r ≡ readingOf strip P (now (symbols .entry)) (now (doubts .entry)) (now («record» .entry))) ⌝ }
+{
+    let x = plan.x;
+    let xs = evaluation::powers(x, plan.d, plan.p, plan.m);
+    let values = evaluation::values(&xs, plan.d, bytes::row(record), plan.p, plan.m);
+    let tally = measure_row(symbols, doubts, values, plan.full);
+    let radius = word::radius(plan.full, 1, plan.a, plan.d);
+    answers::reading(radius, tally.cost, tally.changed)
+}
+
+// The cost and the changed count of some cells.
+struct Tally {
+    cost: u32,
+    changed: u32,
+}
+
+// Those of the mark's cells, row by row: at most sixteen rows, each of a cost of at most 2,097,152. X was put in for all rows at once,
+// which gave the columns.
+fn measure_rows(
+    plan: Plan,
+    columns: &[[u16; 16]; 16],
+    ys: &[[u16; 16]; 16],
+    symbols: &[u8],
+    doubts: &[u8],
+) -> Tally
+    requires { ⌜ Ready plan × Rows (plan .p) (now columns) × Rows (plan .p) (now ys) × (length (now symbols) ≡ plan .a * plan .b)
+        × (length (now doubts) ≡ plan .a * plan .b) × Doubts (plan .full) (plan .a * plan .b) (at (now doubts)) ⌝ }
+    ensures { λ t. ⌜ (t .cost ≤ 33554432) × ((x y F : List ℕ) → Columns (plan .p) (plan .d) x F (now (columns .entry)) →
+        Powers (plan .p) y (plan .d) (now (ys .entry)) → Measured (plan .full) (plan .a * plan .b) (at (now (symbols .entry)))
+        (at (now (doubts .entry))) (gridValue (plan .p) (plan .d) (plan .b) (at x) (at y) F) (t .cost) (t .changed)) ⌝ }
+{
+    let a = plan.a;
+    let b = plan.b;
+    let mut cost = 0;
+    let mut changed = 0;
+    for r in 0..a {
+        let values = bivariate::row_values(columns, ys, r, plan.d, plan.p, plan.m);
+        let at = r * b;
+        let end = at + b;
+        let tally = measure_row(&symbols[at..end], &doubts[at..end], values, plan.full);
+        cost += tally.cost;
+        changed += tally.changed;
+    }
+    Tally { cost, changed }
+}
+
+// Those of the cells of a row, or of a strip: at most sixteen cells, of which each costs at most 131,072 (`cell_cost`).
+fn measure_row(symbols: &[u8], doubts: &[u8], values: [u16; 16], full: u32) -> Tally
+    requires { ⌜ (length (now symbols) ≤ 16) × (length (now doubts) ≡ length (now symbols)) × (full < 65536)
+        × Doubts full (length (now symbols)) (at (now doubts)) ⌝ }
+    ensures { λ t. ⌜ Measured full (length (now (symbols .entry))) (at (now (symbols .entry))) (at (now (doubts .entry))) (at values)
+        (t .cost) (t .changed) × (t .cost ≤ 2097152) × (t .changed ≤ 16) ⌝ }
+{
+    let mut cost = 0;
+    let mut changed = 0;
+    for j in 0..symbols.len() {
+        let symbol = symbols[j] as u16;
+        cost += word::cell_cost(symbol, doubts[j] as u32, values[j], full);
+        changed += word::cell_changed(symbol, values[j]);
+    }
+    Tally { cost, changed }
+}

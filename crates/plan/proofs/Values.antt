@@ -1,0 +1,82 @@
+-- Records of a sound plan P, by the struct g that says what P does: their values at its points are those of P's marks and strips.
+--
+--   record-word     a square's record is a word of the struct's prime and degree
+--   record-row      a strip's record, loaded as a row, is a row of residues
+--   mark-cells      a mark has a row of cells for each row point
+--   mark-value, mark-is   the values on the grid of the struct's points are the mark
+--   mark-radius, strip-radius   the radius by the struct is the plan's
+--   strip-values    the values of a row that has a strip's coefficients are the strip's
+--
+-- Assumes nothing.
+use mathlib.Core.Path.{_≡_, refl, ap, ap₂, _∙_}
+use mathlib.Core.List.{List}
+use Prim.Native.Nat.{ℕ, suc, _+_, _*_, _-_, _/_, _%_, _^_, _<_}
+use native.Mathlib.Numerals.{add-one}
+use native.Mathlib.Omega.{arith}
+use native.Mathlib.Decide.{decLt}
+use native.Mathlib.Nat.{mod-lt, div-lt-iff-lt-mul}
+use Rattle.bounded.specs.Bounded.{at, tab}
+use Rattle.bounded.proofs.Sum.{sum-eq}
+use Rattle.bounded.proofs.Tab.{length-tab, tab-eq}
+use Rattle.field.specs.Row.{row, Row}
+use Rattle.field.specs.Word.{Word}
+use Rattle.field.proofs.Row.{row-at, row-of, beyond}
+use Rattle.polynomial.specs.Eval.{eval}
+use Rattle.polynomial.specs.Record.{start, valueXY, gridValue}
+use Rattle.polynomial.specs.Grid.{gridDistance}
+use Rattle.polynomial.proofs.Record.{value-strip}
+use Rattle.polynomial.proofs.Grid.{distance-square}
+use Rattle.definitions.specs.Plan.{modulus, side, degree, point}
+use Rattle.definitions.specs.Code.{strip, square, cells, value, mark, IsRecord}
+use Rattle.definitions.specs.Cost.{full, radius}
+use Rattle.definitions.specs.Sound.{Sound}
+use Rattle.plan.specs.declared.Plan.{Plan}
+use Rattle.plan.specs.Says.{said, Says}
+use Rattle.plan.proofs.Ready.{point-at}
+
+pub mark-cells : {P : List ℕ} {g : Plan} → Says P g → cells square P ≡ g .a * g .b
+mark-cells says = rw (says .fields) refl
+
+module _ {P : List ℕ} {g : Plan} (S : Sound P) (says : Says P g) where
+  pub record-word : {F : List ℕ} → IsRecord square P F → Word (g .p) (start (suc (g .d))) F
+  record-word f = rw (says .fields) (rw (add-one (degree P)) at f)
+
+  pub record-row : {F w : List ℕ} → IsRecord strip P F → w ≡ row (at F) → Row (g .p) w
+  record-row {F} f e = rw (says .fields, e) (row-of z (length-tab 16 _) λ i l. rw (row-at (at F) i l) (residue i (decLt i (degree P + 1))))
+    where
+      z : 0 < modulus P
+      z = omega (arith, S .prime .least)
+
+      residue : (i : ℕ) → Dec (i < degree P + 1) → at F i < modulus P
+      residue i (yes l) = f .below i l
+      residue i (no l) = rw (beyond F i (omega (arith, f .size))) z
+
+  -- the value in a cell of the grid of the struct's points is the mark's
+  pub mark-value : (F : List ℕ) (c : ℕ) → c < side P * side P →
+      gridValue (g .p) (g .d) (g .b) (at (g .x)) (at (g .y)) F c ≡ value square P F c
+  mark-value F c l = rw (says .fields)
+      (ap₂ (valueXY (modulus P) (degree P) F) (point-at S (c / side P) (div-lt-iff-lt-mul z .1 l)) (point-at S (c % side P) (mod-lt c z)))
+    where
+      z : 0 < side P
+      z = omega (arith, S .some)
+
+  pub mark-is : (F : List ℕ) → tab (g .a * g .b) (gridValue (g .p) (g .d) (g .b) (at (g .x)) (at (g .y)) F) ≡ mark square P F
+  unfolding mark
+  mark-is F = rw (← mark-cells says) (tab-eq (side P * side P) (mark-value F))
+
+  -- how far a record may be
+  pub mark-radius : {R : ℕ} → R ≡ g .full * gridDistance (g .a) (g .b) (g .d) → R ≡ radius full square P
+  mark-radius e = rw (says .fields) at e ∙ omega (arith, ap (λ n. full * n) (distance-square (side P) (degree P)))
+
+  pub strip-radius : {R : ℕ} → R ≡ g .full * 1 * (g .a - g .d) → R ≡ radius full strip P
+  strip-radius e = rw (says .fields) at e ∙ omega arith
+
+  -- the values v of the polynomial with the coefficients w
+  pub strip-values : (F : List ℕ) {w v : List ℕ} → w ≡ row (at F) → v ≡ row (λ j. eval (suc (g .d)) (at w) (at (g .x) j) % g .p) →
+      (j : ℕ) → j < side P → at v j ≡ value strip P F j
+  strip-values F {w} f e j l = let k : j < 16 = omega (arith, S .most) in
+      rw (rw (says .fields) at e, row-at (λ j. eval (suc (degree P)) (at w) (at (row (point P)) j) % modulus P) j k, point-at S j l, value-strip (modulus P) (degree P) F (point P j))
+      (ap (λ t. t % modulus P) (sum-eq (suc (degree P)) λ i m. ap (λ t. t * point P j ^ i) (coefficient i (omega (arith, S .low, S .most)))))
+    where
+      coefficient : (i : ℕ) → i < 16 → at w i ≡ at F i
+      coefficient i m = rw f (row-at (at F) i m)

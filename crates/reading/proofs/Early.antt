@@ -1,0 +1,34 @@
+-- The early answer of a mark: doubts that come to the radius leave no record under it. Assumes nothing.
+use mathlib.Core.Path.{_≡_}
+use mathlib.Core.List.{List}
+use Prim.Native.Nat.{ℕ, _*_, _≤_}
+use native.Mathlib.Omega.{arith}
+use native.Mathlib.Nat.{mul-le-mul}
+use lib.ListN.{length}
+use Rattle.bounded.specs.Bounded.{at, sum}
+use Rattle.definitions.specs.Plan.{side}
+use Rattle.definitions.specs.Code.{square, value}
+use Rattle.definitions.specs.Cost.{full}
+use Rattle.definitions.specs.Calls.{refused}
+use Rattle.definitions.specs.Reads.{Reads}
+use Rattle.definitions.specs.Sound.{Sound}
+use Rattle.definitions.proofs.Nearest.{cost-without, reads-none}
+use Rattle.distance.proofs.Cost.{doubts-cost}
+use Rattle.polynomial.specs.Grid.{gridDistance}
+use Rattle.plan.specs.declared.Plan.{Plan}
+use Rattle.plan.specs.Says.{Says}
+use Rattle.plan.proofs.Values.{mark-radius}
+use Rattle.reading.specs.Loading.{Taken}
+
+-- a grid has at most 256 cells
+pub cells-most : {P : List ℕ} → Sound P → side P * side P ≤ 256
+cells-most {P} S = mul-le-mul {n₁ = side P} {m₁ = side P} {n₂ = 16} {m₂ = 16} (S .most) (S .most)
+
+pub doubts-refuse : {P s u B : List ℕ} {g : Plan} {R : ℕ} → Says P g → Taken square P s u B → R ≡ g .full * gridDistance (g .a) (g .b) (g .d) →
+    R ≤ sum (length u) (at u) → Reads square P s u B (refused 10) B
+doubts-refuse {P} {s} {u} {B} says t e h = reads-none square P s u B (t .clear) λ F f. cost-without square P s u F λ l. omega (
+  arith,
+  mark-radius (t .sound) says e,
+  doubts-cost full (side P * side P) (at s) (at u) (value square P F) (t .photo .doubt),
+  rw (t .photo .doubts) at h,
+)

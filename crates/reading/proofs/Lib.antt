@@ -1,0 +1,8 @@
+-- The laws of reading: from the decoders' contracts to the readings that document 01 defines.
+pub mod StripReading
+pub mod MarkReading
+pub mod Loading
+pub mod Early
+pub mod Square
+pub mod StripLoaded
+pub mod MarkLoaded

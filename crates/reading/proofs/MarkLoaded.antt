@@ -1,0 +1,204 @@
+-- A mark that is loaded, decoded and stored is the reading that document 01 defines. Assumes nothing.
+use mathlib.Core.Path.{_≡_, refl, sym, ap, _∙_}
+use mathlib.Core.Logic.{_⊎_, inl}
+use mathlib.Core.Bool.{true, cond}
+use mathlib.Core.List.{List}
+use Prim.Native.Nat.{ℕ, suc, _+_, _*_, _-_, _%_, _^_, _≤_, _<_}
+use native.Mathlib.Omega.{arith}
+use native.Mathlib.Numerals.{add-one}
+use native.Mathlib.Decide.{decLt}
+use native.Mathlib.Nat.{mul-le-mul-right, mod-lt}
+use lib.Dec.{eqb}
+use lib.ListN.{length}
+use borrow.Author.Tests.{lt-ltb, le-ltb}
+use Rattle.bounded.specs.Bounded.{at, tab}
+use Rattle.bounded.proofs.Sum.{sum-eq, sum-rows, cell-row, cell-column}
+use Rattle.bounded.proofs.Tab.{length-tab, tab-at}
+use Rattle.field.specs.Row.{row}
+use Rattle.field.proofs.Congruence.{same, ~add, mod-cong, _⨾_}
+use Rattle.field.proofs.Row.{row-at, row-of, beyond}
+use Rattle.definitions.specs.Plan.{modulus, side, degree, point}
+use Rattle.definitions.specs.Code.{square, size, value}
+use Rattle.polynomial.specs.Record.{start}
+use Rattle.definitions.specs.Cost.{full, unread, radius}
+use Rattle.definitions.specs.Calls.{changedOf, refused, readingOf}
+use Rattle.definitions.specs.Reads.{Reads}
+use Rattle.polynomial.specs.Eval.{eval}
+use Rattle.polynomial.specs.Record.{coef, onRow}
+use Rattle.polynomial.specs.Grid.{gridDistance}
+use Rattle.polynomial.specs.Powers.{Rows}
+use Rattle.polynomial.proofs.Record.{value-rows, start-next, start-most, start-below}
+use Rattle.polynomial.proofs.Grid.{distance-square}
+use Rattle.plan.specs.declared.Plan.{Plan}
+use Rattle.plan.specs.Says.{said, Says}
+use Rattle.plan.proofs.Ready.{point-at, ready}
+use Rattle.plan.proofs.Values.{mark-radius}
+use Rattle.answers.specs.Summary.{summary}
+use Rattle.reed_muller.specs.declared.grid.Grid.{Grid}
+use Rattle.reed_muller.specs.Fit.{Fit, DoubtRows}
+use Rattle.reed_muller.specs.Loops.{cellAt}
+use Rattle.reed_muller.specs.Mark.{LoadedGrid}
+use Rattle.reed_muller.specs.Outcome.{Outcome, under}
+use Rattle.reed_muller.specs.Steps.{limit}
+use Rattle.reading.proofs.MarkReading.{mark-none, mark-record, mark-cost, mark-found}
+use Rattle.reading.specs.Loading.{residue, gridCell, SymbolRows, DoubtLines, Taken}
+use Rattle.reading.specs.Changed.{flag, changedCells}
+use Rattle.reading.proofs.Loading.{residue-below, residue-loaded}
+use Rattle.reading.proofs.Square.{cell-at, flag-differ}
+
+-- the grid, as the mark decoder takes it
+abbrev pub gridOf : Plan → Grid
+gridOf g = record { p = g .p; m = g .m; x = g .x; a = g .a; y = g .y; b = g .b; d = g .d; full = g .full }
+
+-- a record has a byte at least, and at most as many as a message has numbers
+pub record-room : {P s u B : List ℕ} → Taken square P s u B → (0 < length B) × (length B ≤ 136)
+record-room {P} t =
+    let l : degree P < 16 = omega (arith, t .sound .most, t .sound .low) in
+    let e = start-next (degree P) l in
+    rw (t .room, add-one (degree P)) (omega (arith, e), omega (arith, e, start-most (degree P) l))
+
+module _ {P s u B : List ℕ} {left : List (List ℕ)} (t : Taken square P s u B) (es : SymbolRows (side P) s left) where
+  positive : 0 < modulus P
+  positive = omega (arith, t .sound .prime .least)
+
+  inside : (r c : ℕ) → r < side P → c < side P → r * side P + c < side P * side P
+  inside r c l m = omega (arith, mul-le-mul-right (side P) l)
+
+  symbol-at : (r c : ℕ) → r < side P → c < side P → cellAt left r c ≡ residue (at s (r * side P + c))
+  symbol-at r c l m =
+      ap (λ v. at v c) (es .done r (omega (arith, t .sound .most)))
+      ∙ row-at (λ c. residue (gridCell (side P) s r c)) c (omega (arith, t .sound .most))
+      ∙ ap residue (cell-at (side P) s r c m)
+
+  known : (r c : ℕ) → (gridCell (side P) s r c < modulus P) ⊎ (gridCell (side P) s r c ≡ unread)
+  known r c = column (decLt c (side P)) (decLt r (side P))
+    where
+      column : Dec (c < side P) → Dec (r < side P) → (gridCell (side P) s r c < modulus P) ⊎ (gridCell (side P) s r c ≡ unread)
+      column (yes m) (yes l) = rw (cell-at (side P) s r c m) (t .photo .symbol (r * side P + c) (inside r c l m))
+      column (yes m) (no l) =
+          let k : side P ≤ r = omega arith in
+          let h : length s ≤ r * side P + c = omega (arith, t .photo .symbols, mul-le-mul-right (side P) k) in
+          inl (rw (cell-at (side P) s r c m, beyond s (r * side P + c) h) positive)
+      column (no m) l = let k : side P ≤ c = omega arith in inl (rw (le-ltb c (side P) k) positive)
+
+  pub symbol-rows : Rows (modulus P) left
+  symbol-rows = record {
+    size = es .size;
+    done = λ r k. rw (es .done r k) (row-of positive (length-tab 16 _) λ c m.
+        rw (row-at (λ c. residue (gridCell (side P) s r c)) c m) (residue-below positive (known r c)));
+  }
+
+module _ {P s u B : List ℕ} {left u′ : List (List ℕ)} (t : Taken square P s u B)
+    (es : SymbolRows (side P) s left) (eu : DoubtLines (side P) u u′) where
+  doubt-at : (r c : ℕ) → r < side P → c < side P → cellAt u′ r c ≡ at u (r * side P + c)
+  doubt-at r c l m =
+      ap (λ v. at v c) (eu .done r (omega (arith, t .sound .most)))
+      ∙ row-at (gridCell (side P) u r) c (omega (arith, t .sound .most))
+      ∙ cell-at (side P) u r c m
+
+  loaded : LoadedGrid full (side P) (side P) s u (cellAt left) (cellAt u′)
+  loaded r c l m = rw (symbol-at t es r c l m, doubt-at r c l m)
+      (residue-loaded (at s (r * side P + c)) (at u (r * side P + c)) (t .photo .erased (r * side P + c) (inside t es r c l m)))
+
+  doubts-most : (r c : ℕ) → r < side P → c < side P → cellAt u′ r c ≤ full
+  doubts-most r c l m = rw (doubt-at r c l m) (t .photo .doubt (r * side P + c) (inside t es r c l m))
+
+  -- what the decoder answers, and what it leaves
+  module _ {m g : ℕ} {after : List (List ℕ)} {w : List ℕ}
+      (D : Outcome (gridOf (said P m)) left u′ after (under (gridOf (said P m)) g) w g) where
+    limit-is : limit (gridOf (said P m)) ≡ radius full square P
+    limit-is = omega (arith, ap (λ n. full * n) (distance-square (side P) (degree P)))
+
+    refused-said : radius full square P ≤ g → Reads square P s u B (refused 10) B
+    refused-said h = mark-none P s u B (t .clear) (point-at (t .sound)) loaded w (D .decoded) (le-ltb g _ (omega (arith, limit-is)))
+
+    found : g < radius full square P → under (gridOf (said P m)) g ≡ true
+    found h = lt-ltb g _ (omega (arith, limit-is))
+
+    -- the message fits into bytes
+    small-said : g < radius full square P → (j : ℕ) → j < length B → at w j < 256
+    small-said h j l =
+        let z = found h in
+        let k : j < size square P = omega (arith, t .room) in
+        let W = tab (size square P) (at w) in
+        let n = size square P in
+        let F = mark-record P s u B (t .clear) (point-at (t .sound)) loaded w (D .decoded) z W (length-tab n (at w)) (tab-at n (at w)) in
+        omega (arith, F .below j k, tab-at (size square P) (at w) j k, t .sound .small)
+
+    module _ (h : g < radius full square P) {W : List ℕ} (stored : W ≡ tab (length B) (at w)) where
+      word-length : length W ≡ size square P
+      word-length = rw stored (length-tab (length B) (at w)) ∙ t .room
+
+      word-at : (i : ℕ) → i < size square P → at W i ≡ at w i
+      word-at i l = rw stored (tab-at (length B) (at w) i (omega (arith, t .room)))
+
+      coefficients : (k i : ℕ) → i + k ≤ degree P → coef W i k ≡ coef w i k
+      coefficients k i l = word-at (start (i + k) + k)
+          (start-below (i + k) (degree P + 1) k (omega arith) (omega (arith, t .sound .most, t .sound .low)) (omega arith))
+
+      abbrev line-value : (r c : ℕ) → ℕ
+      line-value r c = eval (suc (degree P)) (onRow (degree P) (coef w) (at (row (point P)) r)) (at (row (point P)) c)
+
+      value-at : (r c : ℕ) → r < side P → c < side P → value square P W (r * side P + c) ≡ line-value r c % modulus P
+      value-at r c l m = rw (cell-row (side P) r c m, cell-column (side P) r c m, point-at (t .sound) r l, point-at (t .sound) c m)
+          (value-rows (modulus P) (degree P) W (point P r) (point P c) ∙ ap (λ e. e % modulus P)
+          (sum-eq (suc (degree P)) λ k a. ap (λ e. e * point P c ^ k)
+          (sum-eq (suc (degree P - k)) λ i b. ap (λ e. e * point P r ^ i) (coefficients k i (omega arith)))))
+
+      cell-changed : (r c : ℕ) → r < side P → c < side P →
+          _≡_ {A = ℕ} (cond (eqb (flag (gridCell (side P) s r c) (cellAt after r c)) 0) 0 1)
+          (cond (eqb (at s (r * side P + c)) (value square P W (r * side P + c))) 0 1)
+      cell-changed r c l m =
+          let R = D .remains (found h) in
+          rw (cell-at (side P) s r c m, value-at r c l m)
+          (flag-differ (t .sound .small) (t .photo .symbol (r * side P + c) (inside t es r c l m))
+          (omega (arith, R .below r c l m, positive t es)) (mod-lt (line-value r c) (positive t es))
+          (~add (same refl) (mod-cong (positive t es) (line-value r c)) ⨾ R .whole r c l m ⨾ same (symbol-at t es r c l m)))
+
+      changed-of : changedCells (side P) (side P) s after ≡ changedOf square P s W
+      changed-of = sym (sum-rows (side P) (side P) _ ∙ sum-eq (side P) λ r l. sum-eq (side P) λ c m. sym (cell-changed r c l m))
+
+      reading-said : {k : ℕ} → k ≡ changedCells (side P) (side P) s after → Reads square P s u B (summary (radius full square P) g k) W
+      unfolding readingOf
+      reading-said e =
+          let z = found h in
+          rw (e, changed-of, mark-cost P s u B (t .clear) (point-at (t .sound)) loaded w (D .decoded) z W word-length word-at)
+          (mark-found P s u B (t .clear) (point-at (t .sound)) loaded w (D .decoded) z W word-length word-at)
+
+-- the same by the struct that says what the plan does
+module _ {P s u B : List ℕ} {left u′ : List (List ℕ)} {g : Plan} (says : Says P g) (t : Taken square P s u B)
+    (es : SymbolRows (g .b) s left) (eu : DoubtLines (g .b) u u′) where
+  sides : SymbolRows (side P) s left × DoubtLines (side P) u u′
+  sides = (rw (says .fields) at es, rw (says .fields) at eu)
+
+  pub mark-received : Fit (gridOf g) × Rows (g .p) left × DoubtRows (gridOf g) u′
+  mark-received = let h = ready (t .sound) says in (
+    record {
+      prime = h .prime;
+      reciprocal = h .reciprocal;
+      rows = h .rows;
+      columns = h .columns;
+      rowPoints = h .rowPoints;
+      columnPoints = h .columnPoints;
+      rowsApart = h .rowsApart;
+      columnsApart = h .columnsApart;
+      low = h .low;
+      narrow = h .narrow;
+      full = omega (arith, h .full);
+    },
+    rw (says .fields) (symbol-rows t (sides .0)),
+    rw (says .fields) λ r l c m. doubts-most t (sides .0) (sides .1) r c l m,
+  )
+
+  module _ {c R : ℕ} {after : List (List ℕ)} {w : List ℕ} (D : Outcome (gridOf g) left u′ after (under (gridOf g) c) w c)
+      (h : R ≡ g .full * gridDistance (g .a) (g .b) (g .d)) where
+    pub mark-refused : R ≤ c → Reads square P s u B (refused 10) B
+    mark-refused l = refused-said t (sides .0) (sides .1) (rw (says .fields) at D) (omega (arith, mark-radius (t .sound) says h))
+
+    pub message-small : c < R → (j : ℕ) → j < length B → at w j < 256
+    message-small l = small-said t (sides .0) (sides .1) (rw (says .fields) at D) (omega (arith, mark-radius (t .sound) says h))
+
+    pub mark-reading : {W : List ℕ} {k : ℕ} → c < R → W ≡ tab (length B) (at w) → k ≡ changedCells (g .a) (g .b) s after →
+        Reads square P s u B (summary R c k) W
+    mark-reading l stored e = rw (mark-radius (t .sound) says h)
+        (reading-said t (sides .0) (sides .1) (rw (says .fields) at D) (omega (arith, mark-radius (t .sound) says h)) stored (rw (says .fields) at e))

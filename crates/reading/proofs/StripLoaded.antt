@@ -1,0 +1,124 @@
+-- A strip that is loaded, decoded and stored is the reading that document 01 defines. Assumes nothing.
+use mathlib.Core.Path.{_≡_, sym, ap, ap₂, _∙_}
+use mathlib.Core.Logic.{_⊎_, inl}
+use mathlib.Core.Bool.{true, false, cond}
+use mathlib.Core.List.{List}
+use Prim.Native.Nat.{ℕ, suc, _*_, _-_, _%_, _^_, _<_}
+use native.Mathlib.Omega.{arith}
+use native.Mathlib.Decide.{decLt}
+use lib.Dec.{eqb}
+use lib.ListN.{length}
+use Rattle.bounded.specs.Bounded.{at, tab}
+use Rattle.bounded.proofs.Sum.{sum-eq}
+use Rattle.bounded.proofs.Tab.{length-tab, tab-at}
+use Rattle.field.specs.Row.{row}
+use Rattle.field.proofs.Row.{row-at, row-of, beyond}
+use Rattle.definitions.specs.Plan.{modulus, side, degree, point}
+use Rattle.definitions.specs.Code.{strip, size, value}
+use Rattle.definitions.specs.Cost.{full, unread, radius}
+use Rattle.distance.specs.Cost.{changed}
+use Rattle.definitions.specs.Calls.{changedOf, refused, readingOf}
+use Rattle.definitions.specs.Code.{IsRecord}
+use Rattle.definitions.specs.Reads.{Reads}
+use Rattle.polynomial.specs.Eval.{eval}
+use Rattle.polynomial.proofs.Record.{value-strip}
+use Rattle.plan.specs.declared.Plan.{Plan}
+use Rattle.plan.specs.Says.{said, Says}
+use Rattle.plan.proofs.Ready.{point-at, ready}
+use Rattle.plan.proofs.Values.{strip-radius}
+use Rattle.distance.specs.Loaded.{Loaded}
+use Rattle.answers.specs.Summary.{summary}
+use Rattle.reed_solomon.specs.declared.axis.Axis.{Axis}
+use Rattle.reed_solomon.specs.declared.decoder.Decoded.{Decoded}
+use Rattle.reed_solomon.specs.Axis.{Received}
+use Rattle.reed_solomon.specs.Decoded.{StripDecoded}
+use Rattle.reading.proofs.StripReading.{strip-none, strip-cost, strip-found}
+use Rattle.reading.specs.Loading.{residue, Taken}
+use Rattle.reading.proofs.Loading.{residue-below, residue-loaded}
+
+-- the row points, as the strip decoder takes them
+abbrev pub axisOf : Plan → Axis
+axisOf g = record { p = g .p; m = g .m; x = g .x; n = g .a; k = g .d; full = g .full }
+
+module _ {P s u B s′ u′ : List ℕ} (t : Taken strip P s u B) (es : s′ ≡ row (λ j. residue (at s j))) (eu : u′ ≡ row (at u)) where
+  symbol-at : (i : ℕ) → i < 16 → at s′ i ≡ residue (at s i)
+  symbol-at i l = rw es (row-at (λ j. residue (at s j)) i l)
+
+  doubt-at : (i : ℕ) → i < 16 → at u′ i ≡ at u i
+  doubt-at i l = rw eu (row-at (at u) i l)
+
+  positive : 0 < modulus P
+  positive = omega (arith, t .sound .prime .least)
+
+  symbols-below : (i : ℕ) → i < 16 → at s′ i < modulus P
+  symbols-below i l = rw (symbol-at i l) (residue-below positive (known (decLt i (side P))))
+    where
+      known : Dec (i < side P) → (at s i < modulus P) ⊎ (at s i ≡ unread)
+      known (yes k) = t .photo .symbol i k
+      known (no k) = inl (rw (beyond s i (omega (arith, t .photo .symbols))) positive)
+
+  symbols-length : length s′ ≡ 16
+  symbols-length = rw es (length-tab 16 _)
+
+  pub strip-received : {g : Plan} → Says P g → Received (axisOf g) s′ u′
+  strip-received says = let h = ready (t .sound) says in record {
+    axis = record {
+      prime = h .prime;
+      reciprocal = h .reciprocal;
+      points = h .rowPoints;
+      apart = h .rowsApart;
+      most = h .rows;
+      low = h .low;
+      full = omega (arith, h .full);
+    };
+    symbols = rw (says .fields) (row-of positive symbols-length symbols-below);
+    doubts = rw (says .fields) λ j l. rw (doubt-at j (omega (arith, t .sound .most))) (t .photo .doubt j l);
+  }
+
+  loaded : (c : ℕ) → c < side P → Loaded full (at s c) (at u c) (at s′ c) (at u′ c)
+  loaded c l = let k : c < 16 = omega (arith, t .sound .most) in
+      rw (symbol-at c k, doubt-at c k) (residue-loaded (at s c) (at u c) (t .photo .erased c l))
+
+  module _ {m : ℕ} {r : Decoded} (D : StripDecoded (axisOf (said P m)) s′ u′ r) where
+    refused-said : r .found ≡ false → Reads strip P s u B (refused 10) B
+    refused-said z = strip-none P s u B (t .clear) (point-at (t .sound)) loaded (D .strip) z
+
+    module _ (z : r .found ≡ true) {W : List ℕ} (stored : W ≡ tab (length B) (at (r .message))) where
+      word-at : (i : ℕ) → i < size strip P → at W i ≡ at (r .message) i
+      word-at i l = rw stored (tab-at (length B) (at (r .message)) i (omega (arith, t .room)))
+
+      word : IsRecord strip P W
+      word = record {
+        size = rw stored (length-tab (length B) (at (r .message))) ∙ t .room;
+        below = λ i l. rw (word-at i l) (D .small .small i);
+      }
+
+      value-at : (j : ℕ) → j < side P → at (r .values) j ≡ value strip P W j
+      value-at j l = let k : j < 16 = omega (arith, t .sound .most) in
+          rw (D .values z, row-at (λ j. eval (suc (degree P)) (at (r .message)) (at (row (point P)) j) % modulus P) j k,
+          value-strip (modulus P) (degree P) W (point P j), point-at (t .sound) j l)
+          (ap (λ e. e % modulus P) (sum-eq (suc (degree P)) λ i m. ap (λ e. e * point P j ^ i) (sym (word-at i (omega arith)))))
+
+      changed-of : {seen : List ℕ} → seen ≡ row (at s) → changed (side P) (at seen) (at (r .values)) ≡ changedOf strip P s W
+      changed-of e = sum-eq (side P) λ c l. ap₂ (λ a b. cond (eqb a b) 0 1) (rw e (row-at (at s) c (omega (arith, t .sound .most)))) (value-at c l)
+
+      reading-said : {seen : List ℕ} {n : ℕ} → seen ≡ row (at s) → n ≡ changed (side P) (at seen) (at (r .values)) →
+          Reads strip P s u B (summary (radius full strip P) (r .cost) n) W
+      unfolding readingOf
+      reading-said i e =
+          rw (e, changed-of i, strip-cost P s u B (t .clear) (point-at (t .sound)) loaded (D .strip) z W word word-at)
+          (strip-found P s u B (t .clear) (point-at (t .sound)) loaded (D .strip) z W word word-at)
+
+  -- the same by the struct that says what the plan does
+  module _ {g : Plan} (says : Says P g) {r : Decoded} (D : StripDecoded (axisOf g) s′ u′ r) where
+    -- a cost is a small number
+    pub strip-under : r .found ≡ true → r .cost < 2147483648
+    strip-under z = omega (arith, (rw (says .fields) at D) .strip .sound z .1, t .sound .most)
+
+    pub strip-refused : r .found ≡ false → Reads strip P s u B (refused 10) B
+    strip-refused z = refused-said (rw (says .fields) at D) z
+
+    pub strip-reading : {W seen : List ℕ} {n R : ℕ} → r .found ≡ true → W ≡ tab (length B) (at (r .message)) → seen ≡ row (at s) →
+        n ≡ changed (g .a) (at seen) (at (r .values)) → R ≡ g .full * 1 * (g .a - g .d) → Reads strip P s u B (summary R (r .cost) n) W
+    strip-reading z stored i e h =
+        rw (strip-radius (t .sound) says h) (reading-said (rw (says .fields) at D) z stored i (rw (says .fields) at e))

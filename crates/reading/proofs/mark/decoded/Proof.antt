@@ -1,0 +1,81 @@
+-- `reading::mark::decoded` meets its contract: what is loaded is what the decoder asks for, and its answer is the reading. Assumes nothing.
+use mathlib.Core.Path.{refl, sym, _∙_}
+use native.Mathlib.Omega.{arith}
+use Rattle.plan.proofs.Ready.{ready}
+use Rattle.plan.proofs.Values.{mark-cells}
+use Rattle.reading.proofs.MarkLoaded.{mark-received, mark-refused, mark-reading, message-small, record-room}
+use borrow.Author.Needs.{needs}
+use Rattle.reading.proofs.mark.decoded.Statement.{statement}
+use Rattle.reading.proofs.mark.decoded.Tie as tie
+
+decode-requires : tie.Need-decode-requires
+decode-requires c κs =
+    let symbols = c .before .before .before in
+    let table = symbols .before in
+    let doubts = table .before in
+    let (P, says, t) = doubts .before .before .before .before .before .before .pre in
+    let h = mark-received says t (symbols .residue-rows .ensures) (doubts .doubt-rows .ensures) in
+    (h .0, h .1, h .2, table .inverses .ensures, refl)
+
+radius-requires : tie.Need-radius-requires
+radius-requires c κs =
+    let doubts = c .before .before .before .before .before .before in
+    let (P, says, t) = doubts .before .before .before .before .before .before .pre in
+    let g = ready (t .sound) says in
+    (omega (arith, g .full), g .rows, g .columns, omega (arith, g .low), omega (arith, g .narrow))
+
+refuses : tie.Need-returns
+refuses c = λ P says t.
+    let radius = c .before .before in
+    let decoded = radius .before in
+    let symbols = decoded .before .before .before .before in
+    rw (c .refused .ensures) (mark-refused says t (symbols .residue-rows .ensures) (symbols .before .before .doubt-rows .ensures)
+    (decoded .decode .ensures .0) (radius .radius .ensures .0) (c .before .if1 .taken))
+
+store-requires : tie.Need-store-requires
+store-requires c κs =
+    let radius = c .before .before .before in
+    let decoded = radius .before in
+    let symbols = decoded .before .before .before .before in
+    let doubts = symbols .before .before in
+    let (P, says, t) = doubts .before .before .before .before .before .before .pre in (
+      omega (arith, record-room t .1, decoded .decode .ensures .1),
+      message-small says t (symbols .residue-rows .ensures) (doubts .doubt-rows .ensures) (decoded .decode .ensures .0) (radius .radius .ensures .0)
+          (c .before .before .if1 .left),
+    )
+
+changed-cells-requires : tie.Need-changed-cells-requires
+changed-cells-requires c κs =
+    let decoded = c .before .before .before .before .before .before .before .before in
+    let doubts = decoded .before .before .before .before .before .before in
+    let (P, says, t) = doubts .before .before .before .before .before .before .pre in
+    let g = ready (t .sound) says in
+    (g .rows, g .columns, t .photo .symbols ∙ mark-cells says)
+
+returns-2 : tie.Need-returns-2
+returns-2 c = λ P says t.
+    let changed = c .before in
+    let stored = changed .before .before .before .before in
+    let test = stored .before .before .before in
+    let radius = test .before in
+    let decoded = radius .before in
+    let symbols = decoded .before .before .before .before in
+    rw (c .reading .ensures) (mark-reading says t (symbols .residue-rows .ensures) (symbols .before .before .doubt-rows .ensures)
+    (decoded .decode .ensures .0) (radius .radius .ensures .0) (test .if1 .left) (stored .store .ensures) (changed .changed-cells .ensures))
+
+pub decoded-spec : {M : Type 1} → statement M
+decoded-spec =
+    tie.close
+    (tie.spec
+    (λ c κs. let (P, says, t) = c .before .before .before .before .before .pre in let g = ready (t .sound) says in (g .rows, g .columns, t .photo .doubts ∙ mark-cells says))
+    (λ c κs. let (P, says, t) = c .before .before .before .before .before .before .pre in let g = ready (t .sound) says in (g .prime, g .reciprocal .most, g .reciprocal))
+    (λ c κs. let (P, says, t) = c .before .before .before .before .before .before .before .pre in let g = ready (t .sound) says in (g .rows, g .columns, t .photo .symbols ∙ mark-cells says))
+    decode-requires
+    radius-requires
+    (λ c κs. search needs)
+    refuses
+    (λ c. sym (c .before .before .before .before .decode .ensures .1))
+    store-requires
+    changed-cells-requires
+    (λ c κs. search needs) (λ c. search needs)
+    returns-2)

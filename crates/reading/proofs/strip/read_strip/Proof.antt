@@ -1,0 +1,83 @@
+-- `reading::strip::read_strip` meets its contract: what is loaded is what the decoder asks for, and its answer is the reading. Assumes nothing.
+use native.Mathlib.Omega.{arith}
+use Rattle.plan.proofs.Ready.{ready}
+use Rattle.reading.proofs.Loading.{negated}
+use Rattle.reading.proofs.StripLoaded.{strip-received, strip-refused, strip-reading, strip-under}
+use borrow.Author.Needs.{needs}
+use Rattle.reading.proofs.strip.read_strip.Statement.{statement}
+use Rattle.reading.proofs.strip.read_strip.Tie as tie
+
+decode-requires : tie.Need-decode-requires
+decode-requires c κs =
+    let table = c .before in
+    let doubts = table .before in
+    let symbols = doubts .before in
+    let (P, says, t) = symbols .before .before .before .before .before .pre in
+    (strip-received t (symbols .residue-row .ensures) (doubts .wide-row .ensures) says, table .inverses .ensures)
+
+refuses : tie.Need-returns
+refuses c = λ P says t.
+    let decoded = c .before .before .before in
+    let doubts = decoded .before .before .before in
+    rw (c .refused .ensures) (strip-refused t (doubts .before .residue-row .ensures) (doubts .wide-row .ensures) says (decoded .decode .ensures)
+    (negated _ (c .before .if1 .taken)))
+
+store-requires : tie.Need-store-requires
+store-requires c κs =
+    let decoded = c .before .before .before .before .before .before in
+    let symbols = decoded .before .before .before .before in
+    let (P, says, t) = symbols .before .before .before .before .before .pre in
+    let g = ready (t .sound) says in (
+      omega (arith, t .room, t .sound .low, t .sound .most, decoded .decode .ensures .small .size),
+      λ j _. omega (arith, decoded .decode .ensures .small .small j, g .reciprocal .most),
+    )
+
+radius-requires : tie.Need-radius-requires
+radius-requires c κs =
+    let stored = c .before .before .before .before in
+    let decoded = stored .before .before .before .before .before .before .before in
+    let symbols = decoded .before .before .before .before in
+    let (P, says, t) = symbols .before .before .before .before .before .pre in
+    let g = ready (t .sound) says in
+    (omega (arith, g .full), omega arith, g .rows, omega (arith, g .low))
+
+reading-requires : tie.Need-reading-requires
+reading-requires c κs =
+    let stored = c .before .before .before .before .before in
+    let test = stored .before .before .before .before .before in
+    let decoded = test .before .before in
+    let doubts = decoded .before .before .before in
+    let symbols = doubts .before in
+    let (P, says, t) = symbols .before .before .before .before .before .pre in
+    (c .radius .ensures .1, strip-under t (symbols .residue-row .ensures) (doubts .wide-row .ensures) says (decoded .decode .ensures)
+    (negated _ (test .if1 .left)))
+
+returns-2 : tie.Need-returns-2
+returns-2 c = λ P says t.
+    let changed = c .before .before in
+    let seen = changed .before in
+    let stored = seen .before .before .before in
+    let test = stored .before .before .before .before .before in
+    let decoded = test .before .before in
+    let doubts = decoded .before .before .before in
+    rw (c .reading .ensures) (strip-reading t (doubts .before .residue-row .ensures) (doubts .wide-row .ensures) says (decoded .decode .ensures)
+    (negated _ (test .if1 .left)) (stored .store .ensures) (seen .row .ensures) (changed .word-changed .ensures .0) (c .before .radius .ensures .0))
+
+pub read-strip-spec : {M : Type 1} → statement M
+read-strip-spec =
+    tie.close
+    (tie.spec
+    (λ c κs. let (P, says, t) = c .before .before .before .before .pre in omega (arith, t .photo .symbols, t .sound .most))
+    (λ c κs. let (P, says, t) = c .before .before .before .before .before .pre in omega (arith, t .photo .doubts, t .sound .most))
+    (λ c κs. let (P, says, t) = c .before .before .before .before .before .before .pre in let g = ready (t .sound) says in (g .prime, g .reciprocal .most, g .reciprocal))
+    decode-requires
+    (λ c κs. search needs)
+    refuses
+    (λ c. search needs)
+    store-requires
+    (λ c κs. let stored = c .before .before in let decoded = stored .before .before .before .before .before .before .before in let (P, says, t) = decoded .before .before .before .before .before .before .before .before .before .pre in omega (arith, t .photo .symbols, t .sound .most))
+    (λ c κs. let stored = c .before .before .before in let decoded = stored .before .before .before .before .before .before .before in let (P, says, t) = decoded .before .before .before .before .before .before .before .before .before .pre in ready (t .sound) says .rows)
+    radius-requires
+    reading-requires
+    (λ c. search needs)
+    returns-2)

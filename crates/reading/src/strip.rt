@@ -1,0 +1,47 @@
+// Reading a photographed strip where refusals 1 to 8 do not apply: the one record within the radius goes into the lent
+// buffer; where there is none the buffer stays as it was, and the number is 10.
+use crate::load;
+use definitions::Reading;
+use distance::word;
+use field::bytes;
+use field::inverse::inverses;
+use plan::Plan;
+use reed_solomon::axis::Axis;
+use reed_solomon::decoder::decode;
+ghost use mathlib.Core.Path.{_≡_};
+ghost use mathlib.Core.List.{List};
+ghost use Prim.Native.Nat.{ℕ};
+ghost use Rattle.definitions.specs.Code.{strip as stripCode};
+ghost use Rattle.definitions.specs.Reads.{Reads};
+ghost use Rattle.plan.specs.Says.{Says};
+ghost use Rattle.reading.specs.Loading.{Taken};
+
+// The strip, over the row points.
+pub fn read_strip(plan: Plan, symbols: &[u8], doubts: &[u8], record: &mut [u8]) -> Reading
+    requires { ⌜ ((P : List ℕ) × Says P plan × Taken stripCode P (now symbols) (now doubts) (now «record»)) ⌝ }
+    ensures { λ r. ⌜ ((P : List ℕ) → Says P plan → Taken stripCode P (now (symbols .entry)) (now (doubts .entry)) (now («record» .entry)) →
+        Reads stripCode P (now (symbols .entry)) (now (doubts .entry)) (now («record» .entry)) r (now («record» .exit))) ⌝ }
+{
+    let x = plan.x;
+    let g = Axis {
+        p: plan.p,
+        m: plan.m,
+        x,
+        n: plan.a,
+        k: plan.d,
+        full: plan.full,
+    };
+    let s = load::residue_row(symbols);
+    let u = bytes::wide_row(doubts);
+    let table = inverses(plan.p, plan.m);
+    let strip = decode(g, &table, s, u);
+    if !strip.found {
+        return answers::refused(10);
+    }
+    let message = strip.message;
+    let values = strip.values;
+    bytes::store(record, &message);
+    let changed = word::word_changed(plan.a, bytes::row(symbols), values);
+    let radius = word::radius(plan.full, 1, plan.a, plan.d);
+    answers::reading(radius, strip.cost, changed)
+}
