@@ -1,7 +1,7 @@
 -- The laws of cost, for any full doubt F: of two words at most one is under F times the cells in which they differ; the doubts
 -- are a lower bound; a cell of full doubt costs the same whatever its symbol; a term subtracted from symbol and value. Assumes
 -- nothing.
-use mathlib.Core.Path.{_≡_, refl, sym, ap, _∙_}
+use mathlib.Core.Path.{_≡_, refl, sym, _∙_}
 use mathlib.Core.Bool.{Bool, true, false, cond}
 use Prim.Native.Nat.{ℕ, suc, _+_, _*_, _-_, _%_, _≤_, _<_}
 use native.Mathlib.Omega.{arith}
@@ -9,7 +9,7 @@ use native.Mathlib.Nat.{mul-le-mul-left, mod-eq-of-lt}
 use lib.Dec.{eqb}
 use borrow.Author.Tests.{eqb-true, eqb-false}
 use Rattle.bounded.specs.Bounded.{sum}
-use Rattle.bounded.proofs.Sum.{sum-eq, sum-le, sum-add, sum-mul}
+use Rattle.bounded.proofs.Sum.{sum-le, sum-add, sum-mul}
 use Rattle.field.specs.Congruence.{Cong}
 use Rattle.field.proofs.Congruence.{same, of-mod, to-mod, ~sym, _⨾_, ~add, cancel}
 use Rattle.distance.specs.Cost.{cell, cost, changed}
