@@ -1,5 +1,9 @@
 -- Refusals 1 to 8 do not apply exactly to the photographs of a sound plan with a record buffer of the right length.
--- Assumes nothing.
+--
+--   photo-accepted                    of a photograph and such a buffer the number is 0
+--   accepted-photo, accepted-buffer   where it is 0, it is a photograph, and the buffer has its length
+--
+-- What this file is for: what a call that is not refused may rely on. Assumes nothing.
 use mathlib.Core.Path.{_≡_, refl, sym, ap, _∙_}
 use mathlib.Core.Logic.{_⊎_, inl, inr}
 use mathlib.Core.Bool.{Bool, true, false, not, _&&_, true≢false}

@@ -1,5 +1,13 @@
--- The quotient of t < 65536 by the reciprocal, t * m / 65536, is t / p or 1 less, so that one subtraction is left;
--- larger t go by two quotients. Assumes nothing.
+-- Division of t < 65536 by p with the reciprocal m: t m / 65536 is t / p or 1 less.
+--
+--   quotient-low    the quotient times p is at most t
+--   quotient-high   and less than 2 p from it
+--   remainder-is    what is left below p is the remainder
+--   product-fits    the product of a number up to p and a residue is at most 251 * 250
+--   sum-fits        and with a residue added at most 63,000
+--   fold-is         a number of three bytes by its high two, with c for 256, and its low one
+--
+-- What this file is for: `reduce`, and the bounds by which no 16-bit number overflows. Assumes nothing.
 use mathlib.Core.Path.{_≡_, refl, sym, ap, _∙_}
 use Prim.Native.Nat.{ℕ, _+_, _*_, _/_, _%_, _≤_, _<_}
 use native.Mathlib.Omega.{arith}

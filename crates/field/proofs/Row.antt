@@ -1,5 +1,17 @@
--- The laws of rows: the number at a place, rows of remainders and what they stand for, and the row that a loop has set.
--- Assumes nothing.
+-- The laws of rows of sixteen numbers.
+--
+--   row-at                      place j of the row of f is f j
+--   beyond                      a read beyond a list's end is 0
+--   row-of                      sixteen numbers below p are a row
+--   set-row                     a row with one place set is one
+--   row-reduced, row-cong       remainders are a row, which stands for the numbers themselves
+--   result-row, result-cong     the same of what a function on rows returns
+--   upto-row, passed-row        the row that a loop has set
+--   Making f l j                a loop makes the row of f in l, and has set the places below j
+--   making-start, making-more   no place, and one more
+--   making-done                 all of them: l is the row of f
+--
+-- What this file is for: a function on rows returns a row of remainders, which is read place by place. Assumes nothing.
 use mathlib.Core.Path.{_≡_, refl, _∙_}
 use mathlib.Core.List.{List, [], _∷_}
 use Prim.Native.Nat.{ℕ, zero, suc, _+_, _-_, _%_, _≤_, _<_}
