@@ -1,5 +1,10 @@
--- The difference of two numbers below 2^31 at an i32: it fits, it is the margin, and bits that keep it are read back.
--- Assumes nothing.
+-- The difference of two numbers below 2^31, kept in an i32.
+--
+--   margin-fits   it fits
+--   margin-is     it is the margin
+--   read-back     bits that keep a number are read back as it
+--
+-- What this file is for: the margin R - D. Assumes nothing.
 use mathlib.Core.Path.{_≡_}
 use mathlib.Core.Bool.{Bool, true, false, cond}
 use Prim.Native.Nat.{ℕ, zero, suc, _-_, _<_, _^_}

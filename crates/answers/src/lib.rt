@@ -18,6 +18,7 @@ pub fn class_of(changed: u32) -> u32
 }
 
 // R - D: negative where the record is beyond the radius, 0 exactly on it.
+// Both are below 2^31 = 2147483648, so that an i32 has it.
 pub fn margin(radius: u32, cost: u32) -> i32
     requires { ⌜ (radius < 2147483648) × (cost < 2147483648) ⌝ }
     ensures { λ r. ⌜ r ≡ marginOf radius cost ⌝ }

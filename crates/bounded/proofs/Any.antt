@@ -1,5 +1,11 @@
--- The laws of bounded tests: what a true and a false answer say, and the steps of a loop that looks for a true one.
--- Assumes nothing.
+-- The laws of bounded tests.
+--
+--   any-none, none-any    the answer is false exactly where each is false
+--   any-some, some-any    it is true exactly where some one is true
+--   any-start, any-more   none of 0 is true; one more that is false leaves it false
+--   any-next              one more, whatever it answers
+--
+-- What this file is for: a loop that looks for a true answer stops at the first, and else has seen them all. Assumes nothing.
 use mathlib.Core.Path.{_≡_, refl, sym, _∙_}
 use mathlib.Core.Bool.{Bool, true, false, _||_, true≢false, false≢true}
 use Prim.Native.Nat.{ℕ, zero, suc, _+_, _<_}

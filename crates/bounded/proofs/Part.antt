@@ -1,4 +1,10 @@
--- A part of n bytes of a list, from byte a on, as a slice of it is lent: its bytes and its length. Assumes nothing.
+-- A part of n bytes of a list, from byte a on, as a slice of it is lent.
+--
+--   part-at       byte i of the part is byte a + i of the list
+--   part-length   the part has n bytes where the list reaches that far
+--   row-in        row r of a rows of n bytes ends within them
+--
+-- What this file is for: what a callee says of the part is said of the list. Assumes nothing.
 use mathlib.Core.Path.{_≡_, _∙_}
 use mathlib.Core.List.{List}
 use Prim.Native.Nat.{ℕ, _+_, _*_, _-_, _≤_, _<_}

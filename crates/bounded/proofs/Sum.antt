@@ -1,5 +1,19 @@
--- The laws of bounded sums: equal and smaller terms, sums and multiples of terms, exchange, parts, rows, one term changed, and
--- the pigeonhole. Assumes nothing.
+-- The laws of bounded sums.
+--
+--   sum-eq, sum-le          equal terms have equal sums, terms that are at most others a sum that is at most theirs
+--   sum-add, sum-mul        a sum of sums of terms, and of multiples of terms
+--   sum-const               n times k is n k
+--   sum-swap                a sum of sums in either order
+--   sum-more                one term more, as a loop adds it
+--   sum-short               terms that are 0 from i on do not count
+--   sum-append              a sum in two parts
+--   sum-rows                a sum over n rows of m cells each
+--   cell-row, cell-column   the row and the column of cell r m + c
+--   sum-put                 two sums of terms that differ at one place only
+--   sum-some                the pigeonhole: a sum below n k has a term below k
+--   find                    a value is one of n terms, or none of them has it
+--
+-- What this file is for: a loop adds up term by term, and what it added is a sum. Assumes nothing.
 use mathlib.Core.Logic.{_≢_, _⊎_, inl, inr}
 use mathlib.Core.Path.{_≡_, refl, ap, ap₂, _∙_}
 use Prim.Native.Nat.{ℕ, zero, suc, _+_, _*_, _/_, _%_, _≤_, _<_}

@@ -1,5 +1,14 @@
--- The laws of tables: length, entries, when a list is one, equal entries, a table in two parts, and one written from the front.
--- Assumes nothing.
+-- The laws of tables: the lists of f 0 .. f (n - 1).
+--
+--   length-tab, tab-at   a table has n entries, and entry i is f i
+--   list-eq              lists of one length with the same entries are one list
+--   tab-is               a list of n entries f i is the table
+--   tab-eq               tables of the same entries are one
+--   tab-append           a table in two parts
+--   tab-more             the next entry written into a list whose front is the table
+--   tab-whole            nothing of the list is left behind n entries
+--
+-- What this file is for: a row is said by its entries, and so is a buffer that is written from the front. Assumes nothing.
 use mathlib.Core.Path.{_≡_, refl, sym, ap₂, _∙_}
 use mathlib.Core.List.{List, [], _∷_, _++_, append-assoc, append-nil}
 use Prim.Native.Nat.{ℕ, zero, suc, _+_, _<_}

@@ -1,5 +1,15 @@
--- What a measuring, a reading and a writing that are not refused know of their arguments; and the number of a call that stops at
--- a test. Assumes nothing.
+-- What a call that is not refused knows of its arguments, and the number of one that is.
+--
+--   photoTests, writeTests        the tests after those of the plan
+--   accepted-measuring            measuring: a sound plan, a photograph and a record
+--   accepted-reading              reading: a photograph
+--   accepted-writing              writing: what it asks of its arguments
+--   photo-refused, photo-at       the plan's own number; the number of the test at which a photograph stops
+--   write-refused, write-at       the same of writing
+--   measure-refused, measure-at   the photograph's number; that of the test after it
+--   measuring-accepted            a photograph and a record of its plan are measured
+--
+-- What this file is for: the calls test in order, and each case of theirs is one law. Assumes nothing.
 use mathlib.Core.Path.{_≡_, refl, sym, _∙_}
 use mathlib.Core.Bool.{false}
 use mathlib.Core.List.{List, [], _∷_}

@@ -1,5 +1,17 @@
--- Cases a to l of document 01 hold of the definitions, by one computed comparison; so do the further cases, the class at each of
--- its bounds, the finder's numbers, a published distance, case c as `trayread` reads it, and what it prints. Assumes nothing.
+-- The cases of document 01 and further ones hold of the definitions.
+--
+--   cases-hold                    cases a to l
+--   more-cases-hold               the further cases
+--   class-bounds                  the class at each of its bounds
+--   finder-cases                  the finder's numbers
+--   published-case                a published distance
+--   never-over-zero               nothing is a multiple of a fraction over 0
+--   tray-cases                    case c as `trayread` reads it
+--   text-cases                    what it prints
+--   decimal-cases, signed-cases   numbers in print
+--
+-- What this file is for: the definitions say what the customer worked out by hand; each is one computed comparison. Assumes
+-- nothing.
 use mathlib.Core.Path.{_≡_, refl}
 use mathlib.Core.List.{List, [], _∷_, _++_, map}
 use Prim.Native.Nat.{ℕ}

@@ -1,4 +1,9 @@
--- Demand 3 follows where at most one record is within the radius; so it is left to the distance of the codes. Assumes nothing.
+-- Demand 3 follows where at most one record is within the radius.
+--
+--   AtMostOne C P s u   at most one record of the plan is within the radius
+--   nearest             then reading is the nearest record's, with all that demand 3 says
+--
+-- What this file is for: what is left to show is the distance of the codes. Assumes nothing.
 use mathlib.Core.Path.{_≡_, refl, sym, ap, _∙_}
 use mathlib.Core.Bool.{true, false}
 use mathlib.Core.List.{List}

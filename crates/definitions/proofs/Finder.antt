@@ -1,5 +1,9 @@
--- A season is that of two bytes of the file, and a search of the file that stops at row i of its refusals has that row's number.
--- Assumes nothing.
+-- Finding a plan in a file.
+--
+--   season-at   the season of plan k is that of two bytes of the file
+--   find-at     a search that stops at row i of its refusals has that row's number
+--
+-- What this file is for: the finder's number by the row at which it stops. Assumes nothing.
 use mathlib.Core.Path.{_≡_, ap, ap₂, _∙_}
 use mathlib.Core.List.{List}
 use Prim.Native.Nat.{ℕ, _+_, _*_}

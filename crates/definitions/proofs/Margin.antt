@@ -1,9 +1,10 @@
--- Every margin that a mark's call returns is from -49,600 to 25,600, and both ends are reached, by marks of the largest side.
--- Assumes nothing.
+-- Every margin that a mark's call returns is from -49,600 to 25,600.
 --
---   in-range                      from the two numbers whose difference the margin is
---   measured-range, read-range    the margins of the calls
---   lowest, highest               the ends, computed: all 256 cells wrong at the highest degree, all right at the lowest
+--   measured-range, read-range   the margins of measuring and reading are in that range
+--   lowest, highest              both ends are reached, by marks of the largest side: all 256 cells wrong at the highest degree,
+--                                all right at the lowest
+--
+-- What this file is for: the customer's bounds on the margin, and that neither can be closer. Assumes nothing.
 use mathlib.Core.Path.{_≡_, refl}
 use mathlib.Core.Bool.{Bool, true, false, cond}
 use mathlib.Core.List.{List, _∷_, _++_}

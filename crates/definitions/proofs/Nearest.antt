@@ -1,5 +1,12 @@
--- When a reading is right: a refusal of 1 to 8; 10 where no record is within the radius; the record within it where there is at
--- most one. Assumes nothing.
+-- When a reading is right.
+--
+--   within-cost, cost-within   a record passes the test exactly where it costs under the radius
+--   cost-without               one that does not fails it
+--   reads-refused              a refusal of 1 to 8
+--   reads-none                 10, where no record is within the radius
+--   reads-the                  the record within it, where there is at most one
+--
+-- What this file is for: a reader proves one of three cases, and has the definition's reading and buffer. Assumes nothing.
 use mathlib.Core.Path.{_≡_, refl, sym, ap₂, _∙_}
 use mathlib.Core.Bool.{true, false}
 use mathlib.Core.List.{List, [], _∷_}

@@ -1,5 +1,12 @@
--- A record against its own mark with all doubts 0: the mark is a photograph of the plan, and the record costs 0 with no cell
--- changed. So demand 2 follows from demand 3. Assumes nothing.
+-- A record against its own mark with all doubts 0.
+--
+--   own-cost, own-changed   it costs 0, and no cell is changed
+--   own-reading             so its reading is clean
+--   own-photo               the mark is a photograph of the plan
+--   radius-positive         the radius is above 0
+--   own-read                read back, it is the record
+--
+-- What this file is for: demand 2 follows from demand 3. Assumes nothing.
 use mathlib.Core.Path.{_≡_, refl, ap, _∙_}
 use mathlib.Core.Logic.{inl}
 use mathlib.Core.Bool.{true, cond}

@@ -1,14 +1,17 @@
 -- Refusals 1 to 8 do not apply exactly to the photographs of a sound plan with a record buffer of the right length.
--- Assumes nothing.
+--
+--   photo-accepted                    of a photograph and such a buffer the number is 0
+--   accepted-photo, accepted-buffer   where it is 0, it is a photograph, and the buffer has its length
+--
+-- What this file is for: what a call that is not refused may rely on. Assumes nothing.
 use mathlib.Core.Path.{_≡_, refl, sym, ap, _∙_}
 use mathlib.Core.Logic.{_⊎_, inl, inr}
 use mathlib.Core.Bool.{Bool, true, false, not, _&&_, true≢false}
-use mathlib.Core.List.{List, [], _∷_, _++_}
-use Prim.Native.Nat.{ℕ, zero, suc, _≤_, _<_}
-use native.Mathlib.Omega.{arith}
-use lib.Dec.{eqb, ltb, leb}
+use mathlib.Core.List.{List, [], _∷_}
+use Prim.Native.Nat.{ℕ, zero, suc, _<_}
+use lib.Dec.{eqb, leb}
 use lib.ListN.{length}
-use borrow.Author.Tests.{eqb-true, eqb-false, ltb-false, leb-false, eq-eqb, le-ltb, lt-leb}
+use borrow.Author.Tests.{eqb-true, ltb-false, leb-false, eq-eqb, le-ltb, lt-leb}
 use Rattle.bounded.specs.Bounded.{at}
 use Rattle.bounded.proofs.Any.{any-none, none-any}
 use Rattle.definitions.specs.Refusals.{Refusal, _when_, first, accepted}
@@ -17,7 +20,7 @@ use Rattle.definitions.specs.Code.{Code, cells, size}
 use Rattle.definitions.specs.Cost.{full, unread}
 use Rattle.definitions.specs.Calls.{strange, excessive, halfRead, photoTests, photoRows}
 use Rattle.definitions.specs.Photograph.{Photograph}
-use Rattle.definitions.proofs.Refusals.{Numbered, first-append, first-at, first-clear, testAt, equal}
+use Rattle.definitions.proofs.Refusals.{first-append, first-at, first-clear, testAt, equal}
 
 module _ (C : Code) (P s u B : List ℕ) where
   -- the rows after the plan's

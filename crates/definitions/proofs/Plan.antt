@@ -1,4 +1,9 @@
--- A sound plan in the words of polynomials: its points are apart. Assumes nothing.
+-- A sound plan in the words of polynomials.
+--
+--   plan-modulus   the modulus is one more than one less
+--   plan-apart     the points are apart
+--
+-- What this file is for: the codes' laws speak of suc q and of points that are apart. Assumes nothing.
 use mathlib.Core.Path.{_≡_}
 use mathlib.Core.List.{List}
 use Prim.Native.Nat.{ℕ, suc, _-_}

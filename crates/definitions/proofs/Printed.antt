@@ -1,5 +1,13 @@
--- Decimal digits as a reader expects them: a number below 10 is its digit, any other the digits of a tenth of it and its last
--- digit. And how long a printed line is at most. Assumes nothing.
+-- Decimal digits as a reader expects them, and how long a printed line is at most.
+--
+--   decimal-digit, decimal-more     a number below 10 is its digit, any other the digits of a tenth of it and its last digit
+--   decimal-length, signed-length   a number below 10^(k + 1) has at most k + 1 digits, and a sign
+--   spaced-length                   n such numbers, each after a space
+--   spaced-append, spaced-one       two lists of numbers one after the other; one number
+--   read-length, record-length      the two lines of a reading
+--   refused-length                  the line of a refusal
+--
+-- What this file is for: text is put digit by digit, into a buffer of a known size. Assumes nothing.
 use mathlib.Core.Path.{_≡_, refl, sym}
 use mathlib.Core.List.{List, [], _∷_, _++_, append-assoc, append-nil}
 use Prim.Native.Nat.{ℕ, zero, suc, _+_, _*_, _/_, _%_, _^_, _≤_, _<_}

@@ -1,7 +1,9 @@
--- A cost is the published distance times twice the full doubt; for a photograph and any record, 200 times. Assumes nothing.
+-- A cost is the published distance times twice the full doubt.
 --
---   cell-published, cost-published    of one cell, and of n cells, for any full doubt
---   photo-weighed                     of a photograph: the cost and the margin of any record
+--   cost-published   n cells, for any full doubt
+--   photo-weighed    of a photograph and any record, 200 times; and the margin
+--
+-- What this file is for: the customer's whole numbers are the published weights. Assumes nothing.
 use mathlib.Core.Path.{_≡_, refl, ap}
 use mathlib.Core.Bool.{Bool, true, false}
 use mathlib.Core.List.{List}

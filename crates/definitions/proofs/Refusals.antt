@@ -1,11 +1,20 @@
--- The laws of refusals in order: which row decides, what an accepted call knows of each row, rows after rows, and that the first
--- number is the lowest where the numbers rise. Assumes nothing.
+-- The laws of refusals in order.
 --
---   first-append, first-refuses, first-passes, first-both    rows after rows
---   first-clear, first-at                                    the number 0, and the number of the row at which the tests stop
---   first-none, first-applies, first-absent                  the number is one that applies; whatever the order of the numbers
---   first-lowest                                             where they rise, it is the lowest
---   equal .. not-false                                       a code's tests as those of the definitions
+--   Numbered rows                 no row has the number 0
+--   first-append, first-both      rows after rows: the number, and that both are passed
+--   first-refuses, first-passes   the number of the first rows, where they refuse; of the others, where they do not
+--   testAt, numberAt rows i       the test and the number of row i
+--   first-clear                   where the number is 0 every test is false
+--   Stops rows i, first-at        the tests before row i are false and its own is true; then its number is the first
+--   first-none, first-applies     0 where no row applies, else the number of one that does
+--   rising k rows, first-lowest   where the numbers rise, from k on, it is the lowest
+--   absent k rows, first-absent   a number that no row has is not the first
+--   equal, unequal                a code's test of two numbers
+--   answered, answered-not        a test that a function has answered
+--   not-true, not-false           a test turned round
+--
+-- What this file is for: a call tests row by row and stops at the first that refuses: its number is the definition's, and the
+-- lowest. Assumes nothing.
 use mathlib.Core.Path.{_≡_, refl, sym, ap, _∙_}
 use mathlib.Core.Logic.{_≢_, inl, inr}
 use mathlib.Core.Bool.{Bool, true, false, not, _&&_, false≢true}

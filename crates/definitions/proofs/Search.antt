@@ -1,5 +1,11 @@
--- The law of the search: what it finds is a word that passes, and where it finds none, none passes; where at most one word
--- passes, it finds that one. Assumes nothing.
+-- The law of the search through all words.
+--
+--   Says p k test o   the answer none says that no word passes; a word, that it is one and passes
+--   search-says       the search's answer says so
+--   search-none       where no word passes it finds none
+--   search-the        where at most one word passes it finds that one
+--
+-- What this file is for: the definition of reading finds the record under the radius, if there is one. Assumes nothing.
 use mathlib.Core.Path.{_≡_, refl, sym, ap, _∙_}
 use mathlib.Core.Bool.{Bool, true, false, false≢true}
 use mathlib.Core.List.{List, [], _∷_}

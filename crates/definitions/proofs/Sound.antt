@@ -1,7 +1,10 @@
--- A plan is sound exactly when its check gives 0; and the check that stops at row i gives that row's number. Assumes nothing.
+-- A plan is sound exactly when its check gives 0.
 --
---   sound, checked    from the number to the facts, and back
---   zeros, filled-no  the same of a stretch of bytes that are 0
+--   sound, checked   from the number 0 to the facts, and back
+--   check-at         the check that stops at row i gives that row's number
+--
+-- What this file is for: the facts of a sound plan for whoever was given the number 0, and the number for whoever has the facts.
+-- Assumes nothing.
 use mathlib.Core.Path.{_≡_, sym, ap}
 use mathlib.Core.Bool.{false}
 use mathlib.Core.List.{List}

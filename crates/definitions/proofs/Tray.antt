@@ -1,5 +1,11 @@
--- What `trayread` prints where a plan or a count of bytes is refused; and that a room of one byte more than the longest input
--- decides, for any input, what is printed. Assumes nothing.
+-- What `trayread` prints of an input that it refuses, and the room in which it reads.
+--
+--   plan-text                  the plan's own number, whatever follows
+--   count-text                 6 where another count of bytes follows a sound plan
+--   holds-whole, holds-first   a room that an input leaves space in, and one that it is too long for
+--   room-text                  one byte more than the longest input decides, for any input, what is printed
+--
+-- What this file is for: the program reads into a fixed room, and says of any input what the definition says. Assumes nothing.
 use mathlib.Core.Path.{_≡_, refl, sym, ap, _∙_}
 use mathlib.Core.List.{List, _++_}
 use Prim.Native.Nat.{ℕ, zero, suc, _+_, _*_, _≤_, _<_}

@@ -1,7 +1,14 @@
--- The laws of cost, for any full doubt F: of two words at most one is under F times the cells in which they differ; the doubts
--- are a lower bound; a cell of full doubt costs the same whatever its symbol; a term subtracted from symbol and value. Assumes
--- nothing.
-use mathlib.Core.Path.{_≡_, refl, sym, ap, _∙_}
+-- The laws of cost, for any full doubt F.
+--
+--   cell-two-values           of two values that differ a cell costs at least 2 F in all
+--   cost-two-words            two words cost at least 2 F times the cells in which they differ
+--   cost-far                  so of two words that differ in D cells at most one is under F D
+--   cell-doubt, doubts-cost   the doubts are a lower bound of every cost
+--   cell-full                 a cell of full doubt costs F, whatever its symbol
+--   cell-less                 a term subtracted from symbol and value leaves the cost
+--
+-- What this file is for: a decoder looks for the word under F times the distance: there is at most one. Assumes nothing.
+use mathlib.Core.Path.{_≡_, refl, sym, _∙_}
 use mathlib.Core.Bool.{Bool, true, false, cond}
 use Prim.Native.Nat.{ℕ, suc, _+_, _*_, _-_, _%_, _≤_, _<_}
 use native.Mathlib.Omega.{arith}
@@ -9,7 +16,7 @@ use native.Mathlib.Nat.{mul-le-mul-left, mod-eq-of-lt}
 use lib.Dec.{eqb}
 use borrow.Author.Tests.{eqb-true, eqb-false}
 use Rattle.bounded.specs.Bounded.{sum}
-use Rattle.bounded.proofs.Sum.{sum-eq, sum-le, sum-add, sum-mul}
+use Rattle.bounded.proofs.Sum.{sum-le, sum-add, sum-mul}
 use Rattle.field.specs.Congruence.{Cong}
 use Rattle.field.proofs.Congruence.{same, of-mod, to-mod, ~sym, _⨾_, ~add, cancel}
 use Rattle.distance.specs.Cost.{cell, cost, changed}

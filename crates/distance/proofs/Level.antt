@@ -1,5 +1,11 @@
--- Levels of doubt: over all levels below F a word weighs what it costs, so a word under F D weighs less than D at some level, and
--- at one that is some cell's doubt. Assumes nothing.
+-- Levels of doubt: at level t the cells with a doubt of at most t are read, the others erased.
+--
+--   levels-cost   over all levels below F a word weighs what it costs
+--   some-level    so a word under F D weighs less than D at some level
+--   some-cell     and at one that is some cell's doubt
+--
+-- What this file is for: generalised minimum distance: a decoder for errors and erasures at each level finds every word under F
+-- D. Assumes nothing.
 use mathlib.Core.Logic.{_≢_, inl, inr}
 use mathlib.Core.Path.{_≡_, refl, _∙_}
 use mathlib.Core.Bool.{Bool, true, false, cond}

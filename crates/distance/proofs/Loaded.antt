@@ -1,4 +1,9 @@
--- Loaded cells cost what the cells cost for which they stand. Assumes nothing.
+-- Loaded cells cost what the cells cost for which they stand.
+--
+--   cell-loaded   one cell
+--   cost-loaded   n cells
+--
+-- What this file is for: a reader may put any symbol where the doubt is full. Assumes nothing.
 use mathlib.Core.Logic.{_⊎_, inl, inr}
 use mathlib.Core.Path.{_≡_, sym, _∙_}
 use Prim.Native.Nat.{ℕ, _<_}

@@ -6,7 +6,8 @@ ghost use Rattle.distance.specs.Cost.{cell, cost, changed};
 ghost use Rattle.distance.specs.Doubts.{Doubts};
 ghost use Rattle.distance.specs.Level.{differ};
 
-// What one cell costs: its doubt where its symbol is the value, else twice the full doubt less its doubt.
+// What one cell costs: its doubt where its symbol is the value, else twice the full doubt less its doubt. The full doubt is a
+// number of 16 bits, so that a cell costs less than 2 * 65536 = 131072, and n cells at most n times that.
 pub fn cell_cost(symbol: u16, doubt: u32, value: u16, full: u32) -> u32
     requires { ⌜ (doubt ≤ full) × (full < 65536) ⌝ }
     ensures { λ r. ⌜ (r ≡ cell full symbol doubt value) × (r ≤ 131072) ⌝ }
@@ -61,7 +62,8 @@ pub fn word_changed(n: usize, symbols: [u16; 16], values: [u16; 16]) -> u32
     count
 }
 
-// R for so many rows of n points: a strip is one row, a mark has n.
+// R for so many rows of n points: a strip is one row, a mark has n. It is at most 65535 * 16 * 16, below the 2^31 = 2147483648 of
+// an i32, in which a margin is kept.
 pub fn radius(full: u32, rows: usize, n: usize, d: usize) -> u32
     requires { ⌜ (full < 65536) × (rows ≤ 16) × (n ≤ 16) × (d ≤ n) ⌝ }
     ensures { λ r. ⌜ (r ≡ full * rows * (n - d)) × (r < 2147483648) ⌝ }

@@ -1,4 +1,16 @@
--- The laws of congruence: it is an equality, sums and products keep it, and remainders are what it compares. Assumes nothing.
+-- The laws of congruence modulo suc q.
+--
+--   to-mod, of-mod           congruent numbers are those that leave the same remainder
+--   same, ~sym, _⨾_          it is an equality: equal numbers, the other way round, one after the other
+--   ~add, ~mul, ~mul-right   sums and products keep it
+--   less                     a multiple of the modulus does not count
+--   remainder                a number and its remainder
+--   below-eq                 numbers below the modulus are congruent only where they are equal
+--   rest, cancel             what is left of a sum that is 0; a term that two sums share
+--   difference, nonzero      a difference that is 0; a residue that is not 0
+--   mod-cong, cong-mod       the first two at the modulus p of the code
+--
+-- What this file is for: steps modulo p are sums of products, and only their ends are remainders. Assumes nothing.
 use mathlib.Core.Path.{_≡_, refl, sym, ap, _∙_}
 use Prim.Native.Nat.{ℕ, suc, _+_, _*_, _-_, _/_, _%_, _<_}
 use native.Mathlib.Omega.{arith}

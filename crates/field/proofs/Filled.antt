@@ -1,5 +1,11 @@
--- The loop that loads lent bytes into a row of zeros: the places below i hold the bytes, the others 0; after the last byte it is
--- the row of the bytes. Assumes nothing.
+-- The loop that loads lent bytes into a row of zeros.
+--
+--   Filled bytes out i   the places below i hold the bytes, the others 0
+--   filled-start         a row of zeros
+--   filled-step          one byte more
+--   filled-row           after the last byte it is the row of the bytes
+--
+-- What this file is for: bytes become the row in which all field work is done. Assumes nothing.
 use mathlib.Core.Path.{_≡_, sym, _∙_}
 use mathlib.Core.List.{List}
 use Prim.Native.Nat.{ℕ, _+_, _≤_, _<_}

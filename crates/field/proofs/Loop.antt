@@ -1,5 +1,14 @@
--- The laws of the loop over an array: its start, one element more, an element set anew, and fewer elements; start and one element
--- more where the array is changed as it stands. Assumes nothing.
+-- The loop over an array.
+--
+--   upto-start     before the first element nothing is asked
+--   upto-step      element i is set, and T holds up to i + 1
+--   upto-put       an element is set anew, anywhere
+--   upto-less      what holds up to i holds up to less
+--   passed-start   before the first element the array is as it was
+--   passed-step    element i is changed where it stands
+--   passed-over    element i is as it should be already
+--
+-- What this file is for: one law a step for every loop over one array; the facts T and U are the loop's own. Assumes nothing.
 use mathlib.Core.Logic.{_≢_}
 use mathlib.Core.Path.{_≡_, refl, _∙_}
 use mathlib.Core.List.{List}

@@ -1,5 +1,19 @@
--- A prime modulus has no divisors of zero (Euclid's lemma, by descent); how inverses are made from one another; what the test of
--- primality says. Assumes nothing.
+-- A prime modulus: its test, its inverses, and that it has no divisors of zero.
+--
+--   Alone p m            no number from 2 below m divides p
+--   alone-more           nor does m
+--   root-small           the root of a number of 16 bits has 8
+--   below-root           where none below the root divides, none does
+--   is-prime, prime-is   the test says that a number is prime exactly where it is
+--   not-prime            what is not prime fails the test
+--   root-prime           trial division up to the root
+--   inverse-step         p = k a + r makes minus k over r the inverse of a
+--   inverse-minus        minus an inverse is the inverse of minus the number
+--   not-twice            an odd prime is no number twice
+--   divide-out           a product is 0 only where a factor is
+--   apart                the difference of two unlike residues is no divisor of zero
+--
+-- What this file is for: dividing modulo p. The last two laws are Euclid's lemma, by descent. Assumes nothing.
 use mathlib.Core.Logic.{_≢_}
 use mathlib.Core.Path.{_≡_, refl, ap, _∙_}
 use mathlib.Core.Bool.{Bool, true, false, not, _&&_, false≢true}

@@ -1,8 +1,20 @@
--- The laws of rows: the number at a place, rows of remainders and what they stand for, and the row that a loop has set.
--- Assumes nothing.
+-- The laws of rows of sixteen numbers.
+--
+--   row-at                      place j of the row of f is f j
+--   beyond                      a read beyond a list's end is 0
+--   row-of                      sixteen numbers below p are a row
+--   set-row                     a row with one place set is one
+--   row-reduced, row-cong       remainders are a row, which stands for the numbers themselves
+--   result-row, result-cong     the same of what a function on rows returns
+--   upto-row, passed-row        the row that a loop has set
+--   Making f l j                a loop makes the row of f in l, and has set the places below j
+--   making-start, making-more   no place, and one more
+--   making-done                 all of them: l is the row of f
+--
+-- What this file is for: a function on rows returns a row of remainders, which is read place by place. Assumes nothing.
 use mathlib.Core.Path.{_≡_, refl, _∙_}
 use mathlib.Core.List.{List, [], _∷_}
-use Prim.Native.Nat.{ℕ, zero, suc, _-_, _%_, _≤_, _<_}
+use Prim.Native.Nat.{ℕ, zero, suc, _+_, _-_, _%_, _≤_, _<_}
 use native.Mathlib.Omega.{arith}
 use native.Mathlib.Nat.{mod-lt}
 use native.Mathlib.Decide.{ℕ-discrete, decLt}
@@ -14,6 +26,7 @@ use Rattle.field.specs.Congruence.{Cong, Agree}
 use Rattle.field.specs.Loop.{Upto, Passed}
 use Rattle.field.specs.Row.{row, Row}
 use Rattle.field.proofs.Congruence.{same, mod-cong, _⨾_}
+use Rattle.field.proofs.Loop.{upto-start, upto-step, upto-less}
 
 pub row-at : (f : ℕ → ℕ) (j : ℕ) → j < 16 → at (row f) j ≡ f j
 row-at f j l = tab-at 16 f j l
@@ -63,3 +76,17 @@ upto-row {f} {l} h = tab-is 16 f l (h .size) (h .done)
 
 pub passed-row : {U : ℕ → ℕ → Type 0} {f : ℕ → ℕ} {l : List ℕ} → Passed 16 0 U (λ j v. v ≡ f j) l 16 → l ≡ row f
 passed-row {f} {l} h = tab-is 16 f l (h .size) (h .done)
+
+-- a loop that makes the row of f: the places below j are set
+abbrev pub Making : (f : ℕ → ℕ) (l : List ℕ) (j : ℕ) → Type 0
+Making f l j = (j ≤ 16) × Upto 16 0 (λ k v. v ≡ f k) l j
+
+module _ {f : ℕ → ℕ} {l : List ℕ} where
+  pub making-start : length l ≡ 16 → Making f l 0
+  making-start e = (omega arith, upto-start e)
+
+  pub making-more : {j v : ℕ} → j < 16 → v ≡ f j → Making f l j → Making f (set l j v) (j + 1)
+  making-more h e m = (omega arith, upto-step _ h e (m .1))
+
+  pub making-done : {j : ℕ} → 16 ≤ j → Making f l j → l ≡ row f
+  making-done h m = upto-row (upto-less h (m .1))

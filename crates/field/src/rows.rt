@@ -125,7 +125,8 @@ pub fn subtract(a: [u16; 16], b: [u16; 16], p: u16) -> [u16; 16]
     out
 }
 
-// t modulo p, with c = 256 modulo p: what stands above the low eight bits counts c for each 256.
+// t modulo p, with c = 256 modulo p: what stands above the low eight bits counts c for each 256. Below 2^24 = 16777216 that is at
+// most 65535, and fits 16 bits.
 fn fold(t: u32, c: u16, p: u16, m: u16) -> u16
     requires { ⌜ Reciprocal p m × (t < 16777216) × (c ≡ 256 % p) ⌝ }
     ensures { λ r. ⌜ r ≡ t % p ⌝ }
@@ -134,7 +135,7 @@ fn fold(t: u32, c: u16, p: u16, m: u16) -> u16
     reduce(high * c + (t % 256) as u16, p, m)
 }
 
-// t modulo p in each place, for sums of up to 256 products.
+// t modulo p in each place, for sums of up to 256 products of two bytes: these are below 2^24 = 16777216.
 pub fn fold_row(t: [u32; 16], p: u16, m: u16) -> [u16; 16]
     requires { ⌜ Reciprocal p m × ((j : ℕ) → j < 16 → at t j < 16777216) ⌝ }
     ensures { λ r. ⌜ r ≡ row (λ j. at t j % p) ⌝ }

@@ -1,4 +1,8 @@
--- The values of one row are cells of the flat grid. Assumes nothing.
+-- The values of one row are cells of the flat grid.
+--
+--   grid-row   place j of the values of row r is cell r b + j
+--
+-- What this file is for: a mark is written and measured row by row. Assumes nothing.
 use mathlib.Core.Path.{_≡_}
 use mathlib.Core.List.{List}
 use Prim.Native.Nat.{ℕ, _+_, _*_, _≤_, _<_}

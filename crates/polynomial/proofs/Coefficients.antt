@@ -1,4 +1,8 @@
--- A polynomial that is known by its values has coefficients, and the leading one is its own. Assumes nothing.
+-- From values to coefficients.
+--
+--   lead-eval   a polynomial that is known by its values has coefficients, and its leading one leads them
+--
+-- What this file is for: a decoder finds values, and hands over coefficients. Assumes nothing.
 use mathlib.Core.Path.{_≡_, refl, sym}
 use Prim.Native.Nat.{ℕ, zero, suc}
 use Rattle.field.specs.Congruence.{Agree}

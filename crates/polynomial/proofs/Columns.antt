@@ -1,5 +1,10 @@
--- A record with X put in, and then Y: the coefficients of a power of Y are residues and have that power's column as their values;
--- place r of the columns has the values of row r. Assumes nothing.
+-- A record with X put in, and then Y.
+--
+--   coefficients-row   the coefficients of a power of Y are residues
+--   column-values      and have that power's column as their values
+--   row-values-are     place r of the columns has the values of row r
+--
+-- What this file is for: the contracts of `columns` and `row_values`. Assumes nothing.
 use mathlib.Core.Path.{_≡_, refl, sym, ap, _∙_}
 use mathlib.Core.Bool.{Bool, true, false, cond}
 use mathlib.Core.List.{List, []}

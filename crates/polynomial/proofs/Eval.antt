@@ -1,8 +1,17 @@
--- The laws of polynomials by coefficients: the first coefficient taken off, the leading one, congruent coefficients; and the
--- distance of two words: two polynomials of degree at most k are the same, or their values differ in n - k places. Assumes
--- nothing.
+-- The laws of polynomials by coefficients.
+--
+--   eval-one      one coefficient
+--   eval-front    the first coefficient taken off: a 0 + x times the rest
+--   eval-lead     the last one leads
+--   eval-minus    a sum with a multiple
+--   eval-short    coefficients that are 0 do not count
+--   eval-cong     congruent coefficients have congruent values
+--   same-or-far   two polynomials of degree at most k are the same, or their values differ in n - k places
+--
+-- What this file is for: the decoders compare words by the coefficients that they come from. The last law is the distance of the
+-- strip's code. Assumes nothing.
 use mathlib.Core.Logic.{_≢_, _⊎_, inl, inr}
-use mathlib.Core.Path.{_≡_, refl, sym, ap, _∙_}
+use mathlib.Core.Path.{_≡_, refl, ap, _∙_}
 use mathlib.Core.Bool.{Bool, true, false, cond}
 use Prim.Native.Nat.{ℕ, zero, suc, _+_, _*_, _-_, _^_, _≤_, _<_}
 use native.Mathlib.Omega.{arith}

@@ -1,6 +1,12 @@
--- The distance on a grid, for two point lists of any sizes a and b: two polynomials of total degree d < min(a, b) are the same,
--- or they differ in max(a, b) (min(a, b) - d) cells. By rising powers of Y: a column that differs decides, else the lower terms
--- do. Assumes nothing.
+-- The distance on a grid, for two point lists of any sizes a and b.
+--
+--   radius-le          the distance is at most that of the rows times that of the columns, for each split i of the degree
+--   distance-split     the same, by the power t of Y that the rows lead with
+--   distance-square    with n points each way it is document 01's n (n - d)
+--   grid-same-or-far   two polynomials of total degree d < min(a, b) are the same, or differ in max(a, b) (min(a, b) - d) cells
+--
+-- What this file is for: a mark has at most one record under the radius. By rising powers of Y: a column that differs decides,
+-- else the lower terms do. Assumes nothing.
 use mathlib.Core.Logic.{_⊎_, inl, inr}
 use mathlib.Core.Path.{_≡_, refl, ap}
 use mathlib.Core.Bool.{Bool, true, false, cond}

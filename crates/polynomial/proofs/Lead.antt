@@ -1,5 +1,13 @@
--- The laws of degrees by values: linear combinations, wider and narrower bounds, multiplication by X - x r, division by it.
--- Assumes nothing.
+-- The laws of degrees by values: `Lead q n x k c f` says that f has a degree of at most k, and c before X^k.
+--
+--   lead-eq          congruent values and leading coefficients
+--   mix              m times the one and o times the other
+--   wider, zero-to   a bound may grow, and then 0 leads
+--   narrow           where 0 leads the degree is lower
+--   shift            times X - x r the degree is one more
+--   divide           less its value at x r, a polynomial is X - x r times one of a lower degree
+--
+-- What this file is for: polynomials that are known by their values only, as the interpolation keeps them. Assumes nothing.
 use mathlib.Core.Path.{_≡_, refl}
 use Prim.Native.Nat.{ℕ, zero, suc, _+_, _*_, _≤_, _<_}
 use native.Mathlib.Omega.{arith}

@@ -1,4 +1,9 @@
--- Rising points below a prime are apart. Assumes nothing.
+-- Points of a plan: rising, and below a prime.
+--
+--   points-rise    each point is less than those after it
+--   points-apart   so no two are congruent, and their differences divide
+--
+-- What this file is for: what the codes ask of the points follows from what the plan's check tests. Assumes nothing.
 use Prim.Native.Nat.{ℕ, zero, suc, _<_}
 use native.Mathlib.Omega.{arith}
 use native.Mathlib.Decide.{ℕ-discrete}

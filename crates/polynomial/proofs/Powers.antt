@@ -1,5 +1,15 @@
--- The laws of rows of powers: the first is all ones and each is the one before times the points; those up to a degree serve a
--- lower one. A sum of their multiples is small, and has a polynomial's values once it is reduced. Assumes nothing.
+-- The laws of rows of powers, and of the sums of their multiples.
+--
+--   equal-rows                  rows that have one number everywhere
+--   powers-less                 the powers up to a degree serve a lower one
+--   powers-start, powers-step   the first row is all ones, and each is the one before times the points
+--   terms m w i j               the first i terms at point j, by the rows m and the coefficients w, not reduced
+--   terms-none, terms-more      none, and one term more, as a loop makes them
+--   terms-row, term-fits        the sums are small, and one term more can be added
+--   terms-values                reduced, they are the polynomial's values
+--
+-- What this file is for: values at sixteen points at once; a sum of sixteen products stays below 2^24, and is reduced once.
+-- Assumes nothing.
 use mathlib.Core.Path.{_≡_, refl, sym, ap, _∙_}
 use mathlib.Core.List.{List, []}
 use Prim.Native.Nat.{ℕ, zero, suc, _+_, _*_, _-_, _%_, _^_, _≤_, _<_}

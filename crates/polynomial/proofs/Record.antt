@@ -1,6 +1,13 @@
--- The value of a record in X is that of the polynomial with its bytes as coefficients. From the flat record in X and Y, by groups
--- of one total degree, to the columns, by powers of Y: the record's value is that of its rows; the groups of the table follow one
--- another; every place is in one group; congruent records are one. Assumes nothing.
+-- Flat records: from groups of one total degree to columns of powers of Y.
+--
+--   value-strip               the value of a record in X is that of the polynomial with its bytes as coefficients
+--   value-rows                the value of a record in X and Y is that, at y, of the polynomial in Y that x leaves
+--   start-next                the groups follow one another
+--   start-most, start-below   a group's places are within a record of degree 15, and before those of a higher degree
+--   place                     every place is in one group
+--   record-eq                 records with congruent coefficients are one
+--
+-- What this file is for: a record's value is worked out column by column. Assumes nothing.
 use mathlib.Core.Path.{_≡_, refl, sym, ap, _∙_}
 use mathlib.Core.List.{List}
 use mathlib.Core.Bool.{Bool, true, false, _&&_, false≢true}
@@ -11,7 +18,6 @@ use native.Mathlib.Numerals.{add-one}
 use native.Mathlib.Nat.{mod-eq-of-lt}
 use lib.Dec.{eqb, ltb}
 use borrow.Author.Tests.{eqb-true, ltb-true}
-use lib.ListN.{length}
 use Rattle.bounded.specs.Bounded.{at, sum}
 use Rattle.bounded.proofs.Sum.{sum-eq, sum-add, sum-mul}
 use Rattle.bounded.proofs.Tab.{list-eq}

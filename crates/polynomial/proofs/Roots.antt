@@ -1,5 +1,8 @@
--- A polynomial of degree at most k that is zero at more than k points is zero, and so is its leading coefficient.
--- Assumes nothing.
+-- Roots: at most as many as the degree.
+--
+--   roots   a polynomial of degree at most k that is 0 at more than k marked points is 0, and so is its leading coefficient
+--
+-- What this file is for: the distance of two words, and that the interpolation determines its pairs. Assumes nothing.
 use mathlib.Core.Logic.{_≢_}
 use Prim.Native.Nat.{ℕ, zero, suc, _+_, _*_, _≤_, _<_}
 use native.Mathlib.Omega.{arith}

@@ -1,5 +1,9 @@
--- Polynomials and costs, for any full doubt F: congruent coefficients cost the same; at most one polynomial of degree at most k
--- is under F (n - k), for symbols with doubts at most F. Assumes nothing.
+-- Polynomials and costs, for any full doubt F.
+--
+--   cost-cong   congruent coefficients cost the same
+--   near-one    at most one polynomial of degree at most k is under F (n - k), for symbols with doubts at most F
+--
+-- What this file is for: a strip has at most one record under the radius. Assumes nothing.
 use mathlib.Core.Logic.{inl, inr}
 use mathlib.Core.Path.{_≡_, ap}
 use Prim.Native.Nat.{ℕ, suc, _*_, _-_, _≤_, _<_}

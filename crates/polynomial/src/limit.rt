@@ -3,7 +3,7 @@ ghost use mathlib.Core.Path.{_≡_};
 ghost use Prim.Native.Nat.{_*_, _≤_, _<_};
 ghost use Rattle.polynomial.specs.Grid.{gridDistance};
 
-// full m n, for sides of at most sixteen: at most 65,535 times 256.
+// full m n, for sides of at most sixteen: at most 65,535 times 256, below 2^24 = 16777216.
 fn area(full: u32, m: usize, n: usize) -> u32
     requires { ⌜ (full < 65536) × (m ≤ 16) × (n ≤ 16) ⌝ }
     ensures { λ r. ⌜ (r ≡ full * (m * n)) × (r < 16777216) ⌝ }

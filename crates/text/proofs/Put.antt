@@ -1,4 +1,11 @@
--- What is put in pieces is put as a whole: nothing, one byte, and two pieces one after the other. Assumes nothing.
+-- What is put into a text piece by piece.
+--
+--   put-none     nothing
+--   put-one      one byte
+--   put-length   the text keeps its length
+--   put-then     two pieces, one after the other, are put as a whole
+--
+-- What this file is for: a line is put by several calls. Assumes nothing.
 use mathlib.Core.Path.{_≡_}
 use mathlib.Core.List.{List, [], _∷_, _++_, append-assoc, append-nil}
 use Prim.Native.Nat.{ℕ, _+_, _≤_, _<_}

@@ -1,4 +1,12 @@
--- How far an i32 is from 0: what the casts and the subtraction ask, and what they give; and its sign in print. Assumes nothing.
+-- How far an i32 is from 0, and its sign in print.
+--
+--   abs-small                  the distance fits 32 bits
+--   widened-fits, minus-fits   the number, and 0 less it, fit 64 bits
+--   minus-cast, minus-is       below 0: the difference fits 32 bits, and is the distance
+--   minus-text                 the text is the sign and the digits of the distance
+--   plain-cast, plain-text     not below 0: it fits as it stands, and the text is its digits
+--
+-- What this file is for: the subtraction from 0 goes by 64 bits, where it fits. Assumes nothing.
 use mathlib.Core.Path.{_≡_, refl, subst}
 use mathlib.Core.Bool.{true, false}
 use mathlib.Core.List.{_∷_}

@@ -1,5 +1,17 @@
--- Keys: they tell their places, the least one is that of the next cell, and the cells that have entered are those with a key
--- below the next one. Assumes nothing.
+-- Keys: 16 times a doubt and the place, `taken` where there is none.
+--
+--   zeros-at                        a place of zeros
+--   key-in, key-out                 the key of a cell, and of what is none
+--   keys-start, keys-more           the keys of no cell, and of one more
+--   keys-most, keys-placed          they are at most `taken`, and tell their places
+--   marked-placed, without-most     so do those of some cells; and those without one are at most `taken`
+--   least-start, least-more         the least of none, and of one more
+--   left-most                       what is left is at most `taken`
+--   next-cell                       the least key is that of a cell that has not entered
+--   entered-below, left-above       the keys of the cells that have entered are below it, those of the others are not
+--   entering-start, entering-next   no cell has entered; the cell of the least key enters
+--
+-- What this file is for: the cells enter by rising doubt, each once. Assumes nothing.
 use mathlib.Core.Logic.{_≢_}
 use mathlib.Core.Path.{_≡_, refl, sym, ap, _∙_}
 use mathlib.Core.Bool.{Bool, true, false, cond}

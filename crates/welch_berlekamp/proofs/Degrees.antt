@@ -1,5 +1,12 @@
--- The interpolation's steps keep its degrees: pairs multiplied by X - x r and pairs mixed; and so does the entry of a cell.
--- Assumes nothing.
+-- The degrees of the two pairs of the interpolation, and the steps that keep them.
+--
+--   shifted q x r f, mixed c f g   the row f times X - x r; f + c g
+--   degrees-start                  the pairs (1, 0) and (0, 1)
+--   grow1, grow2                   the first pair, or the second, times X - x r
+--   mix1, mix2                     the first pair with a multiple of the second added, or the other way round, where that has the
+--                                  lower degree
+--
+-- What this file is for: whatever polynomial the cells came from, the pairs keep their degrees relative to it. Assumes nothing.
 use mathlib.Core.Path.{_≡_, refl}
 use Prim.Native.Nat.{ℕ, zero, suc, _+_, _*_, _-_, _≤_, _<_}
 use native.Mathlib.Omega.{arith}

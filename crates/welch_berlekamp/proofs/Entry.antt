@@ -1,8 +1,12 @@
--- A cell enters: both pairs are 0 there and stay so at the cells before, one degree more is counted, and the degrees hold.
--- Assumes nothing.
+-- A cell enters: both pairs are 0 there, stay so at the cells before, and one degree more is counted.
+--
+--   kept1, kept2     the pair that is used is 0 at the cell: the other one is multiplied by X - x r
+--   freed1, freed2   else the other one is freed of its value there, and the pair itself is multiplied
+--
+-- What this file is for: the four ways in which the interpolation goes on. Assumes nothing.
 use mathlib.Core.Logic.{_≢_}
 use mathlib.Core.Path.{_≡_, _∙_}
-use Prim.Native.Nat.{ℕ, suc, _+_, _*_, _-_, _≤_, _<_}
+use Prim.Native.Nat.{ℕ, suc, _+_, _*_, _≤_, _<_}
 use native.Mathlib.Omega.{arith}
 use native.Mathlib.Decide.{ℕ-discrete}
 use Rattle.bounded.specs.Bounded.{sum}

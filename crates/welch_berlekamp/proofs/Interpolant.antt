@@ -1,5 +1,18 @@
--- Newton's form: the multiple of the product that reaches a symbol, one cell more, and the coefficients by Horner's rule. After
--- k + 1 cells the interpolation's pairs are known. Assumes nothing.
+-- Newton's form through k + 1 cells, and its coefficients by Horner's rule.
+--
+--   positive                    what is not 0 modulo p is above 0
+--   enough-few                  more than k of n cells: n is above k
+--   fits-start                  the polynomial 0 through no cell
+--   fits-positive               at the next cell the product of the nodes is not 0
+--   fits-take                   the cell of the least key is taken
+--   Horner p k c z i a          after the terms from i on: a i, a (i + 1), .. are the coefficients of what they make
+--   horner-start, horner-step   no term, and the term before
+--   horner-end                  all terms: a has the form's coefficients
+--   Moved p i m b j a           of the places from i on those before j were given m times the next one
+--   moved-start, moved-step     none of them, and one more
+--
+-- What this file is for: after k + 1 cells the interpolation's pairs are known without it; and a candidate is handed over by its
+-- coefficients. Assumes nothing.
 use mathlib.Core.Logic.{_≢_}
 use mathlib.Core.Path.{_≡_, refl, sym, ap, ap₂, _∙_}
 use mathlib.Core.List.{List}

@@ -1,5 +1,15 @@
--- The decoder's state by rows of remainders: a quotient frees a value, the differences to a point multiply, and each of the four
--- steps of the interpolation lets a cell enter. Assumes nothing.
+-- The decoder's state by rows of remainders.
+--
+--   minus                           adding p - a is subtracting a
+--   ratio-is                        a quotient by the table of inverses
+--   Times p w f g, Plus p c f g h   what `multiply` and `add_multiple` say of their rows
+--   reduced, plus, times            what these rows stand for: the numbers, a mixed row, a shifted one
+--   ones-at, zeros-row, ones-row    rows of ones and of zeros
+--   entered-of                      the marks with that of a cell set
+--   first-kept, first-grew          the first pair is used: it is 0 at the cell, or not
+--   second-kept, second-grew        the second pair is
+--
+-- What this file is for: the contract of `enter` from those of the functions on rows. Assumes nothing.
 use mathlib.Core.Path.{_≡_, refl, ap, _∙_}
 use mathlib.Core.List.{List}
 use Prim.Native.Nat.{ℕ, suc, _+_, _*_, _-_, _%_, _≤_, _<_}

@@ -1,5 +1,5 @@
--- Newton's form of a polynomial, modulo p = suc q: a sum of multiples c 0, c 1, .. of the products of X -
--- z over the nodes before.
+-- Newton's form of a polynomial, modulo p = suc q: a sum of multiples c 0, c 1, .. of the products of X - z over
+-- the nodes before.
 --
 --   base q z i X           the product of X - z over the first i nodes z, at X
 --   form q c z i X         the sum of c l times the product of l nodes, for l below i, at X

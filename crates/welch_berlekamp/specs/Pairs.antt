@@ -43,8 +43,8 @@ pub record Shaped (p : ℕ) (t : Pairs) : Type 0 where
   pub size : length (t .entered) ≡ 16
 
 abbrev pub State : (p n k : ℕ) (x y : List ℕ) (t : Pairs) → Type 0
-State p n k x y t = Interpolates (p - 1) n k (at x) (at y) (at (t .entered)) (t .a) (t .b) (at (t .d1)) (at (t .e1)) (at (t .d2))
-    (at (t .e2))
+State p n k x y t = Interpolates (p - 1) n k (at x) (at y) (at (t .entered)) (t .a) (t .b)
+    (at (t .d1)) (at (t .e1)) (at (t .d2)) (at (t .e2))
 
 pub record Holds (p n k : ℕ) (x y : List ℕ) (t : Pairs) : Type 0 where
   pub shaped : Shaped p t

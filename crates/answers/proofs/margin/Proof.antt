@@ -8,9 +8,7 @@ returns : tie.Need-returns
 returns c = margin-is (c .args .radius) (c .args .cost) (c .pre .0) (c .pre .1)
 
 pub margin-spec : {M : Type 1} → statement M
-margin-spec =
-    tie.close
-    (tie.spec
+margin-spec = tie.close (tie.spec
     (λ c. search needs) (λ c. search needs)
     (λ c. margin-fits (c .args .radius) (c .args .cost) (c .pre .0) (c .pre .1))
     returns)

@@ -8,9 +8,7 @@ returns : tie.Need-returns
 returns c = minus-is (c .before .args .z) (c .before .fits .z)
 
 pub magnitude-spec : {M : Type 1} → statement M
-magnitude-spec =
-    tie.close
-    (tie.spec
+magnitude-spec = tie.close (tie.spec
     (λ c. widened-fits (c .before .args .z) (c .before .fits .z))
     (λ c. minus-fits (c .before .args .z) (c .before .fits .z))
     (λ c. minus-cast (c .before .args .z) (c .before .fits .z) (c .if1 .taken))

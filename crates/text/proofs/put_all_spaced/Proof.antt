@@ -64,15 +64,7 @@ returns c =
     rw (e, take-length) at (c .before .loop .inv .0)
 
 pub put-all-spaced-spec : {M : Type 1} → statement M
-put-all-spaced-spec =
-    tie.close
-    (tie.spec
-    Inv-loop
-    μ-loop
-    loop-holds
-    (λ c. search needs) (λ c κs. search needs)
-    put-spaced-requires
-    (λ c. search needs) (λ c. search needs)
-    loop-again
+put-all-spaced-spec = tie.close (tie.spec Inv-loop μ-loop
+    loop-holds (λ c. search needs) (λ c κs. search needs) put-spaced-requires (λ c. search needs) (λ c. search needs) loop-again
     (λ c. omega (arith, put-length (c .before .loop .inv .0)))
     returns)

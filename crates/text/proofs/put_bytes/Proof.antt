@@ -18,9 +18,6 @@ Inv-loop text₀ at word i₀ i-end text i = (i ≤ length word) × (i-end ≡ l
 abbrev μ-loop : tie.MeasureT-loop
 μ-loop text₀ at word i₀ i-end text i = length word - i
 
-loop-holds : tie.Need-loop-holds Inv-loop μ-loop
-loop-holds c = (search needs, search needs, rw add-zero (put-none _ _ (omega arith)))
-
 -- the byte's place is in the text
 slice-write-text : tie.Need-slice-write-text Inv-loop μ-loop
 slice-write-text c = omega (arith, put-length (c .before .before .loop .inv .2))
@@ -43,16 +40,9 @@ returns c =
     rw (e, take-length) at (c .before .loop .inv .2)
 
 pub put-bytes-spec : {M : Type 1} → statement M
-put-bytes-spec =
-    tie.close
-    (tie.spec
-    Inv-loop
-    μ-loop
-    loop-holds
-    (λ c. search needs) (λ c. search needs)
-    slice-write-text
-    (λ c. search needs) (λ c. search needs)
-    loop-again
+put-bytes-spec = tie.close (tie.spec Inv-loop μ-loop
+    (λ c. (search needs, search needs, rw add-zero (put-none _ _ (omega arith))))
+    (λ c. search needs) (λ c. search needs) slice-write-text (λ c. search needs) (λ c. search needs) loop-again
     (λ c. search needs)
     (λ c. omega (arith, put-length (c .before .loop .inv .2)))
     returns)

@@ -42,16 +42,6 @@ returns-2 c =
     (c .before .before .put-natural2 .ensures)
 
 pub put-signed-spec : {M : Type 1} → statement M
-put-signed-spec =
-    tie.close
-    (tie.spec
-    (λ c. search needs)
-    put-bytes-requires
-    (λ c κs. search needs)
-    put-natural-requires
-    (λ c. search needs)
-    returns
-    (λ c κs. search needs)
-    put-natural-requires-2
-    (λ c. search needs)
-    returns-2)
+put-signed-spec = tie.close (tie.spec
+    (λ c. search needs) put-bytes-requires (λ c κs. search needs) put-natural-requires (λ c. search needs) returns
+    (λ c κs. search needs) put-natural-requires-2 (λ c. search needs) returns-2)

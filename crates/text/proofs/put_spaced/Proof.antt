@@ -9,9 +9,7 @@ use Rattle.text.proofs.put_spaced.Statement.{statement}
 use Rattle.text.proofs.put_spaced.Tie as tie
 
 pub put-spaced-spec : {M : Type 1} → statement M
-put-spaced-spec =
-    tie.close
-    (tie.spec
+put-spaced-spec = tie.close (tie.spec
     (λ c κs. let s = c .before .before in omega (arith, s .pre, ap length (spaced-one (s .args .n))))
     (λ c κs.
     let p = c .before .before .before in

@@ -16,9 +16,6 @@ Inv-loop n symbols values count₀ i₀ count i = (i ≤ n) × (count ≡ change
 abbrev μ-loop : tie.MeasureT-loop
 μ-loop n symbols values count₀ i₀ count i = n - i
 
-loop-holds : tie.Need-loop-holds Inv-loop μ-loop
-loop-holds c = (omega arith, refl, omega arith)
-
 loop-again : tie.Need-loop-again Inv-loop μ-loop
 loop-again c =
     let b = c .before .before .before .args in
@@ -32,14 +29,8 @@ returns c =
     (rw e at (c .before .loop .inv .1), omega arith)
 
 pub word-changed-spec : {M : Type 1} → statement M
-word-changed-spec =
-    tie.close
-    (tie.spec
-    Inv-loop
-    μ-loop
-    loop-holds
+word-changed-spec = tie.close (tie.spec Inv-loop μ-loop
+    (λ c. (omega arith, refl, omega arith))
     (λ c. search needs) (λ c. search needs) (λ c. search needs) (λ c. search needs) (λ c κs. search needs)
     (λ c. omega (arith, c .cell-changed .ensures .1))
-    (λ c. search needs) (λ c. search needs)
-    loop-again
-    returns)
+    (λ c. search needs) (λ c. search needs) loop-again returns)

@@ -16,9 +16,6 @@ Inv-loop n full symbols doubts values sum₀ i₀ sum i =
 abbrev μ-loop : tie.MeasureT-loop
 μ-loop n full symbols doubts values sum₀ i₀ sum i = n - i
 
-loop-holds : tie.Need-loop-holds Inv-loop μ-loop
-loop-holds c = (omega arith, refl, omega arith)
-
 loop-again : tie.Need-loop-again Inv-loop μ-loop
 loop-again c =
     let b = c .before .before .before .args in
@@ -32,15 +29,9 @@ returns c =
     (rw e at (c .before .loop .inv .1), omega arith)
 
 pub word-cost-spec : {M : Type 1} → statement M
-word-cost-spec =
-    tie.close
-    (tie.spec
-    Inv-loop
-    μ-loop
-    loop-holds
+word-cost-spec = tie.close (tie.spec Inv-loop μ-loop
+    (λ c. (omega arith, refl, omega arith))
     (λ c. search needs) (λ c. search needs) (λ c. search needs) (λ c. search needs) (λ c. search needs) (λ c. search needs)
     (λ c κs. (c .before .before .pre .1 (c .before .loop .i) (omega arith), c .before .before .pre .2))
     (λ c. omega (arith, c .cell-cost .ensures .1))
-    (λ c. search needs) (λ c. search needs)
-    loop-again
-    returns)
+    (λ c. search needs) (λ c. search needs) loop-again returns)

@@ -14,9 +14,6 @@ Inv-loop bytes out₀ i₀ i-end out i = (i ≤ length bytes) × (i-end ≡ leng
 abbrev μ-loop : tie.MeasureT-loop
 μ-loop bytes out₀ i₀ i-end out i = length bytes - i
 
-loop-holds : tie.Need-loop-holds Inv-loop μ-loop
-loop-holds c = (omega arith, refl, filled-start)
-
 loop-again : tie.Need-loop-again Inv-loop μ-loop
 loop-again c = (omega arith, refl, filled-step _ (omega arith) refl (c .before .before .loop .inv .2))
 
@@ -24,14 +21,8 @@ returns : tie.Need-returns Inv-loop μ-loop
 returns c = filled-row (omega arith) (c .before .loop .inv .2)
 
 pub row-spec : {M : Type 1} → statement M
-row-spec =
-    tie.close
-    (tie.spec
-    Inv-loop
-    μ-loop
-    loop-holds
+row-spec = tie.close (tie.spec Inv-loop μ-loop
+    (λ c. (omega arith, refl, filled-start))
     (λ c. search needs)
     (λ c. omega (arith, c .shared-slice-known .given (c .before .before .loop .i)))
-    (λ c. search needs) (λ c. search needs) (λ c. search needs) (λ c. search needs)
-    loop-again
-    returns)
+    (λ c. search needs) (λ c. search needs) (λ c. search needs) (λ c. search needs) loop-again returns)

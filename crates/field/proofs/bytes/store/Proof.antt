@@ -34,15 +34,7 @@ returns c =
     rw e at (c .before .loop .inv .3) ∙ tab-whole _ (at (a .numbers .now)) (a .part .now) refl
 
 pub store-spec : {M : Type 1} → statement M
-store-spec =
-    tie.close
-    (tie.spec
-    Inv-loop
-    μ-loop
-    loop-holds
-    (λ c. search needs) (λ c. search needs)
+store-spec = tie.close (tie.spec Inv-loop μ-loop
+    loop-holds (λ c. search needs) (λ c. search needs)
     (λ c. omega (arith, c .before .before .before .pre .1 (c .before .before .loop .j) (omega arith)))
-    (λ c. search needs) (λ c. search needs) (λ c. search needs)
-    loop-again
-    (λ c. search needs)
-    returns)
+    (λ c. search needs) (λ c. search needs) (λ c. search needs) loop-again (λ c. search needs) returns)

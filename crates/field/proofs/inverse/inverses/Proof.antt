@@ -1,77 +1,17 @@
 -- `field::inverse::inverses` meets its contract: the entries below a, and those less than a before p, are inverses; entry a is
 -- worked out from one of them, and gives its mirror. Assumes nothing.
-use mathlib.Core.Logic.{_≢_}
-use mathlib.Core.Path.{_≡_, _∙_}
-use mathlib.Core.List.{List}
-use Prim.Native.Nat.{ℕ, _+_, _-_, _/_, _%_, _≤_, _<_, min}
+use mathlib.Core.Path.{_≡_}
+use Prim.Native.Nat.{ℕ, _*_, _-_, _/_, _%_, _≤_, _<_}
 use native.Mathlib.Omega.{arith}
-use native.Mathlib.Decide.{ℕ-discrete}
-use native.Mathlib.Nat.{mod-lt, mod-eq-of-lt, div-le-self}
-use lib.ListN.{length, set, length-set}
-use lib.Seq.{getD-set-same, getD-set-other}
+use native.Mathlib.Nat.{mod-lt, div-le-self}
 use Rattle.bounded.specs.Bounded.{at}
-use Rattle.field.specs.Prime.{Prime, Inverse, Inverses}
-use Rattle.field.proofs.Prime.{inverse-step, inverse-minus, not-twice}
+use Rattle.field.specs.Prime.{Inverse}
+use Rattle.field.proofs.Made.{Made, made-start, made-before, made-step}
+use Rattle.field.proofs.Prime.{inverse-step, not-twice}
 use Rattle.field.proofs.Reciprocal.{product-fits}
 use borrow.Author.Needs.{needs}
 use Rattle.field.proofs.inverse.inverses.Statement.{statement}
 use Rattle.field.proofs.inverse.inverses.Tie as tie
-
--- entry 0 is 0, and the numbers that are less than a, or less than a before p, have their inverses
-record Made (p a : ℕ) (l : List ℕ) : Type 0 where
-  size : length l ≡ 251
-  zero : at l 0 ≡ 0
-  each : (b : ℕ) → 0 < b → b < p → min b (p - b) < a → Inverse p b (at l b)
-
--- entry 1 of the table is 1, the inverse of 1 by every modulus
-inverse-of-one : {p : ℕ} → 2 ≤ p → Inverse p 1 1
-inverse-of-one l = record { below = l; one = mod-eq-of-lt l }
-
-first : {t : List ℕ} → Inverses 251 t → at t 1 ≡ 1
-first i = omega (arith, (i .each 1 (omega arith) (omega arith)) .one, (i .each 1 (omega arith) (omega arith)) .below)
-
--- and so p - 1 is that of p - 1
-made-start : {p : ℕ} {t : List ℕ} → 2 ≤ p → p ≤ 251 → Inverses 251 t → Made p 2 (set t (p - 1) (p - 1))
-made-start {p} {t} l k i = record {
-  size = length-set t (p - 1) (p - 1) ∙ i .size;
-  zero = let n : 0 ≢ p - 1 = λ e. omega arith in getD-set-other t (p - 1) 0 (p - 1) 0 n ∙ i .zero;
-  each = λ b z h m. elim (ℕ-discrete b (p - 1)) [
-    | yes e ↦
-        let n : p - 1 < length t = omega (arith, i .size) in
-        rw (e, getD-set-same t (p - 1) (p - 1) 0 n) (inverse-minus (omega arith) (inverse-of-one l))
-    | no e ↦ let f : b ≡ 1 = omega arith in rw (getD-set-other t (p - 1) b (p - 1) 0 e, f, first i) (inverse-of-one l)
-  ];
-}
-
--- what is left of p is below a, and not 0 as p is prime
-before : {p a : ℕ} {l : List ℕ} → Prime p → 2 ≤ a → a < p → Made p a l → Inverse p (p % a) (at l (p % a))
-before {p} {a} r h l m =
-    let k = mod-lt p {m = a} (omega arith) in
-    m .each (p % a) (omega (arith, r .alone a h l)) (omega (arith, k)) (omega (arith, k))
-
-made-step : {p a v : ℕ} {l : List ℕ} → p ≤ 251 → 2 ≤ a → a + a < p → Inverse p a v → Made p a l →
-    Made p (a + 1) (set (set l a v) (p - a) (p - v))
-made-step {p} {a} {v} {l} k two h i m = record {
-  size = length-set (set l a v) (p - a) (p - v) ∙ n;
-  zero = getD-set-other (set l a v) (p - a) 0 (p - v) 0 (λ e. omega arith)
-      ∙ getD-set-other l a 0 v 0 (λ e. omega arith)
-      ∙ m .zero;
-  each = λ b z t s. elim (ℕ-discrete b (p - a)) [
-    | yes e ↦
-        let f : p - a < length (set l a v) = omega (arith, n) in
-        rw (e, getD-set-same (set l a v) (p - a) (p - v) 0 f) (inverse-minus (omega arith) i)
-    | no e ↦ rw (getD-set-other (set l a v) (p - a) b (p - v) 0 e) (lower b z t s e)
-  ];
-}
-  where
-    n : length (set l a v) ≡ 251
-    n = length-set l a v ∙ m .size
-
-    lower : (b : ℕ) → 0 < b → b < p → min b (p - b) < a + 1 → b ≢ p - a → Inverse p b (at (set l a v) b)
-    lower b z t s d = elim (ℕ-discrete b a) [
-      | yes e ↦ let f : a < length l = omega (arith, m .size) in rw (e, getD-set-same l a v 0 f) i
-      | no e ↦ rw (getD-set-other l a b v 0 e) (m .each b z t (omega arith))
-    ]
 
 abbrev Inv-loop : tie.InvT-loop
 Inv-loop p m out₀ a₀ out a = (2 ≤ a) × (a ≤ p) × Made p a out
@@ -79,29 +19,39 @@ Inv-loop p m out₀ a₀ out a = (2 ≤ a) × (a ≤ p) × Made p a out
 abbrev μ-loop : tie.MeasureT-loop
 μ-loop p m out₀ a₀ out a = p - a
 
+-- what p leaves modulo a is an entry whose inverse is known
+module _ (c : tie.In-loop Inv-loop μ-loop) where
+  abbrev start : tie.Start Inv-loop μ-loop
+  start = c .before .before .before .before
+
+  abbrev p : ℕ
+  p = start .args .p
+
+  abbrev a : ℕ
+  a = c .before .loop .a
+
+  below : p % a < a
+  below = mod-lt p (omega arith)
+
+  known : Inverse p (p % a) (at (c .before .loop .out) (p % a))
+  known = made-before (start .pre .0) (c .before .loop .inv .0) (omega arith) (c .before .loop .inv .2)
+
+  product : (p - p / a) * at (c .before .loop .out) (p % a) ≤ 62750
+  product = product-fits {x = p - p / a} (start .pre .1) (omega arith) (known .below)
+
 returns : tie.Need-returns Inv-loop μ-loop
-returns c =
-    let e : c .before .before .args .p ≡ 251 = omega arith in
-    rw e (c .before .table .ensures)
+returns c = let e : c .before .before .args .p ≡ 251 = omega arith in rw e (c .before .table .ensures)
 
 loop-holds : tie.Need-loop-holds Inv-loop μ-loop
 loop-holds c =
     let b = c .before .before .pre in
     (omega arith, b .0 .least, made-start (b .0 .least) (b .1) (c .before .table .ensures))
 
-mul-reduce-2 : tie.Need-mul-reduce-2 Inv-loop μ-loop
-mul-reduce-2 c =
-    let b = c .before .before .before .before in
-    let l = c .before .loop in
-    let i = before (b .pre .0) (l .inv .0) (omega arith) (l .inv .2) in
-    omega (arith, product-fits {x = b .args .p - b .args .p / l .a} (b .pre .1) (omega arith) (i .below))
-
 loop-again : tie.Need-loop-again Inv-loop μ-loop
 loop-again c =
-    let b = c .before .before .before .before .before in
     let l = c .before .before .loop in
-    let i = before (b .pre .0) (l .inv .0) (omega arith) (l .inv .2) in
-    let m = made-step (b .pre .1) (l .inv .0) (omega arith) (inverse-step (omega arith) i) (l .inv .2) in
+    let i = inverse-step (omega arith) (known (c .before)) in
+    let m = made-step (start (c .before) .pre .1) (l .inv .0) (omega arith) i (l .inv .2) in
     (omega arith, omega arith, rw (c .reduce .ensures .0) m)
 
 returns-2 : tie.Need-returns-2 Inv-loop μ-loop
@@ -111,23 +61,12 @@ returns-2 c =
     record { size = l .inv .2 .size; zero = l .inv .2 .zero; each = λ b z k. l .inv .2 .each b z k (omega (arith, odd)) }
 
 pub inverses-spec : {M : Type 1} → statement M
-inverses-spec =
-    tie.close
-    (tie.spec
-    Inv-loop
-    μ-loop
-    (λ c κs. search needs)
-    returns
-    (λ c. search needs) (λ c. search needs) (λ c. search needs) (λ c. search needs) (λ c. search needs)
-    loop-holds
-    (λ c. search needs) (λ c. search needs)
+inverses-spec = tie.close (tie.spec Inv-loop μ-loop
+    (λ c κs. search needs) returns (λ c. search needs) (λ c. search needs) (λ c. search needs) (λ c. search needs)
+    (λ c. search needs) loop-holds (λ c. search needs) (λ c. search needs)
     (λ c. div-le-self _ _)
     (λ c. search needs)
-    (λ c. omega (arith, mod-lt (c .before .before .before .before .args .p) {m = c .before .loop .a} (omega arith)))
-    (λ c. omega (arith, mod-lt (c .before .before .before .before .args .p) {m = c .before .loop .a} (omega arith)))
-    (λ c. omega (arith, mod-lt (c .before .before .before .before .args .p) {m = c .before .loop .a} (omega arith)))
-    mul-reduce-2
+    (λ c. omega (arith, below c)) (λ c. omega (arith, below c)) (λ c. omega (arith, below c))
+    (λ c. omega (arith, product c))
     (λ c κs. search needs) (λ c. search needs) (λ c. search needs) (λ c. search needs) (λ c. search needs) (λ c. search needs)
-    (λ c. search needs) (λ c. search needs) (λ c. search needs) (λ c. search needs) (λ c. search needs)
-    loop-again
-    returns-2)
+    (λ c. search needs) (λ c. search needs) (λ c. search needs) (λ c. search needs) (λ c. search needs) loop-again returns-2)

@@ -13,9 +13,7 @@ returns c =
     record { least = c .pre .0; most = c .pre .1; low = omega (arith, whole); high = omega (arith, whole, rest) }
 
 pub reciprocal-spec : {M : Type 1} → statement M
-reciprocal-spec =
-    tie.close
-    (tie.spec
+reciprocal-spec = tie.close (tie.spec
     (λ c. search needs)
     (λ c. omega (arith, div-add-mod 65536 (c .args .p), mul-le-mul-left (65536 / c .args .p) (c .pre .0)))
     returns)

@@ -21,16 +21,10 @@ returns c = sym (not-prime _ λ r. omega (arith, r .least))
 loop-holds : tie.Need-loop-holds Inv-loop μ-loop
 loop-holds c = (omega arith, omega arith, omega arith, λ a h l. absurd (omega arith))
 
-mul-loop : tie.Need-mul-loop Inv-loop μ-loop
-mul-loop c =
-    let b = c .loop .inv .2 in
-    omega (arith, mul-le-mul b b)
-
 returns-2 : tie.Need-returns-2 Inv-loop μ-loop
 returns-2 c =
-    let d = c .before .before .loop .d in
-    sym (not-prime _ λ r. r .alone d (omega arith) (omega (arith, mul-le-mul-left d (c .before .before .loop .inv .1)))
-    (omega arith))
+    let l = c .before .before .loop in
+    sym (not-prime _ λ r. r .alone (l .d) (omega arith) (omega (arith, mul-le-mul-left (l .d) (l .inv .1))) (omega arith))
 
 loop-again : tie.Need-loop-again Inv-loop μ-loop
 loop-again c =
@@ -41,17 +35,9 @@ returns-3 : tie.Need-returns-3 Inv-loop μ-loop
 returns-3 c = sym (root-prime _ (c .before .loop .d) (c .before .loop .inv .0) (omega arith) (c .before .loop .inv .3))
 
 pub is-prime-spec : {M : Type 1} → statement M
-is-prime-spec =
-    tie.close
-    (tie.spec
-    Inv-loop
-    μ-loop
-    returns
-    loop-holds
-    mul-loop
-    (λ c. search needs)
-    returns-2
-    (λ c. search needs)
+is-prime-spec = tie.close (tie.spec Inv-loop μ-loop
+    returns loop-holds
+    (λ c. let b = c .loop .inv .2 in omega (arith, mul-le-mul b b))
+    (λ c. search needs) returns-2 (λ c. search needs)
     (λ c. omega (arith, root-small (c .before .before .loop .d) (omega arith)))
-    loop-again
-    returns-3)
+    loop-again returns-3)

@@ -23,9 +23,6 @@ Inv-loop message powers d p m out₀ t₀ out t =
 abbrev μ-loop : tie.MeasureT-loop
 μ-loop message powers d p m out₀ t₀ out t = d + 1 - t
 
-loop-holds : tie.Need-loop-holds Inv-loop μ-loop
-loop-holds c = (omega arith, equal-rows 0 (omega (arith, c .before .pre .0 .least)), λ x P. upto-start refl)
-
 values-requires : tie.Need-values-requires Inv-loop μ-loop
 values-requires c κs =
     let b = c .before .before .before .before in
@@ -58,14 +55,7 @@ returns c =
     (l .inv .1, λ x P. rw e at (l .inv .2 x P))
 
 pub columns-spec : {M : Type 1} → statement M
-columns-spec =
-    tie.close
-    (tie.spec
-    Inv-loop
-    μ-loop
-    loop-holds
-    (λ c κs. search needs)
-    values-requires
-    (λ c. search needs) (λ c. search needs) (λ c. search needs) (λ c. search needs)
-    loop-again
-    returns)
+columns-spec = tie.close (tie.spec Inv-loop μ-loop
+    (λ c. (omega arith, equal-rows 0 (omega (arith, c .before .pre .0 .least)), λ x P. upto-start refl))
+    (λ c κs. search needs) values-requires (λ c. search needs) (λ c. search needs) (λ c. search needs) (λ c. search needs)
+    loop-again returns)

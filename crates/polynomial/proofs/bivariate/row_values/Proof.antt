@@ -27,9 +27,6 @@ Inv-loop columns powers r d p m sum₀ t₀ sum t = (t ≤ d + 1) × (sum ≡ ro
 abbrev μ-loop : tie.MeasureT-loop
 μ-loop columns powers r d p m sum₀ t₀ sum t = d + 1 - t
 
-loop-holds : tie.Need-loop-holds Inv-loop μ-loop
-loop-holds c = let b = c .args in (omega arith, terms-none (b .powers .now) (coefficients (b .columns .now) (b .r)))
-
 add-product-requires : tie.Need-add-product-requires Inv-loop μ-loop
 add-product-requires c κs =
     let b = c .before .before .before .before .before in
@@ -38,43 +35,33 @@ add-product-requires c κs =
 
 loop-again : tie.Need-loop-again Inv-loop μ-loop
 loop-again c =
-    let b = c .before .before .before .before .before .before .args in
-    let l = c .before .before .before .before .before .loop in (
-      omega arith,
-      terms-more (b .powers .now) (coefficients (b .columns .now) (b .r)) (l .t) (l .inv .1) (c .add-product .ensures),
-    )
+    let l = c .before .before .before .before .before in
+    let a = l .before .args in
+    let w = coefficients (a .columns .now) (a .r) in
+    (omega arith, terms-more (a .powers .now) w (l .loop .t) (l .loop .inv .1) (c .add-product .ensures))
 
 fold-row-requires : tie.Need-fold-row-requires Inv-loop μ-loop
 fold-row-requires c κs =
     let b = c .before .before in
-    let l = c .before .loop in (
-      b .pre .0,
-      λ j k. terms-row (b .pre .0 .most) (b .pre .2) (residues (b .args .r) (b .pre .1)) (l .t) (omega arith)
-          (l .inv .1) .small j,
-    )
+    let l = c .before .loop in
+    let w = residues (b .args .r) (b .pre .1) in
+    (b .pre .0, λ j k. terms-row (b .pre .0 .most) (b .pre .2) w (l .t) (omega arith) (l .inv .1) .small j)
 
 returns : tie.Need-returns Inv-loop μ-loop
 returns c =
-    let b = c .before .before .before in
+    let s = c .before .before .before in
     let l = c .before .before .loop in
-    let a = b .args in
-    let z : 0 < a .p = omega (arith, b .pre .0 .least) in
-    let e : l .t ≡ suc (a .d) = omega arith in (
-      result-row _ z (c .fold-row .ensures),
-      λ x y F C P. row-values-are (a .columns .now) x y F z (b .pre .3) C
-          (terms-values (coefficients (a .columns .now) (a .r)) y z P (rw e at (l .inv .1)) (c .fold-row .ensures)),
+    let a = s .args in
+    let z : 0 < a .p = omega (arith, s .pre .0 .least) in
+    let e : l .t ≡ suc (a .d) = omega arith in
+    let f = c .fold-row .ensures in (
+      result-row _ z f,
+      λ x y F C P. row-values-are (a .columns .now) x y F z (s .pre .3) C
+          (terms-values (coefficients (a .columns .now) (a .r)) y z P (rw e at (l .inv .1)) f),
     )
 
 pub row-values-spec : {M : Type 1} → statement M
-row-values-spec =
-    tie.close
-    (tie.spec
-    Inv-loop
-    μ-loop
-    loop-holds
+row-values-spec = tie.close (tie.spec Inv-loop μ-loop
+    (λ c. (omega arith, terms-none (c .args .powers .now) (coefficients (c .args .columns .now) (c .args .r))))
     (λ c. search needs) (λ c. search needs) (λ c. search needs) (λ c. search needs) (λ c. search needs) (λ c. search needs)
-    add-product-requires
-    (λ c. search needs) (λ c. search needs)
-    loop-again
-    fold-row-requires
-    returns)
+    add-product-requires (λ c. search needs) (λ c. search needs) loop-again fold-row-requires returns)

@@ -1,5 +1,5 @@
--- `polynomial::evaluation::add_product` meets its contract:
--- the sums before j have their product added, the others are as they were. Assumes nothing.
+-- `polynomial::evaluation::add_product` meets its contract: the sums before j have their product added, the others are as they
+-- were. Assumes nothing.
 use mathlib.Core.Path.{_≡_, refl, ap}
 use Prim.Native.Nat.{ℕ, _+_, _*_, _-_, _≤_, _<_}
 use native.Mathlib.Omega.{arith}
@@ -22,47 +22,36 @@ Inv-loop sum₀ c v j₀ sum j =
 abbrev μ-loop : tie.MeasureT-loop
 μ-loop sum₀ c v j₀ sum j = 16 - j
 
-loop-holds : tie.Need-loop-holds Inv-loop μ-loop
-loop-holds c = (omega arith, record { size = c .pre .0 .size; done = λ j k. absurd (omega arith); todo = λ j _ _. refl })
+-- the sum at j is as it was, and has room for the product
+module _ (c : tie.In-loop Inv-loop μ-loop) where
+  abbrev start : tie.Start Inv-loop μ-loop
+  start = c .before .before
 
-mul-sum-2 : tie.Need-mul-sum-2 Inv-loop μ-loop
-mul-sum-2 c =
-    let b = c .before .before .before .pre in
-    omega (arith, product-small (b .1) (b .2 .small (c .before .before .loop .j)))
+  abbrev j : ℕ
+  j = c .before .loop .j
 
-add-sum : tie.Need-add-sum Inv-loop μ-loop
-add-sum c =
-    let b = c .before .before .before .before .pre in
-    let l = c .before .before .before .loop in
-    omega (
-      arith,
-      l .inv .1 .todo (l .j) (omega arith) (omega arith),
-      b .0 .small (l .j),
-      product-small (b .1) (b .2 .small (l .j)),
-    )
+  as-it-was : at (c .before .loop .sum) j ≡ at (start .args .sum .now) j
+  as-it-was = c .before .loop .inv .1 .todo j (omega arith) (omega arith)
+
+  fits : at (c .before .loop .sum) j + start .args .c * at (start .args .v .now) j ≤ 16777215 + 65025
+  fits = omega (arith, as-it-was, start .pre .0 .small j, product-small (start .pre .1) (start .pre .2 .small j))
 
 loop-again : tie.Need-loop-again Inv-loop μ-loop
 loop-again c =
-    let b = c .before .before .before .before .args in
-    let l = c .before .before .before .loop in
-    let as-it-was = l .inv .1 .todo (l .j) (omega arith) (omega arith) in
-    (omega arith, passed-step _ (omega arith) (ap (λ s. s + b .c * at (b .v .now) (l .j)) as-it-was) (l .inv .1))
+    let l = c .before .before in
+    let a = start l .args in
+    let e = ap (λ s. s + a .c * at (a .v .now) (j l)) (as-it-was l) in
+    (omega arith, passed-step _ (omega arith) e (l .before .loop .inv .1))
 
 returns : tie.Need-returns Inv-loop μ-loop
 returns c = let u = c .before .loop .inv .1 in tab-is 16 _ (c .before .loop .sum) (u .size) λ j k. u .done j (omega arith)
 
 pub add-product-spec : {M : Type 1} → statement M
-add-product-spec =
-    tie.close
-    (tie.spec
-    Inv-loop
-    μ-loop
-    loop-holds
+add-product-spec = tie.close (tie.spec Inv-loop μ-loop
+    (λ c. (omega arith, record { size = c .pre .0 .size; done = λ j k. absurd (omega arith); todo = λ j _ _. refl }))
     (λ c. search needs) (λ c. search needs)
-    (λ c. omega (arith, c .before .before .before .pre .2 .small (c .before .before .loop .j)))
-    mul-sum-2
+    (λ c. omega (arith, start (c .before) .pre .2 .small (c .before .before .loop .j)))
+    (λ c. omega (arith, fits (c .before)))
     (λ c. search needs) (λ c. search needs)
-    add-sum
-    (λ c. search needs) (λ c. search needs) (λ c. search needs)
-    loop-again
-    returns)
+    (λ c. omega (arith, fits (c .before .before)))
+    (λ c. search needs) (λ c. search needs) (λ c. search needs) loop-again returns)

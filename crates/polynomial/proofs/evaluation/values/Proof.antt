@@ -16,9 +16,6 @@ Inv-loop powers k p m w sum₀ i₀ sum i = (i ≤ k + 1) × (sum ≡ row (terms
 abbrev μ-loop : tie.MeasureT-loop
 μ-loop powers k p m w sum₀ i₀ sum i = k + 1 - i
 
-loop-holds : tie.Need-loop-holds Inv-loop μ-loop
-loop-holds c = (omega arith, terms-none (c .args .powers .now) (at (c .args .t3)))
-
 add-product-requires : tie.Need-add-product-requires Inv-loop μ-loop
 add-product-requires c κs =
     let b = c .before .before .before .before .pre in
@@ -27,9 +24,9 @@ add-product-requires c κs =
 
 loop-again : tie.Need-loop-again Inv-loop μ-loop
 loop-again c =
-    let b = c .before .before .before .before .before .args in
+    let a = c .before .before .before .before .before .args in
     let l = c .before .before .before .before .loop in
-    (omega arith, terms-more (b .powers .now) (at (b .t3)) (l .i) (l .inv .1) (c .add-product .ensures))
+    (omega arith, terms-more (a .powers .now) (at (a .t3)) (l .i) (l .inv .1) (c .add-product .ensures))
 
 fold-row-requires : tie.Need-fold-row-requires Inv-loop μ-loop
 fold-row-requires c κs =
@@ -39,24 +36,15 @@ fold-row-requires c κs =
 
 returns : tie.Need-returns Inv-loop μ-loop
 returns c =
-    let b = c .before .before .before in
+    let s = c .before .before .before in
     let l = c .before .before .loop in
-    let z : 0 < b .args .p = omega (arith, b .pre .0 .least) in
-    let e : l .i ≡ suc (b .args .k) = omega arith in (
-      result-row _ z (c .fold-row .ensures),
-      λ x P. terms-values (at (b .args .t3)) x z P (rw e at (l .inv .1)) (c .fold-row .ensures),
-    )
+    let z : 0 < s .args .p = omega (arith, s .pre .0 .least) in
+    let e : l .i ≡ suc (s .args .k) = omega arith in
+    let f = c .fold-row .ensures in
+    (result-row _ z f, λ x P. terms-values (at (s .args .t3)) x z P (rw e at (l .inv .1)) f)
 
 pub values-spec : {M : Type 1} → statement M
-values-spec =
-    tie.close
-    (tie.spec
-    Inv-loop
-    μ-loop
-    loop-holds
-    (λ c. search needs) (λ c. search needs) (λ c. search needs) (λ c. search needs)
-    add-product-requires
-    (λ c. search needs) (λ c. search needs)
-    loop-again
-    fold-row-requires
-    returns)
+values-spec = tie.close (tie.spec Inv-loop μ-loop
+    (λ c. (omega arith, terms-none (c .args .powers .now) (at (c .args .t3))))
+    (λ c. search needs) (λ c. search needs) (λ c. search needs) (λ c. search needs) add-product-requires (λ c. search needs)
+    (λ c. search needs) loop-again fold-row-requires returns)

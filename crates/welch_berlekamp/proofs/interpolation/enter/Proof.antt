@@ -1,160 +1,108 @@
--- `welch_berlekamp::interpolation::enter` meets its contract:
--- four returns, by the pair that is used and whether it is 0 at the cell. Assumes nothing.
-use Prim.Native.Nat.{_≤_, _<_}
+-- `welch_berlekamp::interpolation::enter` meets its contract: four returns, by the pair that is used and whether it is 0 at the
+-- cell. Assumes nothing.
+use mathlib.Core.List.{List}
+use Prim.Native.Nat.{ℕ, _≤_, _<_}
 use native.Mathlib.Omega.{arith}
 use Rattle.bounded.specs.Bounded.{at}
-use Rattle.field.specs.Row.{Row}
+use Rattle.field.specs.Row.{Row, Reciprocal}
 use Rattle.field.proofs.Row.{result-row}
+use Rattle.welch_berlekamp.specs.Pairs.{pairs, Shaped}
 use Rattle.welch_berlekamp.proofs.State.{first-grew, first-kept, second-grew, second-kept}
 use borrow.Author.Needs.{needs}
 use Rattle.welch_berlekamp.proofs.interpolation.enter.Statement.{statement}
 use Rattle.welch_berlekamp.proofs.interpolation.enter.Tie as tie
 
-positive : (c : tie.Start) → 0 < c .args .p
-positive c = omega (arith, c .pre .0 .least)
-
 inside : (c : tie.Start) → at (c .args .t8) (c .args .r) ≤ c .args .p
 inside c = omega (arith, c .pre .3 .small (c .args .r))
 
--- the differences to the cell's point
-differences : (c : tie.After-shift) → Row (c .before .args .p) (c .shift .result)
-differences c = result-row _ (positive (c .before)) (c .shift .ensures)
+-- both values are read, and the cases part
+module _ (c : tie.After-row-known2) where
+  abbrev shifted : tie.After-shift
+  shifted = c .before .before .before .before
 
-multiply-requires : tie.Need-multiply-requires
-multiply-requires c κs =
-    let after-shift = c .before .before .before .before .before .before .before in
-    let b = after-shift .before .pre in
-    (b .0, b .2 .d2, differences after-shift)
+  abbrev start : tie.Start
+  start = shifted .before
 
-multiply-requires-2 : tie.Need-multiply-requires-2
-multiply-requires-2 c κs =
-    let after-shift = c .before .before .before .before .before .before .before .before .before in
-    let b = after-shift .before .pre in
-    (b .0, b .2 .e2, differences after-shift)
+  abbrev p : ℕ
+  p = start .args .p
+
+  shaped : let a = start .args in
+      Shaped p (pairs (a .d1 .now) (a .e1 .now) (a .d2 .now) (a .e2 .now) (a .a .now) (a .b .now) (a .entered .now))
+  shaped = start .pre .2
+
+  positive : 0 < p
+  positive = omega (arith, start .pre .0 .least)
+
+  differences : Row p (shifted .shift .result)
+  differences = result-row _ positive (shifted .shift .ensures)
+
+  -- what a product with the differences asks, and what a step by a multiple v
+  times : {f : List ℕ} → Row p f → Reciprocal p (start .args .m) × Row p f × Row p (shifted .shift .result)
+  times f = (start .pre .0, f, differences)
+
+  step : {v : ℕ} {f g : List ℕ} → v < p → Row p f → Row p g →
+      Reciprocal p (start .args .m) × Row p f × Row p g × Row p (shifted .shift .result) × (v ≤ p)
+  step l f g = (start .pre .0, f, g, differences, omega arith)
 
 returns : tie.Need-returns
 returns c =
-    let after-test = c .before .before .before .before in
-    let after-shift = after-test .before .before .before .before .before .before in
-    let start = after-shift .before in
-    first-kept (positive start) (inside start) (after-shift .shift .ensures) (start .pre .2) (after-test .if2 .taken)
+    let test = c .before .before .before .before in
+    let b = test .before .before in
+    first-kept (positive b) (inside (start b)) (shifted b .shift .ensures) (shaped b) (test .if2 .taken)
     (c .before .before .multiply .ensures) (c .multiply2 .ensures)
-
-ratio-requires : tie.Need-ratio-requires
-ratio-requires c κs =
-    let b = c .before .before .before .before .before .before .before .pre in
-    (b .0, b .1, b .2 .d2 .small _, omega (arith, c .if2 .left), b .2 .d1 .small _)
-
-advance-requires : tie.Need-advance-requires
-advance-requires c κs =
-    let after-ratio = c .before .before in
-    let after-shift = after-ratio .before .before .before .before .before .before .before in
-    let b = after-shift .before .pre in
-    (b .0, b .2 .d2, b .2 .d1, differences after-shift, omega (arith, after-ratio .ratio .ensures .below))
-
-advance-requires-2 : tie.Need-advance-requires-2
-advance-requires-2 c κs =
-    let after-ratio = c .before .before .before .before .before in
-    let after-shift = after-ratio .before .before .before .before .before .before .before in
-    let b = after-shift .before .pre in
-    (b .0, b .2 .e2, b .2 .e1, differences after-shift, omega (arith, after-ratio .ratio .ensures .below))
-
-add-a : tie.Need-add-a
-add-a c = omega (
-  arith,
-  c .before .before .before .before .before .before .before .before .before .before .before .before .before .before .pre .6,
-)
 
 returns-2 : tie.Need-returns-2
 returns-2 c =
-    let d = c .before .before .before .advance .ensures in
-    let e = c .advance2 .ensures in
-    let after-ratio = c .before .before .before .before .before .before in
-    let after-test = after-ratio .before .before in
-    let after-shift = after-test .before .before .before .before .before in
-    let start = after-shift .before in
-    first-grew (positive start) (inside start) (after-shift .shift .ensures) (start .pre .2) (after-ratio .ratio .result)
-    (after-test .if1 .taken) (after-ratio .ratio .ensures) (d .0) (e .0) (d .1) (e .1)
-
-multiply-requires-3 : tie.Need-multiply-requires-3
-multiply-requires-3 c κs =
-    let after-shift = c .before .before .before .before .before .before .before in
-    let b = after-shift .before .pre in
-    (b .0, b .2 .d1, differences after-shift)
-
-multiply-requires-4 : tie.Need-multiply-requires-4
-multiply-requires-4 c κs =
-    let after-shift = c .before .before .before .before .before .before .before .before .before in
-    let b = after-shift .before .pre in
-    (b .0, b .2 .e1, differences after-shift)
+    let d = c .before .before .before in
+    let r = d .before .before .before in
+    let b = r .before .before .before in
+    first-grew (positive b) (inside (start b)) (shifted b .shift .ensures) (shaped b) (r .ratio .result)
+    (r .before .before .if1 .taken) (r .ratio .ensures) (d .advance .ensures .0) (c .advance2 .ensures .0)
+    (d .advance .ensures .1) (c .advance2 .ensures .1)
 
 returns-3 : tie.Need-returns-3
 returns-3 c =
-    let after-test = c .before .before .before .before in
-    let after-shift = after-test .before .before .before .before .before .before in
-    let start = after-shift .before in
-    second-kept (positive start) (inside start) (after-shift .shift .ensures) (start .pre .2) (after-test .if3 .taken)
+    let test = c .before .before .before .before in
+    let b = test .before .before in
+    second-kept (positive b) (inside (start b)) (shifted b .shift .ensures) (shaped b) (test .if3 .taken)
     (c .before .before .multiply3 .ensures) (c .multiply4 .ensures)
-
-ratio-requires-2 : tie.Need-ratio-requires-2
-ratio-requires-2 c κs =
-    let b = c .before .before .before .before .before .before .before .pre in
-    (b .0, b .1, b .2 .d1 .small _, omega (arith, c .if3 .left), b .2 .d2 .small _)
-
-advance-requires-3 : tie.Need-advance-requires-3
-advance-requires-3 c κs =
-    let after-ratio = c .before .before in
-    let after-shift = after-ratio .before .before .before .before .before .before .before in
-    let b = after-shift .before .pre in
-    (b .0, b .2 .d1, b .2 .d2, differences after-shift, omega (arith, after-ratio .ratio2 .ensures .below))
-
-advance-requires-4 : tie.Need-advance-requires-4
-advance-requires-4 c κs =
-    let after-ratio = c .before .before .before .before .before in
-    let after-shift = after-ratio .before .before .before .before .before .before .before in
-    let b = after-shift .before .pre in
-    (b .0, b .2 .e1, b .2 .e2, differences after-shift, omega (arith, after-ratio .ratio2 .ensures .below))
-
-add-b-2 : tie.Need-add-b-2
-add-b-2 c = omega (
-  arith,
-  c .before .before .before .before .before .before .before .before .before .before .before .before .before .before .pre .6,
-)
 
 returns-4 : tie.Need-returns-4
 returns-4 c =
-    let d = c .before .before .before .advance3 .ensures in
-    let e = c .advance4 .ensures in
-    let after-ratio = c .before .before .before .before .before .before in
-    let after-test = after-ratio .before .before in
-    let after-shift = after-test .before .before .before .before .before in
-    let start = after-shift .before in
-    second-grew (positive start) (inside start) (after-shift .shift .ensures) (start .pre .2) (after-ratio .ratio2 .result)
-    (after-test .if1 .left) (after-ratio .ratio2 .ensures) (d .0) (e .0) (d .1) (e .1)
+    let d = c .before .before .before in
+    let r = d .before .before .before in
+    let b = r .before .before .before in
+    second-grew (positive b) (inside (start b)) (shifted b .shift .ensures) (shaped b) (r .ratio2 .result)
+    (r .before .before .if1 .left) (r .ratio2 .ensures) (d .advance3 .ensures .0) (c .advance4 .ensures .0)
+    (d .advance3 .ensures .1) (c .advance4 .ensures .1)
 
 pub enter-spec : {M : Type 1} → statement M
-enter-spec =
-    tie.close
-    (tie.spec
+enter-spec = tie.close (tie.spec
     (λ c. search needs) (λ c. search needs) (λ c. search needs) (λ c. search needs)
     (λ c. inside c)
     (λ c κs. search needs) (λ c. search needs) (λ c. search needs) (λ c. search needs) (λ c. search needs)
-    (λ c. omega (arith, c .before .before .before .before .before .pre .5, c .before .before .before .before .before .pre .6))
-    multiply-requires
-    multiply-requires-2
-    (λ c. omega (arith, c .before .before .before .before .before .before .before .before .before .before .before .pre .6))
+    (λ c. omega (arith, start c .pre .5, start c .pre .6))
+    (λ c κs. let b = c .before .before .before in times b (shaped b .d2))
+    (λ c κs. let b = c .before .before .before .before .before in times b (shaped b .e2))
+    (λ c. omega (arith, start (c .before .before .before .before .before .before) .pre .6))
     returns
-    ratio-requires
-    advance-requires
-    advance-requires-2
-    add-a
+    (λ c κs. let b = c .before .before in
+    (start b .pre .0, start b .pre .1, shaped b .d2 .small _, omega (arith, c .if2 .left), shaped b .d1 .small _))
+    (λ c κs. let r = c .before .before in let b = r .before .before .before in
+    step b (r .ratio .ensures .below) (shaped b .d2) (shaped b .d1))
+    (λ c κs. let r = c .before .before .before .before .before in let b = r .before .before .before in
+    step b (r .ratio .ensures .below) (shaped b .e2) (shaped b .e1))
+    (λ c. let r = c .before .before .before .before .before .before in omega (arith, start (r .before .before .before) .pre .6))
     returns-2
-    multiply-requires-3
-    multiply-requires-4
-    (λ c. omega (arith, c .before .before .before .before .before .before .before .before .before .before .before .pre .6))
+    (λ c κs. let b = c .before .before .before in times b (shaped b .d1))
+    (λ c κs. let b = c .before .before .before .before .before in times b (shaped b .e1))
+    (λ c. omega (arith, start (c .before .before .before .before .before .before) .pre .6))
     returns-3
-    ratio-requires-2
-    advance-requires-3
-    advance-requires-4
-    add-b-2
+    (λ c κs. let b = c .before .before in
+    (start b .pre .0, start b .pre .1, shaped b .d1 .small _, omega (arith, c .if3 .left), shaped b .d2 .small _))
+    (λ c κs. let r = c .before .before in let b = r .before .before .before in
+    step b (r .ratio2 .ensures .below) (shaped b .d1) (shaped b .d2))
+    (λ c κs. let r = c .before .before .before .before .before in let b = r .before .before .before in
+    step b (r .ratio2 .ensures .below) (shaped b .e1) (shaped b .e2))
+    (λ c. let r = c .before .before .before .before .before .before in omega (arith, start (r .before .before .before) .pre .6))
     returns-4)

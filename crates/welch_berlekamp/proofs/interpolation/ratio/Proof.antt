@@ -22,11 +22,7 @@ returns c =
     (start .pre .1 .each (start .args .b) (start .pre .3) (start .pre .4)) (c .reduce .ensures .0) (c .reduce .ensures .1)
 
 pub ratio-spec : {M : Type 1} → statement M
-ratio-spec =
-    tie.close
-    (tie.spec
+ratio-spec = tie.close (tie.spec
     (λ c. search needs) (λ c. search needs)
     (λ c. omega (arith, c .pre .1 .size, c .pre .0 .most))
-    mul-reduce-2
-    (λ c κs. search needs)
-    returns)
+    mul-reduce-2 (λ c κs. search needs) returns)

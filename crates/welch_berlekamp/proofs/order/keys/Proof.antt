@@ -16,9 +16,6 @@ Inv-loop n u out₀ j₀ out j = (j ≤ n) × Upto 16 0 (λ i v. v ≡ key j (at
 abbrev μ-loop : tie.MeasureT-loop
 μ-loop n u out₀ j₀ out j = n - j
 
-loop-holds : tie.Need-loop-holds Inv-loop μ-loop
-loop-holds c = (omega arith, keys-start _)
-
 add-out : tie.Need-add-out Inv-loop μ-loop
 add-out c =
     let start = c .before .before in
@@ -26,30 +23,19 @@ add-out c =
 
 loop-again : tie.Need-loop-again Inv-loop μ-loop
 loop-again c =
-    let at-loop = c .before in
-    let start = at-loop .before in
-    (omega arith, keys-more (at (start .args .t2)) (at-loop .loop .j) (omega (arith, start .pre .0)) (at-loop .loop .inv .1))
+    let l = c .before .loop in
+    (omega arith, keys-more (at (c .before .before .args .t2)) (l .j) (omega (arith, c .before .before .pre .0)) (l .inv .1))
 
 returns : tie.Need-returns Inv-loop μ-loop
-returns c =
-    let at-loop = c .before in
-    let e : at-loop .loop .j ≡ at-loop .before .args .n = omega arith in upto-row (rw e at (at-loop .loop .inv .1))
+returns c = let e : c .before .loop .j ≡ c .before .before .args .n = omega arith in upto-row (rw e at (c .before .loop .inv .1))
 
 pub keys-spec : {M : Type 1} → statement M
-keys-spec =
-    tie.close
-    (tie.spec
-    Inv-loop
-    μ-loop
-    loop-holds
-    (λ c. omega (arith, c .before .before .pre .0))
-    (λ c. omega (arith, c .before .before .pre .0))
+keys-spec = tie.close (tie.spec Inv-loop μ-loop
+    (λ c. (omega arith, keys-start _))
+    (λ c. omega (arith, c .before .before .pre .0)) (λ c. omega (arith, c .before .before .pre .0))
     (λ c. omega (arith, c .before .before .pre .1 (c .before .loop .j) (c .loop-test .taken)))
     (λ c. omega (arith, c .before .before .pre .0))
     add-out
+    (λ c. omega (arith, c .before .before .pre .0)) (λ c. omega (arith, c .before .before .pre .0))
     (λ c. omega (arith, c .before .before .pre .0))
-    (λ c. omega (arith, c .before .before .pre .0))
-    (λ c. omega (arith, c .before .before .pre .0))
-    (λ c. omega arith)
-    loop-again
-    returns)
+    (λ c. omega arith) loop-again returns)

@@ -14,9 +14,6 @@ Inv-loop keys best₀ j₀ best j = (j ≤ 16) × Least j keys best
 abbrev μ-loop : tie.MeasureT-loop
 μ-loop keys best₀ j₀ best j = 16 - j
 
-loop-holds : tie.Need-loop-holds Inv-loop μ-loop
-loop-holds c = (omega arith, least-start)
-
 loop-again : tie.Need-loop-again Inv-loop μ-loop
 loop-again c = (omega arith, least-more (c .before .before .loop .inv .1) (c .lower .ensures))
 
@@ -24,14 +21,8 @@ returns : tie.Need-returns Inv-loop μ-loop
 returns c = let e : c .before .loop .j ≡ 16 = omega arith in rw e at (c .before .loop .inv .1)
 
 pub least-spec : {M : Type 1} → statement M
-least-spec =
-    tie.close
-    (tie.spec
-    Inv-loop
-    μ-loop
-    loop-holds
+least-spec = tie.close (tie.spec Inv-loop μ-loop
+    (λ c. (omega arith, least-start))
     (λ c. search needs) (λ c. search needs)
     (λ c κs. (c .before .before .pre (c .before .loop .j), c .before .loop .inv .1 .most))
-    (λ c. search needs) (λ c. search needs)
-    loop-again
-    returns)
+    (λ c. search needs) (λ c. search needs) loop-again returns)

@@ -1,5 +1,5 @@
 -- `welch_berlekamp::order::lower` meets its contract: numbers below 2^31 compare as signed ones do. Assumes nothing.
-use mathlib.Core.Path.{_≡_, refl, sym, _∙_}
+use mathlib.Core.Path.{_≡_, sym, _∙_}
 use Prim.Native.Nat.{ℕ, _≤_}
 use native.Mathlib.Omega.{arith}
 use lib.Dec.{ltb}
