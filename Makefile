@@ -23,7 +23,8 @@ LIBRARIES = $(patsubst %/src/lib.rt,%,$(wildcard crates/*/src/lib.rt))
 
 ## make example         MEASURED      MEASURED        reads a tray end to end by the program: case c of document 01
 example: program
-	target/bin/trayread < crates/trayread/stdin
+	target/bin/trayread < crates/trayread/stdin | tee target/example.printed
+	diff crates/trayread/stdout target/example.printed
 
 ## make program         MEASURED      MEASURED        the proved program: target/bin/trayread
 program: target/stamp/trayread
@@ -42,15 +43,19 @@ target/staticlib/libtraymark.a: $(call read_by,$(LIBRARIES))
 	rt staticlib traymark
 
 ## make tests           MEASURED      MEASURED        the calls and the program against an independent decoder, from Rust and C;
-##                                                    the benchmark's ports and the example in C
+##                                                    the wrapper's own tests, the benchmark's ports and the two examples
 tests: lib program
 	$(CARGO) run --quiet --release -p traymark-tests --bin calls
 	$(CARGO) run --quiet --release -p traymark-tests --bin program target/bin/trayread
 	$(CARGO) run --quiet --release -p traymark-bench check
+	$(CARGO) test --quiet --release -p traymark
 	$(CC11) tests/c/calls.c target/staticlib/libtraymark.a -o target/calls_c
 	target/calls_c
 	$(CC11) examples/read_case_c.c target/staticlib/libtraymark.a -o target/read_case_c
-	target/read_case_c
+	target/read_case_c | tee target/read_case_c.printed
+	diff examples/read_case_c.stdout target/read_case_c.printed
+	$(CARGO) run --quiet --release -p traymark --example read_case_c | tee target/read_case_c.printed
+	diff examples/read_case_c.stdout target/read_case_c.printed
 
 ## make bench           MEASURED      MEASURED        times beside the same method in Rust and the independent decoder; no test
 bench: lib
