@@ -1,5 +1,5 @@
 # The gate and what a user runs. Everything is built below target/.
-.PHONY: bench example help lib program test tests
+.PHONY: bench example help lib program quick test tests
 
 # rt proves crates side by side by itself; two runs of it at a time would write the same files.
 .NOTPARALLEL:
@@ -61,11 +61,15 @@ tests: lib program
 bench: lib
 	$(CARGO) run --quiet --release -p traymark-bench
 
-## make test            MEASURED      the same        THE GATE: layout, every proof from nothing, every wrong program, which
+## make quick           MEASURED      MEASURED        what needs no proof: layout, and lines of at most 130 columns
+quick:
+	rt fmt --check
+	tools/columns
+
+## make test            MEASURED      the same        THE GATE: `quick`, every proof from nothing, every wrong program, which
 ##                                                    must be refused, and `tests`; its last line is 'N passed, 0 failed'
 # `rt ci` removes target/ first, so .verdict stands beside it.
-test:
-	rt fmt --check
+test: quick
 	rt ci 2>&1 | tee .verdict
 	$(MAKE) --no-print-directory tests
 	tail -n 1 .verdict
