@@ -1,5 +1,5 @@
 # The gate and what a user runs. Everything is built below target/.
-.PHONY: bench example help lib program quick test tests
+.PHONY: bench example help lib program quick test tests wrong-programs
 
 # rt proves crates side by side by itself; two runs of it at a time would write the same files.
 .NOTPARALLEL:
@@ -66,10 +66,19 @@ quick:
 	rt fmt --check
 	tools/columns
 
+## make wrong-programs  after a gate  MEASURED        writes docs/WRONG-PROGRAMS.md from what the last gate's prover said
+wrong-programs:
+	mkdir -p target
+	tools/wrong-programs > target/WRONG-PROGRAMS.md
+	cp target/WRONG-PROGRAMS.md docs/WRONG-PROGRAMS.md
+
 ## make test            MEASURED      the same        THE GATE: `quick`, every proof from nothing, every wrong program, which
 ##                                                    must be refused, and `tests`; its last line is 'N passed, 0 failed'
 # `rt ci` removes target/ first, so .verdict stands beside it.
 test: quick
 	rt ci 2>&1 | tee .verdict
+	tools/wrong-programs > target/WRONG-PROGRAMS.md
+	diff -u docs/WRONG-PROGRAMS.md target/WRONG-PROGRAMS.md \
+	|| { echo 'docs/WRONG-PROGRAMS.md is not what the prover said: make wrong-programs writes it anew'; exit 1; }
 	$(MAKE) --no-print-directory tests
 	tail -n 1 .verdict
