@@ -61,10 +61,12 @@ tests: lib program
 bench: lib
 	$(CARGO) run --quiet --release -p traymark-bench
 
-## make quick           MEASURED      MEASURED        what needs no proof: layout, and lines of at most 130 columns
+## make quick           MEASURED      MEASURED        what needs no proof: layout, lines of at most 130 columns, and that what
+##                                                    the documents name is there
 quick:
 	rt fmt --check
 	tools/columns
+	tools/index
 
 ## make wrong-programs  after a gate  MEASURED        writes docs/WRONG-PROGRAMS.md from what the last gate's prover said
 wrong-programs:
