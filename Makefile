@@ -1,41 +1,86 @@
 # The gate and what a user runs. Everything is built below target/.
-.PHONY: bench example lib program test tests
+.PHONY: bench example help lib program quick test tests wrong-programs
+
+# rt proves crates side by side by itself; two runs of it at a time would write the same files.
+.NOTPARALLEL:
 
 CARGO = cargo --offline
+CC11 = cc -std=c11 -Wall -Wextra -Werror -Iinclude
 
 # a command that fails fails its pipe
 SHELL = /bin/bash
 .SHELLFLAGS = -eu -o pipefail -c
 
-# Reads a tray end to end: case c of document 01, by the program.
+# The lines that begin with ## are the list.
+##                      from nothing  nothing changed
+## make help                                          this list
+help:
+	@sed -n 's/^## \{0,1\}//p' Makefile
+
+# What a proof reads: the files of crates, and the toolchain. Make goes by their times, rt by what is in them.
+read_by = $(shell find $(1) -path '*/must-fail' -prune -o -type f -print) crates.txt $(shell command -v rt)
+LIBRARIES = $(patsubst %/src/lib.rt,%,$(wildcard crates/*/src/lib.rt))
+
+## make example         MEASURED      MEASURED        reads a tray end to end by the program: case c of document 01
 example: program
-	target/bin/trayread < crates/trayread/stdin
+	target/bin/trayread < crates/trayread/stdin | tee target/example.printed
+	diff crates/trayread/stdout target/example.printed
 
-# The proved program: target/bin/trayread.
-program:
+## make program         MEASURED      MEASURED        the proved program: target/bin/trayread
+program: target/stamp/trayread
+
+# rt writes this stamp once the program is proved, has run, and has printed what crates/trayread/stdout has.
+target/stamp/trayread: $(call read_by,$(LIBRARIES) crates/trayread)
 	rt check trayread
+	touch $@
 
-# The proved library for C and Rust: target/staticlib/libtraymark.a.
-lib:
+## make lib             MEASURED      MEASURED        the proved library for C and Rust: target/staticlib/libtraymark.a
+lib: target/staticlib/libtraymark.a
+
+# After `rt ci` this proves the crate traymark once more, and only that: an archive is built by the run that proves its crate as
+# one. The toolchain takes neither the crate's rlib nor a check of it as a library of other crates in the place of that proof.
+target/staticlib/libtraymark.a: $(call read_by,$(LIBRARIES))
 	rt staticlib traymark
 
-# Every call and the program against an independent decoder, from Rust and from C; the benchmark's ports too; and the two examples.
+## make tests           MEASURED      MEASURED        the calls and the program against an independent decoder, from Rust and C;
+##                                                    the wrapper's own tests, the benchmark's ports and the two examples
 tests: lib program
 	$(CARGO) run --quiet --release -p traymark-tests --bin calls
 	$(CARGO) run --quiet --release -p traymark-tests --bin program target/bin/trayread
 	$(CARGO) run --quiet --release -p traymark-bench check
-	cc -std=c11 -Wall -Wextra -Werror -Iinclude tests/c/calls.c target/staticlib/libtraymark.a -o target/calls_c
+	$(CARGO) test --quiet --release -p traymark
+	$(CC11) tests/c/calls.c target/staticlib/libtraymark.a -o target/calls_c
 	target/calls_c
-	cc -std=c11 -Wall -Wextra -Werror -Iinclude examples/read_case_c.c target/staticlib/libtraymark.a -o target/read_case_c
-	target/read_case_c
+	$(CC11) examples/read_case_c.c target/staticlib/libtraymark.a -o target/read_case_c
+	target/read_case_c | tee target/read_case_c.printed
+	diff examples/read_case_c.stdout target/read_case_c.printed
+	$(CARGO) run --quiet --release -p traymark --example read_case_c | tee target/read_case_c.printed
+	diff examples/read_case_c.stdout target/read_case_c.printed
 
-# Times beside the same method in Rust and the independent decoder; not a test.
+## make bench           MEASURED      MEASURED        times beside the same method in Rust and the independent decoder; no test
 bench: lib
 	$(CARGO) run --quiet --release -p traymark-bench
 
-# The whole gate. `rt ci` proves everything from nothing; then come the tests, over the library that it proved; its last line is told last.
-test:
+## make quick           MEASURED      MEASURED        what needs no proof: layout, lines of at most 130 columns, and that what
+##                                                    the documents name is there
+quick:
 	rt fmt --check
+	tools/columns
+	tools/index
+
+## make wrong-programs  after a gate  MEASURED        writes docs/WRONG-PROGRAMS.md from what the last gate's prover said
+wrong-programs:
+	mkdir -p target
+	tools/wrong-programs > target/WRONG-PROGRAMS.md
+	cp target/WRONG-PROGRAMS.md docs/WRONG-PROGRAMS.md
+
+## make test            MEASURED      the same        THE GATE: `quick`, every proof from nothing, every wrong program, which
+##                                                    must be refused, and `tests`; its last line is 'N passed, 0 failed'
+# `rt ci` removes target/ first, so .verdict stands beside it.
+test: quick
 	rt ci 2>&1 | tee .verdict
+	tools/wrong-programs > target/WRONG-PROGRAMS.md
+	diff -u docs/WRONG-PROGRAMS.md target/WRONG-PROGRAMS.md \
+	|| { echo 'docs/WRONG-PROGRAMS.md is not what the prover said: make wrong-programs writes it anew'; exit 1; }
 	$(MAKE) --no-print-directory tests
 	tail -n 1 .verdict

@@ -1,5 +1,6 @@
-//! The cases of the program `example_strips`: `strips input` writes its standard input, strips at costs R - 1, R and R + 1, and `strips
-//! output` what it must print, by the independent decoder. `crates/example_strips` keeps both as its files stdin and stdout.
+//! The cases of the program `example_strips`: `strips input` writes its standard input, strips at costs R - 1, R and R + 1,
+//! and `strips output` what it must print, by the independent decoder. `crates/example_strips` keeps both as its files stdin and
+//! stdout.
 
 use independent::{read, write, Code, Plan, UNREAD};
 use std::io::Write;
