@@ -33,8 +33,8 @@ change-to-powers-spec =
     (omega arith, omega arith, l .inv .1 .done (start .args .d) (omega (arith, start .pre .3)), l .inv .1))
     (λ c. search needs) (λ c. search needs) (λ c. search needs) (λ c. search needs) (λ c. search needs) (λ c. search needs)
     (λ c.
-    let k = c .before .before .loop2 .j - 1 - c .before .before .before .before .before .loop .i in
-    omega (arith, c .before .before .before .before .before .before .pre .2 .small k))
+    let outer = c .before .before .before .before .before in
+    omega (arith, outer .before .pre .2 .small (c .before .before .loop2 .j - 1 - outer .loop .i)))
     (λ c κs.
     let l = c .before .before .loop2 in
     let start = c .before .before .before .before .before .before in

@@ -31,19 +31,22 @@ divide-differences-spec =
     (omega arith, omega arith, l .inv .1 .done (l .k) (omega (arith, c .before .before .before .pre .4)), l .inv .1))
     (λ c. search needs) (λ c. search needs) (λ c. search needs) (λ c. search needs)
     (λ c.
-    let k = c .before .before .before .before .loop .k in
-    omega (arith, c .before .before .before .before .before .pre .3 .small k))
+    let outer = c .before .before .before .before in
+    omega (arith, outer .before .pre .3 .small (outer .loop .k)))
     (λ c.
     let start = c .before .before .before .before .before in
     omega (arith, start .pre .3 .small (c .before .loop2 .j), start .pre .0 .most))
     (λ c κs. search needs) (λ c. search needs) (λ c. search needs) (λ c. search needs) (λ c κs. search needs)
     (λ c. search needs) (λ c. search needs)
     (λ c κs.
-    let here = c .before .before .before .before .before in
-    let start = here .before .before .before .before in
-    (start .pre .0, here .loop2 .inv .3 .done (here .loop2 .j) (omega (arith, start .pre .4)), here .loop2 .inv .2, c .before .reduce2 .ensures .1))
+    let head = c .before .before .before .before .before in
+    let b = head .before .before .before .before .pre in
+    let (_, _, base, rows) = head .loop2 .inv in
+    (b .0, rows .done (head .loop2 .j) (omega (arith, b .4)), base, c .before .reduce2 .ensures .1))
     (λ c. search needs) (λ c. search needs) (λ c. search needs) (λ c. search needs)
     (λ c.
-    let here = c .before .before .before .before .before .before in
-    (omega arith, omega arith, here .loop2 .inv .2, upto-put _ (omega (arith, here .before .before .before .before .pre .4)) (c .quotient .ensures) (here .loop2 .inv .3)))
+    let head = c .before .before .before .before .before .before in
+    let (_, _, base, rows) = head .loop2 .inv in
+    let small : head .loop2 .j < 16 = omega (arith, head .before .before .before .before .pre .4) in
+    (omega arith, omega arith, base, upto-put _ small (c .quotient .ensures) rows))
     (λ c. search needs) (λ c. search needs) (λ c. search needs) (λ c. search needs))

@@ -29,10 +29,10 @@ exchange-spec =
     (λ c κs. search needs) (λ c. search needs) (λ c. search needs) (λ c. search needs) (λ c. search needs)
     (λ c.
     let l = c .before .before .loop in
-    let start = c .before .before .before in (
+    let (pos, rows, _, few) = c .before .before .before .pre in (
       omega arith,
       record {
-        rows = upto-put _ (omega (arith, start .pre .3)) (column-row (l .t) (start .pre .0) (start .pre .1) (c .place-of-each .ensures)) (l .inv .1 .rows);
+        rows = upto-put _ (omega (arith, few)) (column-row (l .t) pos rows (c .place-of-each .ensures)) (l .inv .1 .rows);
         kept = λ j k. getD-set-other (l .columns) (l .t) j (c .place-of-each .result) [] (omega arith) ∙ l .inv .1 .kept j k;
       },
     ))

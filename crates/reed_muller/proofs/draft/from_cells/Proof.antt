@@ -4,6 +4,12 @@ use borrow.Author.Needs.{needs}
 use Rattle.reed_muller.proofs.draft.from_cells.Statement.{statement}
 use Rattle.reed_muller.proofs.draft.from_cells.Tie as tie
 
+-- the columns are drawn
+abbrev start : tie.After-exchange → tie.Start
+start c =
+    let compared = c .before .before .before .before .before in
+    compared .before .before .before .before .before .before .before .before
+
 pub from-cells-spec : {M : Type 1} → statement M
 from-cells-spec =
     tie.close
@@ -11,12 +17,9 @@ from-cells-spec =
     (λ c κs. search needs) (λ c. search needs) (λ c. search needs) (λ c. search needs) (λ c. search needs)
     (λ c κs. search needs) (λ c. search needs) (λ c κs. search needs) (λ c. search needs) (λ c κs. search needs)
     (λ c κs.
-    let e = c .before in
-    let b = e .before .before .before .before .before .before .before .before .before .before .before .before .before .pre in
-    let f = b .0 in
-    (f .reciprocal, b .1, e .exchange .ensures .rows, f .columnPoints, omega (arith, f .low, f .rows)))
+    let (f, I, _, _) = start (c .before) .pre in
+    (f .reciprocal, I, c .before .exchange .ensures .rows, f .columnPoints, omega (arith, f .low, f .rows)))
     (λ c κs.
-    let e = c .before .before .before in
-    let f = e .before .before .before .before .before .before .before .before .before .before .before .before .before .pre .0 in
+    let f = start (c .before .before .before) .pre .0 in
     (f .reciprocal, c .before .divide-differences2 .ensures, f .columnPoints, omega (arith, f .low, f .rows)))
     (λ c. search needs))

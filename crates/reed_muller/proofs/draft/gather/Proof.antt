@@ -1,4 +1,5 @@
--- `reed_muller::draft::gather` meets its contract: rows of residues stay such, and at most one line is taken in a turn. Assumes nothing.
+-- `reed_muller::draft::gather` meets its contract: rows of residues stay such, and at most one line is taken in a turn.
+-- Assumes nothing.
 use mathlib.Core.Logic.{⊎-elim}
 use Prim.Native.Nat.{ℕ, _-_, _≤_, _<_}
 use native.Mathlib.Omega.{arith}
@@ -11,7 +12,8 @@ use Rattle.reed_muller.proofs.draft.gather.Statement.{statement}
 use Rattle.reed_muller.proofs.draft.gather.Tie as tie
 
 abbrev Inv-loop : tie.InvT-loop
-Inv-loop f₀ z₀ known a x i₀ r₀ f z i r = (r ≤ a) × (i ≤ r) × ((p : ℕ) → Rows p f₀ → Rows p f) × ((p : ℕ) → Row p x → Row p z₀ → Row p z)
+Inv-loop f₀ z₀ known a x i₀ r₀ f z i r =
+    (r ≤ a) × (i ≤ r) × ((p : ℕ) → Rows p f₀ → Rows p f) × ((p : ℕ) → Row p x → Row p z₀ → Row p z)
 
 abbrev μ-loop : tie.MeasureT-loop
 μ-loop f₀ z₀ known a x i₀ r₀ f z i r = a - r
@@ -34,10 +36,13 @@ gather-spec =
     let l = c .before .before .loop in
     let f = c .before .before .before .before .pre .0 in
     let here : l .r < 16 = omega (arith, f .rows) in
-    let there : l .i < 16 = omega (arith, f .rows) in (
+    let there : l .i < 16 = omega (arith, f .rows) in
+    let (_, _, lines, points) = l .inv in (
       omega arith,
       ⊎-elim (λ w. omega (arith, w .4)) (λ w. omega (arith, w .3)) (c .if1 .came),
-      λ p R. ⊎-elim (λ w. rw (w .2) (upto-put _ there (l .inv .2 p R .done (l .r) here) (l .inv .2 p R))) (λ w. rw (w .1) (l .inv .2 p R)) (c .if1 .came),
-      λ p X Z. ⊎-elim (λ w. rw (w .3) (set-row (l .i) _ there (X .small (l .r)) (l .inv .3 p X Z))) (λ w. rw (w .2) (l .inv .3 p X Z)) (c .if1 .came),
+      λ p R. ⊎-elim (λ w. rw (w .2) (upto-put _ there (lines p R .done (l .r) here) (lines p R))) (λ w. rw (w .1) (lines p R))
+          (c .if1 .came),
+      λ p X Z. ⊎-elim (λ w. rw (w .3) (set-row (l .i) _ there (X .small (l .r)) (points p X Z))) (λ w. rw (w .2) (points p X Z))
+          (c .if1 .came),
     ))
     returns)

@@ -12,7 +12,8 @@ use Rattle.reed_muller.proofs.lines.carry.Statement.{statement}
 use Rattle.reed_muller.proofs.lines.carry.Tie as tie
 
 abbrev Inv-loop : tie.InvT-loop
-Inv-loop radius leading found costs out₀ r₀ out r = (r ≤ 16) × Upto 16 0 (λ j v. v ≡ kept (at leading j) (at found j) (at costs j) radius) out r
+Inv-loop radius leading found costs out₀ r₀ out r =
+    (r ≤ 16) × Upto 16 0 (λ j v. v ≡ kept (at leading j) (at found j) (at costs j) radius) out r
 
 abbrev μ-loop : tie.MeasureT-loop
 μ-loop radius leading found costs out₀ r₀ out r = 16 - r

@@ -1,6 +1,7 @@
--- `reed_muller::message::put_group` meets its contract: the places from the start on hold the j coefficients written. Assumes nothing.
+-- `reed_muller::message::put_group` meets its contract: the places from the start on hold the j coefficients written.
+-- Assumes nothing.
 use mathlib.Core.Path.{refl}
-use Prim.Native.Nat.{_+_, _-_, _≤_}
+use Prim.Native.Nat.{_+_, _-_, _≤_, _<_}
 use native.Mathlib.Omega.{arith}
 use Rattle.polynomial.specs.Record.{start}
 use Rattle.polynomial.proofs.Record.{start-most}
@@ -11,10 +12,18 @@ use Rattle.reed_muller.proofs.message.put_group.Statement.{statement}
 use Rattle.reed_muller.proofs.message.put_group.Tie as tie
 
 abbrev Inv-loop : tie.InvT-loop
-Inv-loop message₀ columns k first j₀ message j = (j ≤ k + 1) × Stretch 136 first (λ j. cellAt columns j (k - j)) message₀ message j
+Inv-loop message₀ columns k first j₀ message j =
+    (j ≤ k + 1) × Stretch 136 first (λ j. cellAt columns j (k - j)) message₀ message j
 
 abbrev μ-loop : tie.MeasureT-loop
 μ-loop message₀ columns k first j₀ message j = k + 1 - j
+
+-- the place written is one of the record
+fits : (c : tie.In-loop Inv-loop μ-loop) → c .before .before .start .result + c .before .loop .j < 136
+fits c =
+    let first = c .before .before in
+    let start = first .before in
+    omega (arith, start-most (start .args .k) (start .pre .1), first .start .ensures, c .loop-test .taken)
 
 returns : tie.Need-returns Inv-loop μ-loop
 returns c =
@@ -30,18 +39,7 @@ put-group-spec =
     (λ c κs. search needs)
     (λ c. (omega arith, stretch-start (c .before .pre .0)))
     (λ c. search needs) (λ c. search needs) (λ c. search needs) (λ c. search needs)
-    (λ c.
-    let k = c .before .before .before .before in
-    omega (arith, start-most (k .args .k) (k .pre .1), c .before .before .before .start .ensures))
-    (λ c.
-    let k = c .before .before .before .before in
-    omega (arith, start-most (k .args .k) (k .pre .1), c .before .before .before .start .ensures))
-    (λ c.
-    let k = c .before .before .before .before in
-    omega (arith, start-most (k .args .k) (k .pre .1), c .before .before .before .start .ensures))
+    (λ c. omega (arith, fits (c .before))) (λ c. omega (arith, fits (c .before))) (λ c. fits (c .before))
     (λ c. search needs) (λ c. search needs)
-    (λ c.
-    let k = c .before .before .before .before in
-    let fits = start-most (k .args .k) (k .pre .1) in
-    (omega arith, stretch-step _ (omega (arith, fits, c .before .before .before .start .ensures)) refl (c .before .before .loop .inv .1)))
+    (λ c. (omega arith, stretch-step _ (fits (c .before)) refl (c .before .before .loop .inv .1)))
     returns)

@@ -13,8 +13,8 @@ returns c =
 returns-2 : tie.Need-returns-2
 returns-2 c =
     let over = c .before .before .before .before in
-    let tried = over .before .before in
-    rw (tried .try-cells .ensures .over (omega (arith, over .if1 .left, over .before .radius .ensures))) at (c .solve-by-degrees .ensures)
+    let all = over .before .before .try-cells .ensures .over (omega (arith, over .if1 .left, over .before .radius .ensures)) in
+    rw all at (c .solve-by-degrees .ensures)
 
 pub solve-spec : {M : Type 1} → statement M
 solve-spec =

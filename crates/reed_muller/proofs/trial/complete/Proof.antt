@@ -1,4 +1,5 @@
--- `reed_muller::trial::complete` meets its contract: what is left is measured, and over the radius it is as it was. Assumes nothing.
+-- `reed_muller::trial::complete` meets its contract: what is left is measured, and over the radius it is as it was.
+-- Assumes nothing.
 use mathlib.Core.Path.{refl}
 use native.Mathlib.Omega.{arith}
 use borrow.Author.Needs.{needs}
