@@ -20,18 +20,16 @@ ghost use Rattle.definitions.specs.Photograph.{Photograph};
 ghost use Rattle.plan.specs.Says.{Says, Ready};
 ghost use Rattle.measuring.specs.Measured.{Measured};
 
-// The reading of a record against a mark.
+// The reading of a record against a mark. Rows and columns have the same points: one table of powers serves both.
 pub fn measure_mark(plan: Plan, record: &[u8], symbols: &[u8], doubts: &[u8]) -> Reading
     requires { ⌜ ((P : List ℕ) × Says P plan × Photograph square P (now symbols) (now doubts) × IsRecord square P (now «record»)) ⌝ }
     ensures { λ r. ⌜ ((P : List ℕ) → Says P plan → Photograph square P (now (symbols .entry)) (now (doubts .entry)) →
         r ≡ readingOf square P (now (symbols .entry)) (now (doubts .entry)) (now («record» .entry))) ⌝ }
 {
     let x = plan.x;
-    let y = plan.y;
-    let xs = evaluation::powers(x, plan.d, plan.p, plan.m);
-    let ys = evaluation::powers(y, plan.d, plan.p, plan.m);
-    let columns = bivariate::columns(record, &xs, plan.d, plan.p, plan.m);
-    let tally = measure_rows(plan, &columns, &ys, symbols, doubts);
+    let powers = evaluation::powers(x, plan.d, plan.p, plan.m);
+    let columns = bivariate::columns(record, &powers, plan.d, plan.p, plan.m);
+    let tally = measure_rows(plan, &columns, &powers, symbols, doubts);
     let radius = limit::radius(plan.full, plan.a, plan.b, plan.d);
     answers::reading(radius, tally.cost, tally.changed)
 }

@@ -2,6 +2,7 @@
 --
 --   record-word     a square's record is a word of the struct's prime and degree
 --   record-row      a strip's record, loaded as a row, is a row of residues
+--   same-points     rows and columns have the same points
 --   mark-cells      a mark has a row of cells for each row point
 --   mark-value, mark-is   the values on the grid of the struct's points are the mark
 --   mark-radius, strip-radius   the radius by the struct is the plan's
@@ -33,6 +34,9 @@ use Rattle.definitions.specs.Sound.{Sound}
 use Rattle.plan.specs.declared.Plan.{Plan}
 use Rattle.plan.specs.Says.{said, Says}
 use Rattle.plan.proofs.Ready.{point-at}
+
+pub same-points : {P : List ℕ} {g : Plan} → Says P g → g .y ≡ g .x
+same-points says = rw (says .fields) refl
 
 pub mark-cells : {P : List ℕ} {g : Plan} → Says P g → cells square P ≡ g .a * g .b
 mark-cells says = rw (says .fields) refl

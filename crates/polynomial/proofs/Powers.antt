@@ -2,7 +2,7 @@
 --
 --   equal-rows                  rows that have one number everywhere
 --   powers-less                 the powers up to a degree serve a lower one
---   powers-start, powers-step   the first row is all ones, and each is the one before times the points
+--   powers-start, powers-first, powers-step   the first row is all ones, and each is the one before times the points
 --   terms m w i j               the first i terms at point j, by the rows m and the coefficients w, not reduced
 --   terms-none, terms-more      none, and one term more, as a loop makes them
 --   terms-row, term-fits        the sums are small, and one term more can be added
@@ -43,6 +43,12 @@ powers-less p x h P = upto-less (omega arith) P
 pub powers-start : {p : ℕ} (x : List ℕ) → 1 < p → replicate 16 1 ≡ row (λ j. at x j ^ 0 % p)
 powers-start {p} x h = tab-is 16 _ (replicate 16 1) refl λ j l.
     getD-replicate 16 j 1 0 l ∙ sym (ap (λ v. v % p) (pow-zero (at x j)) ∙ mod-eq-of-lt h)
+
+pub powers-first : {p : ℕ} (x : List ℕ) → 1 < p → Powers p x 0 (replicate 16 (replicate {A = ℕ} 16 1))
+powers-first x h = record {
+  size = refl;
+  done = λ t l. let e : t ≡ 0 = omega arith in rw e (powers-start x h);
+}
 
 pub powers-step : {p : ℕ} (t : ℕ) (x : List ℕ) {v l : List ℕ} → 0 < p → v ≡ row (λ j. at x j ^ t % p) →
     l ≡ row (λ j. at v j * at x j % p) → l ≡ row (λ j. at x j ^ (t + 1) % p)

@@ -16,11 +16,11 @@ pub fn powers(x: [u16; 16], d: usize, p: u16, m: u16) -> [[u16; 16]; 16]
     let mut power = [1; 16];
     let mut rows = [power; 16];
     let mut t = 0;
-    while t <= d {
-        rows[t] = power;
+    while t < d {
         let next = field::rows::multiply(power, x, p, m);
-        power = next;
         t += 1;
+        rows[t] = next;
+        power = next;
     }
     rows
 }

@@ -15,17 +15,15 @@ ghost use Rattle.definitions.specs.Sound.{Sound};
 ghost use Rattle.definitions.specs.Accepted.{Writing};
 ghost use Rattle.plan.specs.Says.{Says, Ready};
 
-// Fills the mark.
+// Fills the mark. Rows and columns have the same points: one table of powers serves both.
 pub fn write_mark(plan: Plan, record: &[u8], mark: &mut [u8])
     requires { ⌜ ((P : List ℕ) × Says P plan × Writing square P (now «record») (now mark)) ⌝ }
     ensures { λ _. ⌜ ((P : List ℕ) → Says P plan → Sound P → now (mark .exit) ≡ markOf square P (now («record» .entry))) ⌝ }
 {
     let x = plan.x;
-    let y = plan.y;
-    let xs = evaluation::powers(x, plan.d, plan.p, plan.m);
-    let ys = evaluation::powers(y, plan.d, plan.p, plan.m);
-    let columns = bivariate::columns(record, &xs, plan.d, plan.p, plan.m);
-    write_rows(plan, &columns, &ys, mark);
+    let powers = evaluation::powers(x, plan.d, plan.p, plan.m);
+    let columns = bivariate::columns(record, &powers, plan.d, plan.p, plan.m);
+    write_rows(plan, &columns, &powers, mark);
 }
 
 // Its rows, one after the other, each into its own part of the mark. X was put in for all rows at once, which gave the columns.

@@ -3,7 +3,7 @@ use mathlib.Core.Path.{sym, _∙_}
 use native.Mathlib.Omega.{arith}
 use Rattle.definitions.proofs.Sound.{sound}
 use Rattle.plan.proofs.Ready.{ready}
-use Rattle.plan.proofs.Values.{record-word, mark-cells, mark-value, mark-radius}
+use Rattle.plan.proofs.Values.{record-word, same-points, mark-cells, mark-radius}
 use Rattle.measuring.proofs.Rows.{mark-measured, reading-is}
 use borrow.Author.Needs.{needs}
 use Rattle.measuring.proofs.measure_mark.Statement.{statement}
@@ -11,45 +11,53 @@ use Rattle.measuring.proofs.measure_mark.Tie as tie
 
 columns-requires : tie.Need-columns-requires
 columns-requires c κs =
-    let xs = c .before .before in
-    let (P, says, photo, given) = xs .before .before .before .before .before .before .pre in
+    let powers = c .before in
+    let (P, says, photo, given) = powers .before .before .before .before .before .pre in
     let S = sound P (photo .sound) in
     let g = ready S says in
-    (g .reciprocal, xs .powers .ensures .0, record-word S says given, omega (arith, g .low, g .rows))
+    (g .reciprocal, powers .powers .ensures .0, record-word S says given, omega (arith, g .low, g .rows))
 
 measure-rows-requires : tie.Need-measure-rows-requires
 measure-rows-requires c κs =
     let columns = c .before .before in
-    let ys = columns .before .before in
-    let (P, says, photo, given) = ys .before .before .before .before .before .before .before .pre in (
+    let powers = columns .before .before in
+    let (P, says, photo, given) = powers .before .before .before .before .before .pre in (
       ready (sound P (photo .sound)) says,
       columns .columns .ensures .0,
-      ys .powers2 .ensures .0,
+      powers .powers .ensures .0,
       photo .symbols ∙ mark-cells says,
       photo .doubts ∙ mark-cells says,
       λ i l. rw (says .fields) (photo .doubt i (rw (says .fields) at l)),
     )
 
+radius-requires : tie.Need-radius-requires
+radius-requires c κs =
+    let powers = c .before .before .before .before .before in
+    let (P, says, photo, given) = powers .before .before .before .before .before .pre in
+    let g = ready (sound P (photo .sound)) says in
+    (omega (arith, g .full), g .rows, g .columns, omega (arith, g .low), omega (arith, g .narrow))
+
 returns : tie.Need-returns
 returns c = λ P says photo.
     let tally = c .before .before in
     let columns = tally .before .before .before in
-    let ys = columns .before .before in
-    let given = ys .before .before .before .before .before .before .before .args in
+    let powers = columns .before .before in
+    let given = powers .before .before .before .before .before .args in
     let g = given .plan in
     let S = sound P (photo .sound) in
+    let made = powers .powers .ensures .1 in
     c .reading .ensures ∙ reading-is _ _ _ _ _ (mark-radius S says (c .before .radius .ensures .0))
     (mark-measured S says (given .«record» .now) (tally .measure-rows .ensures .1 (g .x) (g .y) _
-    (columns .columns .ensures .1 (g .x) (ys .before .powers .ensures .1)) (ys .powers2 .ensures .1)))
+    (columns .columns .ensures .1 (g .x) made) (rw (same-points says) made)))
 
 pub measure-mark-spec : {M : Type 1} → statement M
 measure-mark-spec =
     tie.close
     (tie.spec
-    (λ c κs. let (P, says, photo, given) = c .before .before .before .before .before .pre in let g = ready (sound P (photo .sound)) says in (g .reciprocal, g .rowPoints, omega (arith, g .low, g .rows)))
-    (λ c κs. let (P, says, photo, given) = c .before .before .before .before .before .before .pre in let g = ready (sound P (photo .sound)) says in (g .reciprocal, g .columnPoints, omega (arith, g .low, g .rows)))
+    (λ c κs. let (P, says, photo, given) = c .before .before .before .before .pre in let g = ready (sound P (photo .sound)) says in
+    (g .reciprocal, g .rowPoints, omega (arith, g .low, g .rows)))
     columns-requires
     measure-rows-requires
-    (λ c κs. let (P, says, photo, given) = c .before .before .before .before .before .before .before .before .before .before .before .before .pre in let g = ready (sound P (photo .sound)) says in (omega (arith, g .full), g .rows, g .columns, omega (arith, g .low), omega (arith, g .narrow)))
+    radius-requires
     (λ c κs. (omega (arith, c .radius .ensures .1), omega (arith, c .before .measure-rows .ensures .0)))
     returns)

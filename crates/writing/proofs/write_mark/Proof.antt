@@ -2,40 +2,41 @@
 use mathlib.Core.Path.{_∙_}
 use native.Mathlib.Omega.{arith}
 use Rattle.plan.proofs.Ready.{ready}
-use Rattle.plan.proofs.Values.{record-word, mark-cells, mark-is}
+use Rattle.plan.proofs.Values.{record-word, same-points, mark-cells, mark-is}
 use borrow.Author.Needs.{needs}
 use Rattle.writing.proofs.write_mark.Statement.{statement}
 use Rattle.writing.proofs.write_mark.Tie as tie
 
 columns-requires : tie.Need-columns-requires
 columns-requires c κs =
-    let xs = c .before .before in
-    let (P, says, w) = xs .before .before .before .before .before .pre in
+    let powers = c .before in
+    let (P, says, w) = powers .before .before .before .before .pre in
     let g = ready (w .sound) says in
-    (g .reciprocal, xs .powers .ensures .0, record-word (w .sound) says (w .given), omega (arith, g .low, g .rows))
+    (g .reciprocal, powers .powers .ensures .0, record-word (w .sound) says (w .given), omega (arith, g .low, g .rows))
 
 write-rows-requires : tie.Need-write-rows-requires
 write-rows-requires c κs =
     let columns = c .before .before .before in
-    let ys = columns .before .before in
-    let (P, says, w) = ys .before .before .before .before .before .before .pre in
-    (ready (w .sound) says, columns .columns .ensures .0, ys .powers2 .ensures .0, w .room ∙ mark-cells says)
+    let powers = columns .before .before in
+    let (P, says, w) = powers .before .before .before .before .pre in
+    (ready (w .sound) says, columns .columns .ensures .0, powers .powers .ensures .0, w .room ∙ mark-cells says)
 
 returns : tie.Need-returns
 returns c = λ P says S.
     let rows = c .before .before in
     let columns = rows .before .before .before .before in
-    let ys = columns .before .before in
-    let g = ys .before .before .before .before .before .before .args .plan in
-    rows .write-rows .ensures (g .x) (g .y) _ (columns .columns .ensures .1 (g .x) (ys .before .powers .ensures .1)) (ys .powers2 .ensures .1)
+    let powers = columns .before .before in
+    let g = powers .before .before .before .before .args .plan in
+    let made = powers .powers .ensures .1 in
+    rows .write-rows .ensures (g .x) (g .y) _ (columns .columns .ensures .1 (g .x) made) (rw (same-points says) made)
     ∙ mark-is S says _
 
 pub write-mark-spec : {M : Type 1} → statement M
 write-mark-spec =
     tie.close
     (tie.spec
-    (λ c κs. let (P, says, w) = c .before .before .before .before .pre in let g = ready (w .sound) says in (g .reciprocal, g .rowPoints, omega (arith, g .low, g .rows)))
-    (λ c κs. let (P, says, w) = c .before .before .before .before .before .pre in let g = ready (w .sound) says in (g .reciprocal, g .columnPoints, omega (arith, g .low, g .rows)))
+    (λ c κs. let (P, says, w) = c .before .before .before .pre in let g = ready (w .sound) says in
+    (g .reciprocal, g .rowPoints, omega (arith, g .low, g .rows)))
     columns-requires
     write-rows-requires
     (λ c. search needs)
