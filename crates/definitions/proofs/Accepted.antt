@@ -98,7 +98,8 @@ module _ (C : Code) (P : List ℕ) where
     measure-refused k e n = first-refuses (photoRows C P s u F) (recordRow C P F ∷ []) tt k e n
 
     pub measure-at : {m k : ℕ} (i : ℕ) → m ≡ first (photoRows C P s u F) → m ≡ 0 → k ≡ size C P →
-        Stops ((9 when overflowing (modulus P) F k) ∷ []) i → numberAt ((9 when overflowing (modulus P) F k) ∷ []) i ≡ measureNumber C P s u F
+        Stops ((9 when overflowing (modulus P) F k) ∷ []) i →
+        numberAt ((9 when overflowing (modulus P) F k) ∷ []) i ≡ measureNumber C P s u F
     unfolding measureNumber measureRows photoRows planRows
     measure-at {k} i e z f h = first-at ((9 when overflowing (modulus P) F k) ∷ []) i h
         ∙ rw f (first-passes (photoRows C P s u F) (recordRow C P F ∷ []) tt (sym e ∙ z))

@@ -31,7 +31,8 @@ module _ (input : List ℕ) where
   n = cells square (planOf input)
 
   abbrev tests : List Refusal
-  tests = photoTests (modulus (planOf input)) full (symbolsOf input) (doubtsOf input) (bufferOf input) n (size square (planOf input))
+  tests = photoTests (modulus (planOf input)) full (symbolsOf input) (doubtsOf input) (bufferOf input) n
+      (size square (planOf input))
 
   abbrev number : ℕ
   number = first (photoRows square (planOf input) (symbolsOf input) (doubtsOf input) (bufferOf input))

@@ -40,26 +40,28 @@ measured-eq {n} {u′} {v} e f g m = record {
 
 -- a row of n cells, from their own part of the lent bytes
 pub measured-part : {f n D k : ℕ} (a : ℕ) (s u : List ℕ) {v w : ℕ → ℕ} → a + n ≤ length s → ((i : ℕ) → i < n → v i ≡ w i) →
-    Measured f (length (take (a + n - a) (drop a s))) (at (take (a + n - a) (drop a s))) (at (take (a + n - a) (drop a u))) v D k →
-    Measured f n (λ i. at s (a + i)) (λ i. at u (a + i)) w D k
+    Measured f (length (take (a + n - a) (drop a s))) (at (take (a + n - a) (drop a s)))
+    (at (take (a + n - a) (drop a u))) v D k → Measured f n (λ i. at s (a + i)) (λ i. at u (a + i)) w D k
 measured-part {n} a s u h e m = measured-eq (part-at a n s) (part-at a n u) e (rw (part-length a n s h) at m)
 
 -- row r after those before it
 pub measured-more : {f : ℕ} (n r : ℕ) {D E k j : ℕ} (s u v : ℕ → ℕ) → Measured f (r * n) s u v D k →
-    Measured f n (λ i. s (r * n + i)) (λ i. u (r * n + i)) (λ i. v (r * n + i)) E j → Measured f ((r + 1) * n) s u v (D + E) (k + j)
+    Measured f n (λ i. s (r * n + i)) (λ i. u (r * n + i)) (λ i. v (r * n + i)) E j →
+    Measured f ((r + 1) * n) s u v (D + E) (k + j)
 measured-more {f} n r s u v a b = rw (add-one r, suc-mul r n) (record {
   sum = ap₂ _+_ (a .sum) (b .sum) ∙ sym (sum-append (r * n) n λ i. cell f (s i) (u i) (v i));
   count = ap₂ _+_ (a .count) (b .count) ∙ sym (sum-append (r * n) n λ i. differ (s i) (v i));
 })
 
 pub strip-measured : {P s u : List ℕ} {g : Plan} {v w : ℕ → ℕ} {D k : ℕ} → Photograph strip P s u → Says P g →
-    ((i : ℕ) → i < side P → v i ≡ w i) → Measured (g .full) (length s) (at s) (at u) v D k → Measured full (side P) (at s) (at u) w D k
+    ((i : ℕ) → i < side P → v i ≡ w i) → Measured (g .full) (length s) (at s) (at u) v D k →
+    Measured full (side P) (at s) (at u) w D k
 strip-measured photo says e m = measured-eq (λ i l. refl) (λ i l. refl) e (rw (says .fields, photo .symbols) at m)
 
 pub mark-measured : {P : List ℕ} {g : Plan} {s u : ℕ → ℕ} {D k : ℕ} → Sound P → Says P g → (F : List ℕ) →
     Measured (g .full) (g .a * g .b) s u (gridValue (g .p) (g .d) (g .b) (at (g .x)) (at (g .y)) F) D k →
     Measured full (cells square P) s u (value square P F) D k
-mark-measured {P} {g} S says F m = 
+mark-measured {P} {g} S says F m =
     measured-eq (λ i l. refl) (λ i l. refl) (λ i l. rw (says .fields) at (mark-value S says F i l)) (rw (says .fields) at m)
 
 pub reading-is : (C : Code) (P s u F : List ℕ) {R D k : ℕ} → R ≡ radius full C P →

@@ -22,7 +22,8 @@ ghost use Rattle.measuring.specs.Measured.{Measured};
 
 // The reading of a record against a mark. Rows and columns have the same points: one table of powers serves both.
 pub fn measure_mark(plan: Plan, record: &[u8], symbols: &[u8], doubts: &[u8]) -> Reading
-    requires { ⌜ ((P : List ℕ) × Says P plan × Photograph square P (now symbols) (now doubts) × IsRecord square P (now «record»)) ⌝ }
+    requires { ⌜ ((P : List ℕ) × Says P plan × Photograph square P (now symbols) (now doubts)
+        × IsRecord square P (now «record»)) ⌝ }
     ensures { λ r. ⌜ ((P : List ℕ) → Says P plan → Photograph square P (now (symbols .entry)) (now (doubts .entry)) →
         r ≡ readingOf square P (now (symbols .entry)) (now (doubts .entry)) (now («record» .entry))) ⌝ }
 {
@@ -36,7 +37,8 @@ pub fn measure_mark(plan: Plan, record: &[u8], symbols: &[u8], doubts: &[u8]) ->
 
 // The same against a strip, over the row points.
 pub fn measure_strip(plan: Plan, record: &[u8], symbols: &[u8], doubts: &[u8]) -> Reading
-    requires { ⌜ ((P : List ℕ) × Says P plan × Photograph strip P (now symbols) (now doubts) × IsRecord strip P (now «record»)) ⌝ }
+    requires { ⌜ ((P : List ℕ) × Says P plan × Photograph strip P (now symbols) (now doubts)
+        × IsRecord strip P (now «record»)) ⌝ }
     ensures { λ r. ⌜ ((P : List ℕ) → Says P plan → Photograph strip P (now (symbols .entry)) (now (doubts .entry)) →
         r ≡ readingOf strip P (now (symbols .entry)) (now (doubts .entry)) (now («record» .entry))) ⌝ }
 {
@@ -54,8 +56,8 @@ struct Tally {
     changed: u32,
 }
 
-// Those of the mark's cells, row by row: at most sixteen rows, each of a cost of at most 2,097,152. X was put in for all rows at once,
-// which gave the columns.
+// Those of the mark's cells, row by row: at most sixteen rows, each of a cost of at most 2,097,152. X was put in for all rows at
+// once, which gave the columns.
 fn measure_rows(
     plan: Plan,
     columns: &[[u16; 16]; 16],
@@ -88,7 +90,8 @@ fn measure_rows(
 fn measure_row(symbols: &[u8], doubts: &[u8], values: [u16; 16], full: u32) -> Tally
     requires { ⌜ (length (now symbols) ≤ 16) × (length (now doubts) ≡ length (now symbols)) × (full < 65536)
         × Doubts full (length (now symbols)) (at (now doubts)) ⌝ }
-    ensures { λ t. ⌜ Measured full (length (now (symbols .entry))) (at (now (symbols .entry))) (at (now (doubts .entry))) (at values)
+    ensures { λ t. ⌜ Measured full (length (now (symbols .entry))) (at (now (symbols .entry))) (at (now (doubts .entry)))
+        (at values)
         (t .cost) (t .changed) × (t .cost ≤ 2097152) × (t .changed ≤ 16) ⌝ }
 {
     let mut cost = 0;

@@ -46,7 +46,8 @@ module _ {P : List ℕ} {g : Plan} (S : Sound P) (says : Says P g) where
   record-word f = rw (says .fields) (rw (add-one (degree P)) at f)
 
   pub record-row : {F w : List ℕ} → IsRecord strip P F → w ≡ row (at F) → Row (g .p) w
-  record-row {F} f e = rw (says .fields, e) (row-of z (length-tab 16 _) λ i l. rw (row-at (at F) i l) (residue i (decLt i (degree P + 1))))
+  record-row {F} f e = rw (says .fields, e)
+      (row-of z (length-tab 16 _) λ i l. rw (row-at (at F) i l) (residue i (decLt i (degree P + 1))))
     where
       z : 0 < modulus P
       z = omega (arith, S .prime .least)
@@ -59,7 +60,8 @@ module _ {P : List ℕ} {g : Plan} (S : Sound P) (says : Says P g) where
   pub mark-value : (F : List ℕ) (c : ℕ) → c < side P * side P →
       gridValue (g .p) (g .d) (g .b) (at (g .x)) (at (g .y)) F c ≡ value square P F c
   mark-value F c l = rw (says .fields)
-      (ap₂ (valueXY (modulus P) (degree P) F) (point-at S (c / side P) (div-lt-iff-lt-mul z .1 l)) (point-at S (c % side P) (mod-lt c z)))
+      (ap₂ (valueXY (modulus P) (degree P) F) (point-at S (c / side P) (div-lt-iff-lt-mul z .1 l))
+      (point-at S (c % side P) (mod-lt c z)))
     where
       z : 0 < side P
       z = omega (arith, S .some)
@@ -79,8 +81,14 @@ module _ {P : List ℕ} {g : Plan} (S : Sound P) (says : Says P g) where
   pub strip-values : (F : List ℕ) {w v : List ℕ} → w ≡ row (at F) → v ≡ row (λ j. eval (suc (g .d)) (at w) (at (g .x) j) % g .p) →
       (j : ℕ) → j < side P → at v j ≡ value strip P F j
   strip-values F {w} f e j l = let k : j < 16 = omega (arith, S .most) in
-      rw (rw (says .fields) at e, row-at (λ j. eval (suc (degree P)) (at w) (at (row (point P)) j) % modulus P) j k, point-at S j l, value-strip (modulus P) (degree P) F (point P j))
-      (ap (λ t. t % modulus P) (sum-eq (suc (degree P)) λ i m. ap (λ t. t * point P j ^ i) (coefficient i (omega (arith, S .low, S .most)))))
+      rw (
+        rw (says .fields) at e,
+        row-at (λ j. eval (suc (degree P)) (at w) (at (row (point P)) j) % modulus P) j k,
+        point-at S j l,
+        value-strip (modulus P) (degree P) F (point P j),
+      )
+      (ap (λ t. t % modulus P)
+      (sum-eq (suc (degree P)) λ i m. ap (λ t. t * point P j ^ i) (coefficient i (omega (arith, S .low, S .most)))))
     where
       coefficient : (i : ℕ) → i < 16 → at w i ≡ at F i
       coefficient i m = rw f (row-at (at F) i m)

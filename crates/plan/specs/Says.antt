@@ -2,8 +2,8 @@
 --
 --   said P m     the plan P as a struct; m stands for the reciprocal of its prime
 --   Says P g     the struct g says what the plan P does
---   Ready g      the numbers of g fit together: p is prime and m its reciprocal; at most sixteen points each way, residues, all apart;
---                d is below both sides; the full doubt is a byte's
+--   Ready g      the numbers of g fit together: p is prime and m its reciprocal; at most sixteen points each way, residues, all
+--                apart; d is below both sides; the full doubt is a byte's
 --
 -- What this file is for: the contract of `parse`; and what the functions that take the struct rest on.
 use mathlib.Core.Path.{_≡_}

@@ -1,5 +1,5 @@
-// The season plan, 24 bytes of document 01's first table: checking one, what a sound one says, finding one in a plan file. A plan may
-// be any bytes of any length. Its bytes are read here and nowhere else; everything above takes the struct that `parse` makes.
+// The season plan, 24 bytes of document 01's first table: checking one, what a sound one says, finding one in a plan file. A plan
+// may be any bytes of any length. Its bytes are read here and nowhere else; everything above takes the struct that `parse` makes.
 use definitions::FULL;
 use field::bytes;
 use field::rows::reciprocal;
@@ -11,7 +11,8 @@ ghost use Rattle.definitions.specs.Sound.{Sound};
 ghost use Rattle.definitions.specs.Finder.{Finding, FindingAt};
 ghost use Rattle.plan.specs.Says.{Says};
 
-// What a sound plan says. X takes the a row points x, Y the b column points y, modulo the prime p; the places beyond a and b are 0.
+// What a sound plan says. X takes the a row points x, Y the b column points y, modulo the prime p;
+// the places beyond a and b are 0.
 pub struct Plan {
     pub season: u16,
     pub p: u16,

@@ -41,7 +41,8 @@ pub fn add_product(sum: &mut [u32; 16], c: u16, v: &[u16; 16])
 // reduced once, at the end: sixteen products of numbers below 251 are less than 2^20.
 pub fn values(powers: &[[u16; 16]; 16], k: usize, w: [u16; 16], p: u16, m: u16) -> [u16; 16]
     requires { ⌜ Reciprocal p m × Rows p (now powers) × Row p w × (k < 16) ⌝ }
-    ensures { λ r. ⌜ Row p r × ((x : List ℕ) → Powers p x k (now (powers .entry)) → r ≡ row (λ j. eval (suc k) (at w) (at x j) % p)) ⌝ }
+    ensures { λ r. ⌜ Row p r
+        × ((x : List ℕ) → Powers p x k (now (powers .entry)) → r ≡ row (λ j. eval (suc k) (at w) (at x j) % p)) ⌝ }
 {
     let mut sum = [0u32; 16];
     let mut i = 0;

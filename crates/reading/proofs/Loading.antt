@@ -1,4 +1,5 @@
--- Loaded cells: residues are below the modulus, and stand for their symbols; a call that passes its checks has taken a photograph. Assumes nothing.
+-- Loaded cells: residues are below the modulus, and stand for their symbols;
+-- a call that passes its checks has taken a photograph. Assumes nothing.
 use mathlib.Core.Path.{_≡_, refl, ap}
 use mathlib.Core.Logic.{_⊎_, inl, inr}
 use mathlib.Core.Bool.{Bool, true, false, not, cond}

@@ -110,7 +110,8 @@ module _ {P s u B : List ℕ} {left u′ : List (List ℕ)} (t : Taken square P 
     limit-is = omega (arith, ap (λ n. full * n) (distance-square (side P) (degree P)))
 
     refused-said : radius full square P ≤ g → Reads square P s u B (refused 10) B
-    refused-said h = mark-none P s u B (t .clear) (point-at (t .sound)) loaded w (D .decoded) (le-ltb g _ (omega (arith, limit-is)))
+    refused-said h = mark-none P s u B (t .clear) (point-at (t .sound)) loaded w (D .decoded)
+        (le-ltb g _ (omega (arith, limit-is)))
 
     found : g < radius full square P → under (gridOf (said P m)) g ≡ true
     found h = lt-ltb g _ (omega (arith, limit-is))
@@ -122,7 +123,8 @@ module _ {P s u B : List ℕ} {left u′ : List (List ℕ)} (t : Taken square P 
         let k : j < size square P = omega (arith, t .room) in
         let W = tab (size square P) (at w) in
         let n = size square P in
-        let F = mark-record P s u B (t .clear) (point-at (t .sound)) loaded w (D .decoded) z W (length-tab n (at w)) (tab-at n (at w)) in
+        let F = mark-record P s u B (t .clear) (point-at (t .sound)) loaded w (D .decoded) z W (length-tab n (at w))
+        (tab-at n (at w)) in
         omega (arith, F .below j k, tab-at (size square P) (at w) j k, t .sound .small)
 
     module _ (h : g < radius full square P) {W : List ℕ} (stored : W ≡ tab (length B) (at w)) where
@@ -140,7 +142,8 @@ module _ {P s u B : List ℕ} {left u′ : List (List ℕ)} (t : Taken square P 
       line-value r c = eval (suc (degree P)) (onRow (degree P) (coef w) (at (row (point P)) r)) (at (row (point P)) c)
 
       value-at : (r c : ℕ) → r < side P → c < side P → value square P W (r * side P + c) ≡ line-value r c % modulus P
-      value-at r c l m = rw (cell-row (side P) r c m, cell-column (side P) r c m, point-at (t .sound) r l, point-at (t .sound) c m)
+      value-at r c l m =
+          rw (cell-row (side P) r c m, cell-column (side P) r c m, point-at (t .sound) r l, point-at (t .sound) c m)
           (value-rows (modulus P) (degree P) W (point P r) (point P c) ∙ ap (λ e. e % modulus P)
           (sum-eq (suc (degree P)) λ k a. ap (λ e. e * point P c ^ k)
           (sum-eq (suc (degree P - k)) λ i b. ap (λ e. e * point P r ^ i) (coefficients k i (omega arith)))))
@@ -158,7 +161,8 @@ module _ {P s u B : List ℕ} {left u′ : List (List ℕ)} (t : Taken square P 
       changed-of : changedCells (side P) (side P) s after ≡ changedOf square P s W
       changed-of = sym (sum-rows (side P) (side P) _ ∙ sum-eq (side P) λ r l. sum-eq (side P) λ c m. sym (cell-changed r c l m))
 
-      reading-said : {k : ℕ} → k ≡ changedCells (side P) (side P) s after → Reads square P s u B (summary (radius full square P) g k) W
+      reading-said : {k : ℕ} → k ≡ changedCells (side P) (side P) s after →
+          Reads square P s u B (summary (radius full square P) g k) W
       unfolding readingOf
       reading-said e =
           let z = found h in
@@ -201,4 +205,5 @@ module _ {P s u B : List ℕ} {left u′ : List (List ℕ)} {g : Plan} (says : S
     pub mark-reading : {W : List ℕ} {k : ℕ} → c < R → W ≡ tab (length B) (at w) → k ≡ changedCells (g .a) (g .b) s after →
         Reads square P s u B (summary R c k) W
     mark-reading l stored e = rw (mark-radius (t .sound) says h)
-        (reading-said t (sides .0) (sides .1) (rw (says .fields) at D) (omega (arith, mark-radius (t .sound) says h)) stored (rw (says .fields) at e))
+        (reading-said t (sides .0) (sides .1) (rw (says .fields) at D) (omega (arith, mark-radius (t .sound) says h)) stored
+        (rw (says .fields) at e))

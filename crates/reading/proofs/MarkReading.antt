@@ -1,5 +1,5 @@
--- From the mark decoder's contract to the reading that document 01 defines: an answer of a sound plan's mark is the reading, and no
--- answer is refusal 10; at most one record is within the radius. Assumes nothing.
+-- From the mark decoder's contract to the reading that document 01 defines: an answer of a sound plan's mark is the reading, and
+-- no answer is refusal 10; at most one record is within the radius. Assumes nothing.
 use mathlib.Core.Logic.{inl}
 use mathlib.Core.Path.{_≡_, refl, sym, ap, _∙_}
 use mathlib.Core.Bool.{Bool, true, false, false≢true}
@@ -43,29 +43,33 @@ use Rattle.reed_muller.proofs.Unique.{grid-one}
 -- the cost over a flat photograph of any two sizes, row by row
 pub flat-cost : (q F a b d : ℕ) (x y : ℕ → ℕ) (s u R : List ℕ) →
     cost F (a * b) (at s) (at u) (gridValue (suc q) d b x y R) ≡ gridCost q F a b d x y (grid b u) (grid b s) (coef R)
-flat-cost q F a b d x y s u R = sum-rows a b _ ∙ sum-eq a λ r _. sum-eq b λ c m. ap (cell F (grid b s r c) (grid b u r c)) (there r c m)
+flat-cost q F a b d x y s u R = sum-rows a b _
+    ∙ sum-eq a λ r _. sum-eq b λ c m. ap (cell F (grid b s r c) (grid b u r c)) (there r c m)
   where
     there : (r c : ℕ) → c < b → gridValue (suc q) d b x y R (r * b + c) ≡ values q (suc d) (onRow d (coef R) (x r)) y c
     there r c m = rw (cell-row b r c m, cell-column b r c m) (value-rows (suc q) d R (x r) (y c))
 
 -- the cost looks at the points of the grid and at the coefficients alone, and loaded cells stand for their own
-grid-same : (q F a b d : ℕ) {x x′ y y′ : ℕ → ℕ} (s u : List ℕ) {s′ u′ g h : ℕ → ℕ → ℕ} →
-    ((r : ℕ) → r < a → x′ r ≡ x r) → ((c : ℕ) → c < b → y′ c ≡ y c) → LoadedGrid F a b s u s′ u′ → ((t i : ℕ) → i + t ≤ d → g i t ≡ h i t) →
+grid-same : (q F a b d : ℕ) {x x′ y y′ : ℕ → ℕ} (s u : List ℕ) {s′ u′ g h : ℕ → ℕ → ℕ} → ((r : ℕ) → r < a → x′ r ≡ x r) →
+    ((c : ℕ) → c < b → y′ c ≡ y c) → LoadedGrid F a b s u s′ u′ → ((t i : ℕ) → i + t ≤ d → g i t ≡ h i t) →
     gridCost q F a b d x y (grid b u) (grid b s) g ≡ gridCost q F a b d x′ y′ u′ s′ h
 grid-same q F a b d {x} {x′} {y} {y′} s u {s′} {u′} {g} {h} ex ey L e = sum-eq a λ r l. sum-eq b λ c m.
     cell-loaded _ (L r c l m) ∙ ap (λ v. cell F (s′ r c) (u′ r c) (v % suc q))
-    (rw (ex r l, ey c m) (sum-eq (suc d) λ t k. ap (λ v. v * y c ^ t) (sum-eq (suc (d - t)) λ i n. ap (λ v. v * x r ^ i) (e t i (omega arith)))))
+    (rw (ex r l, ey c m)
+    (sum-eq (suc d) λ t k. ap (λ v. v * y c ^ t) (sum-eq (suc (d - t)) λ i n. ap (λ v. v * x r ^ i) (e t i (omega arith)))))
 
 radius-of : (P : List ℕ) → definition.radius full square P ≡ full * gridDistance (side P) (side P) (degree P)
 radius-of P = omega (arith, ap (λ n. full * n) (distance-square (side P) (degree P)))
 
 module _ {P : List ℕ} (S : Sound P) where
   -- the cost of a record is that of its polynomial, against the cells as they are loaded; h has the record's coefficients
-  record-cost : (s u : List ℕ) (x : ℕ → ℕ) (s′ u′ : ℕ → ℕ → ℕ) → ((i : ℕ) → i < side P → x i ≡ point P i) → LoadedGrid full (side P) (side P) s u s′ u′ →
+  record-cost : (s u : List ℕ) (x : ℕ → ℕ) (s′ u′ : ℕ → ℕ → ℕ) → ((i : ℕ) → i < side P → x i ≡ point P i) →
+      LoadedGrid full (side P) (side P) s u s′ u′ →
       (F : List ℕ) (h : ℕ → ℕ → ℕ) → ((t i : ℕ) → i + t ≤ degree P → coef F i t ≡ h i t) →
       costOf square P s u F ≡ gridCost (modulus P - 1) full (side P) (side P) (degree P) x x u′ s′ h
   record-cost s u x s′ u′ points loaded F h e =
-      ap (λ p. cost full (side P * side P) (at s) (at u) (gridValue p (degree P) (side P) (point P) (point P) F)) (sym (plan-modulus S))
+      ap (λ p. cost full (side P * side P) (at s) (at u) (gridValue p (degree P) (side P) (point P) (point P) F))
+      (sym (plan-modulus S))
       ∙ flat-cost (modulus P - 1) full (side P) (side P) (degree P) (point P) (point P) s u F
       ∙ grid-same (modulus P - 1) full (side P) (side P) (degree P) s u points points loaded e
 
@@ -73,14 +77,19 @@ module _ {P : List ℕ} (S : Sound P) where
   low = omega (arith, S .low, S .most)
 
   word : (F : List ℕ) → IsRecord square P F → Word (suc (modulus P - 1)) (start (suc (degree P))) F
-  word F f = record { size = f .size ∙ ap start (add-one (degree P)); below = λ i l. rw (plan-modulus S) (f .below i (rw add-one l)) }
+  word F f = record {
+    size = f .size ∙ ap start (add-one (degree P));
+    below = λ i l. rw (plan-modulus S) (f .below i (rw add-one l));
+  }
 
   -- two records with congruent coefficients are one
-  record-one : (F G : List ℕ) → IsRecord square P F → IsRecord square P G → ((t i : ℕ) → i + t ≤ degree P → Cong (modulus P - 1) (coef F i t) (coef G i t)) → F ≡ G
+  record-one : (F G : List ℕ) → IsRecord square P F → IsRecord square P G →
+      ((t i : ℕ) → i + t ≤ degree P → Cong (modulus P - 1) (coef F i t) (coef G i t)) → F ≡ G
   record-one F G f g e = record-eq (degree P) F G low (word F f) (word G g) e
 
   -- coefficients below p make a record
-  pub record-word : (F : List ℕ) → length F ≡ size square P → ((t i : ℕ) → i + t ≤ degree P → coef F i t < suc (modulus P - 1)) → IsRecord square P F
+  pub record-word : (F : List ℕ) → length F ≡ size square P → ((t i : ℕ) → i + t ≤ degree P → coef F i t < suc (modulus P - 1)) →
+      IsRecord square P F
   record-word F e h = record {
     size = e;
     below = λ m l. let (i, t, k, z) = place (degree P) m low (rw add-one at l) in rw z (rw (plan-modulus S) at (h t i k));
@@ -88,7 +97,8 @@ module _ {P : List ℕ} (S : Sound P) where
 
 -- at most one record of a sound plan is within the radius
 pub only-square : (P s u : List ℕ) → Photograph square P s u → AtMostOne square P s u
-only-square P s u h F G f g i j = record-one S F G f g (grid-one (plan-apart S) (plan-apart S) (omega (arith, S .low)) doubts (grid n s) (coef F) (coef G) (near F i) (near G j))
+only-square P s u h F G f g i j = record-one S F G f g
+    (grid-one (plan-apart S) (plan-apart S) (omega (arith, S .low)) doubts (grid n s) (coef F) (coef G) (near F i) (near G j))
   where
     S : Sound P
     S = sound P (h .sound)
@@ -99,18 +109,20 @@ only-square P s u h F G f g i j = record-one S F G f g (grid-one (plan-apart S) 
     doubts : (r c : ℕ) → r < n → c < n → grid n u r c ≤ full
     doubts r c l m = h .doubt (r * n + c) (omega (arith, mul-le-mul-right n l))
 
-    near : (F : List ℕ) → within square P s u F ≡ true → GridNear (modulus P - 1) full n n (degree P) (point P) (point P) (grid n u) (grid n s) (coef F)
+    near : (F : List ℕ) → within square P s u F ≡ true →
+        GridNear (modulus P - 1) full n n (degree P) (point P) (point P) (grid n u) (grid n s) (coef F)
     near F t = omega (
       arith,
       within-cost square P s u F t,
       radius-of P,
-      record-cost S s u (point P) (grid n s) (grid n u) (λ i l. refl) (λ r c l m. record { doubt = refl; symbol = inl refl }) F (coef F) (λ t i l. refl),
+      record-cost S s u (point P) (grid n s) (grid n u) (λ i l. refl) (λ r c l m. record { doubt = refl; symbol = inl refl }) F
+          (coef F) (λ t i l. refl),
     )
 
 -- the answer of a mark decoder to the points and cells that it has loaded; the message is m
-module _ (P s u B : List ℕ) (clear : first (photoRows square P s u B) ≡ 0) {x : ℕ → ℕ} {s′ u′ : ℕ → ℕ → ℕ} (points : (i : ℕ) → i < side P → x i ≡ point P i)
-    (loaded : LoadedGrid full (side P) (side P) s u s′ u′) (m : List ℕ) {found : Bool} {g : ℕ}
-    (D : Decoded (modulus P - 1) full (side P) (side P) (degree P) x x s′ u′ found (coef m) g) where
+module _ (P s u B : List ℕ) (clear : first (photoRows square P s u B) ≡ 0) {x : ℕ → ℕ} {s′ u′ : ℕ → ℕ → ℕ}
+    (points : (i : ℕ) → i < side P → x i ≡ point P i) (loaded : LoadedGrid full (side P) (side P) s u s′ u′) (m : List ℕ)
+    {found : Bool} {g : ℕ} (D : Decoded (modulus P - 1) full (side P) (side P) (degree P) x x s′ u′ found (coef m) g) where
   photo : Photograph square P s u
   photo = accepted-photo square P s u B clear
 
@@ -126,9 +138,11 @@ module _ (P s u B : List ℕ) (clear : first (photoRows square P s u B) ≡ 0) {
       false≢true (sym z ∙ D .only (coef F) (omega (arith, cost-of F (coef F) (λ t i k. refl), radius-of P)))
 
   -- W holds the first bytes of the message
-  module _ (z : found ≡ true) (W : List ℕ) (len : length W ≡ size square P) (copied : (i : ℕ) → i < size square P → at W i ≡ at m i) where
+  module _ (z : found ≡ true) (W : List ℕ) (len : length W ≡ size square P)
+      (copied : (i : ℕ) → i < size square P → at W i ≡ at m i) where
     coefficients : (t i : ℕ) → i + t ≤ degree P → coef W i t ≡ coef m i t
-    coefficients t i l = copied (start (i + t) + t) (start-below (i + t) (degree P + 1) t (omega arith) (omega (arith, low S)) (omega arith))
+    coefficients t i l = copied (start (i + t) + t)
+        (start-below (i + t) (degree P + 1) t (omega arith) (omega (arith, low S)) (omega arith))
 
     pub mark-record : IsRecord square P W
     mark-record = record-word S W len λ t i l. rw (coefficients t i l) (D .below z t i l)
@@ -137,4 +151,5 @@ module _ (P s u B : List ℕ) (clear : first (photoRows square P s u B) ≡ 0) {
     mark-cost = D .sound z .0 ∙ sym (cost-of W (coef m) coefficients)
 
     pub mark-found : Reads square P s u B (readingOf square P s u W) W
-    mark-found = reads-the square P s u B clear (only-square P s u photo) W mark-record (cost-within square P s u W (omega (arith, mark-cost, D .sound z .1, radius-of P)))
+    mark-found = reads-the square P s u B clear (only-square P s u photo) W mark-record
+        (cost-within square P s u W (omega (arith, mark-cost, D .sound z .1, radius-of P)))

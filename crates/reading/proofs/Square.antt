@@ -44,10 +44,11 @@ part-line n r s e h = e ∙ tab-eq 16 λ c _. elim (decLt c n) [
 
 -- below the grid there is nothing
 pub no-line : (a n r : ℕ) (s : List ℕ) → a ≤ r → length s ≡ a * n → replicate 16 0 ≡ row (gridCell n s r)
-no-line a n r s h e = tab-is 16 (gridCell n s r) (replicate 16 0) (length-replicate {A = ℕ} 16 0) λ c l. getD-replicate {A = ℕ} 16 c 0 0 l ∙ sym (elim (decLt c n) [
-  | yes m ↦ cell-at n s r c m ∙ beyond s (r * n + c) (omega (arith, mul-le-mul-right n h))
-  | no m ↦ rw (le-ltb c n (omega arith))
-])
+no-line a n r s h e = tab-is 16 (gridCell n s r) (replicate 16 0) (length-replicate {A = ℕ} 16 0) λ c l.
+    getD-replicate {A = ℕ} 16 c 0 0 l ∙ sym (elim (decLt c n) [
+      | yes m ↦ cell-at n s r c m ∙ beyond s (r * n + c) (omega (arith, mul-le-mul-right n h))
+      | no m ↦ rw (le-ltb c n (omega arith))
+    ])
 
 -- rows that are set one by one, the others being zeros
 pub passed-zeros : {T : ℕ → List ℕ → Type 0} → Passed 16 [] (λ r l. l ≡ replicate 16 0) T (replicate 16 (replicate 16 0)) 0
@@ -74,7 +75,8 @@ no-residues a n r s h e = tab-is 16 (λ c. residue (gridCell n s r c)) (replicat
     zero ∙ ap residue (sym zero ∙ row-is (gridCell n s r) (no-line a n r s h e) c l)
 
 -- the residues of some bytes, set in a row of zeros
-pub residues-set : (s : List ℕ) {l : List ℕ} → Passed 16 0 (λ j v. v ≡ 0) (λ j v. v ≡ residue (at s j)) l (length s) → l ≡ row (λ j. residue (at s j))
+pub residues-set : (s : List ℕ) {l : List ℕ} → Passed 16 0 (λ j v. v ≡ 0) (λ j v. v ≡ residue (at s j)) l (length s) →
+    l ≡ row (λ j. residue (at s j))
 residues-set s P = upto-row (record {
   size = P .size;
   done = λ j m. elim (decLt j (length s)) [
@@ -86,11 +88,13 @@ residues-set s P = upto-row (record {
 -- the residues of row r, from its own part of the bytes
 pub residues-part : (n r : ℕ) (s : List ℕ) {l : List ℕ} → l ≡ row (λ j. residue (at (part n r s) j)) → r * n + n ≤ length s →
     l ≡ row (λ c. residue (gridCell n s r c))
-residues-part n r s e h = e ∙ tab-eq 16 λ c m. ap residue (sym (row-at (at (part n r s)) c m) ∙ row-is (gridCell n s r) (part-line n r s refl h) c m)
+residues-part n r s e h = e ∙ tab-eq 16 λ c m.
+    ap residue (sym (row-at (at (part n r s)) c m) ∙ row-is (gridCell n s r) (part-line n r s refl h) c m)
 
 -- a row more of the changed cells, from its own part of the bytes
 pub changed-more : (n r : ℕ) (s : List ℕ) (left : List (List ℕ)) {k : ℕ} → r * n + n ≤ length s →
-    k ≡ changed (length (part n r s)) (λ c. flag (at (part n r s) c) (cellAt left r c)) (λ _. 0) → changedCells (r + 1) n s left ≡ changedCells r n s left + k
+    k ≡ changed (length (part n r s)) (λ c. flag (at (part n r s) c) (cellAt left r c)) (λ _. 0) →
+    changedCells (r + 1) n s left ≡ changedCells r n s left + k
 changed-more n r s left h e = sum-more r _ ∙ ap (λ k. changedCells r n s left + k)
     (sum-eq n (λ c m. ap (λ v. cond (eqb (flag v (cellAt left r c)) 0) 0 1) (cell-at n s r c m ∙ sym (part-at (r * n) n s c m)))
     ∙ sym (e ∙ ap (λ m. changed m (λ c. flag (at (part n r s) c) (cellAt left r c)) (λ _. 0)) (part-length (r * n) n s h)))
@@ -107,12 +111,17 @@ flag-differ {p} {s} {l} {v} most known small value whole = go (eqb s unread) ref
     read b C (yes z) =
         let e : v ≡ s = below-eq {q = p - 1} (omega arith) (omega arith) (same (omega arith) ⨾ C) in
         rw (eq-eqb l 0 z, eq-eqb s v (sym e))
-    read b C (no z) = rw (ne-eqb l 0 z, ne-eqb s v (λ i. z (below-eq {q = p - 1} (omega arith) (omega arith) (cancel {a = l} {b = 0} {e = v} {f = v} (same refl) (C ⨾ same (omega arith))))))
+    read b C (no z) = rw (
+      ne-eqb l 0 z,
+      ne-eqb s v (λ i. z (below-eq {q = p - 1} (omega arith) (omega arith)
+          (cancel {a = l} {b = 0} {e = v} {f = v} (same refl) (C ⨾ same (omega arith))))),
+    )
 
     below : (s < p) ⊎ (s ≡ unread) → eqb s unread ≡ false → s < p
     below (inl h) e = h
     below (inr h) e = absurd (eqb-false s unread e h)
 
-    go : (b : Bool) → eqb s unread ≡ b → Cong (p - 1) (l + v) (cond b 0 s) → _≡_ {A = ℕ} (cond (eqb (cond b 1 l) 0) 0 1) (cond (eqb s v) 0 1)
+    go : (b : Bool) → eqb s unread ≡ b → Cong (p - 1) (l + v) (cond b 0 s) →
+        _≡_ {A = ℕ} (cond (eqb (cond b 1 l) 0) 0 1) (cond (eqb s v) 0 1)
     go true e C = rw (ne-eqb s v (unequal (eqb-true s unread e)))
     go false e C = read (below known e) C (ℕ-discrete l 0)

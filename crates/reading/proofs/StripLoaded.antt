@@ -95,12 +95,17 @@ module _ {P s u B s′ u′ : List ℕ} (t : Taken strip P s u B) (es : s′ ≡
 
       value-at : (j : ℕ) → j < side P → at (r .values) j ≡ value strip P W j
       value-at j l = let k : j < 16 = omega (arith, t .sound .most) in
-          rw (D .values z, row-at (λ j. eval (suc (degree P)) (at (r .message)) (at (row (point P)) j) % modulus P) j k,
-          value-strip (modulus P) (degree P) W (point P j), point-at (t .sound) j l)
+          rw (
+            D .values z,
+            row-at (λ j. eval (suc (degree P)) (at (r .message)) (at (row (point P)) j) % modulus P) j k,
+            value-strip (modulus P) (degree P) W (point P j),
+            point-at (t .sound) j l,
+          )
           (ap (λ e. e % modulus P) (sum-eq (suc (degree P)) λ i m. ap (λ e. e * point P j ^ i) (sym (word-at i (omega arith)))))
 
       changed-of : {seen : List ℕ} → seen ≡ row (at s) → changed (side P) (at seen) (at (r .values)) ≡ changedOf strip P s W
-      changed-of e = sum-eq (side P) λ c l. ap₂ (λ a b. cond (eqb a b) 0 1) (rw e (row-at (at s) c (omega (arith, t .sound .most)))) (value-at c l)
+      changed-of e = sum-eq (side P) λ c l.
+          ap₂ (λ a b. cond (eqb a b) 0 1) (rw e (row-at (at s) c (omega (arith, t .sound .most)))) (value-at c l)
 
       reading-said : {seen : List ℕ} {n : ℕ} → seen ≡ row (at s) → n ≡ changed (side P) (at seen) (at (r .values)) →
           Reads strip P s u B (summary (radius full strip P) (r .cost) n) W
@@ -119,6 +124,7 @@ module _ {P s u B s′ u′ : List ℕ} (t : Taken strip P s u B) (es : s′ ≡
     strip-refused z = refused-said (rw (says .fields) at D) z
 
     pub strip-reading : {W seen : List ℕ} {n R : ℕ} → r .found ≡ true → W ≡ tab (length B) (at (r .message)) → seen ≡ row (at s) →
-        n ≡ changed (g .a) (at seen) (at (r .values)) → R ≡ g .full * 1 * (g .a - g .d) → Reads strip P s u B (summary R (r .cost) n) W
+        n ≡ changed (g .a) (at seen) (at (r .values)) → R ≡ g .full * 1 * (g .a - g .d) →
+        Reads strip P s u B (summary R (r .cost) n) W
     strip-reading z stored i e h =
         rw (strip-radius (t .sound) says h) (reading-said (rw (says .fields) at D) z stored i (rw (says .fields) at e))

@@ -1,5 +1,5 @@
--- From the contract of a strip reader to the reading that document 01 defines: an answer of a sound plan's strip is the reading, and no
--- answer is refusal 10; at most one record is within the radius. Assumes nothing.
+-- From the contract of a strip reader to the reading that document 01 defines: an answer of a sound plan's strip is the reading,
+-- and no answer is refusal 10; at most one record is within the radius. Assumes nothing.
 use mathlib.Core.Logic.{inl}
 use mathlib.Core.Path.{_≡_, refl, sym, ap, ap₂, _∙_}
 use mathlib.Core.Bool.{Bool, true, false, false≢true}
@@ -37,15 +37,20 @@ use Rattle.reed_solomon.specs.Strip.{Strip}
 
 module _ {P : List ℕ} (S : Sound P) where
   -- the cost of a record is that of its polynomial, against the cells as they are loaded
-  record-cost : (s u : List ℕ) (x s′ u′ : ℕ → ℕ) → ((i : ℕ) → i < side P → x i ≡ point P i) → ((c : ℕ) → c < side P → Loaded full (at s c) (at u c) (s′ c) (u′ c)) →
+  record-cost : (s u : List ℕ) (x s′ u′ : ℕ → ℕ) → ((i : ℕ) → i < side P → x i ≡ point P i) →
+      ((c : ℕ) → c < side P → Loaded full (at s c) (at u c) (s′ c) (u′ c)) →
       (F : List ℕ) → costOf strip P s u F ≡ cost full (side P) s′ u′ (values (modulus P - 1) (suc (degree P)) (at F) x)
-  record-cost s u x s′ u′ points loaded F = sum-eq (side P) (λ c l. ap (cell full (at s c) (at u c)) (there c l)) ∙ cost-loaded (values (modulus P - 1) (suc (degree P)) (at F) x) loaded
+  record-cost s u x s′ u′ points loaded F = sum-eq (side P) (λ c l. ap (cell full (at s c) (at u c)) (there c l))
+      ∙ cost-loaded (values (modulus P - 1) (suc (degree P)) (at F) x) loaded
     where
-      there : (c : ℕ) → c < side P → valueX (modulus P) (degree P) F (point P c) ≡ values (modulus P - 1) (suc (degree P)) (at F) x c
-      there c l = value-strip (modulus P) (degree P) F (point P c) ∙ sym (ap₂ (λ p v. eval (suc (degree P)) (at F) v % p) (plan-modulus S) (points c l))
+      there : (c : ℕ) → c < side P →
+          valueX (modulus P) (degree P) F (point P c) ≡ values (modulus P - 1) (suc (degree P)) (at F) x c
+      there c l = value-strip (modulus P) (degree P) F (point P c)
+          ∙ sym (ap₂ (λ p v. eval (suc (degree P)) (at F) v % p) (plan-modulus S) (points c l))
 
   -- two records with congruent coefficients are one
-  record-one : (F G : List ℕ) → IsRecord strip P F → IsRecord strip P G → ((i : ℕ) → i ≤ degree P → Cong (modulus P - 1) (at F i) (at G i)) → F ≡ G
+  record-one : (F G : List ℕ) → IsRecord strip P F → IsRecord strip P G →
+      ((i : ℕ) → i ≤ degree P → Cong (modulus P - 1) (at F i) (at G i)) → F ≡ G
   record-one F G f g e = list-eq F G (f .size ∙ sym (g .size)) λ i l.
       let m : i < degree P + 1 = omega (arith, f .size) in
       below-eq (rw (plan-modulus S) (f .below i m)) (rw (plan-modulus S) (g .below i m)) (e i (omega arith))
@@ -58,11 +63,17 @@ only-strip P s u h F G f g i j = record-one S F G f g
     S : Sound P
     S = sound P (h .sound)
 
-    near : (F : List ℕ) → within strip P s u F ≡ true → cost full (side P) (at s) (at u) (values (modulus P - 1) (suc (degree P)) (at F) (point P)) < full * (side P - degree P)
-    near F t = omega (arith, within-cost strip P s u F t, record-cost S s u (point P) (at s) (at u) (λ i l. refl) (λ c l. record { doubt = refl; symbol = inl refl }) F)
+    near : (F : List ℕ) → within strip P s u F ≡ true →
+        cost full (side P) (at s) (at u) (values (modulus P - 1) (suc (degree P)) (at F) (point P)) < full * (side P - degree P)
+    near F t = omega (
+      arith,
+      within-cost strip P s u F t,
+      record-cost S s u (point P) (at s) (at u) (λ i l. refl) (λ c l. record { doubt = refl; symbol = inl refl }) F,
+    )
 
 -- the answer of a strip reader to the points and cells that it has loaded
-module _ (P s u B : List ℕ) (clear : first (photoRows strip P s u B) ≡ 0) {x s′ u′ : ℕ → ℕ} (points : (i : ℕ) → i < side P → x i ≡ point P i)
+module _ (P s u B : List ℕ) (clear : first (photoRows strip P s u B) ≡ 0) {x s′ u′ : ℕ → ℕ}
+    (points : (i : ℕ) → i < side P → x i ≡ point P i)
     (loaded : (c : ℕ) → c < side P → Loaded full (at s c) (at u c) (s′ c) (u′ c)) {found : Bool} {w : ℕ → ℕ} {g : ℕ}
     (A : Strip (modulus P - 1) full (side P) (degree P) x s′ u′ found w g) where
   photo : Photograph strip P s u
@@ -72,12 +83,16 @@ module _ (P s u B : List ℕ) (clear : first (photoRows strip P s u B) ≡ 0) {x
   cost-of F = record-cost (sound P (photo .sound)) s u x s′ u′ points loaded F
 
   pub strip-none : found ≡ false → Reads strip P s u B (refused 10) B
-  strip-none z = reads-none strip P s u B clear λ F f. cost-without strip P s u F λ l. false≢true (sym z ∙ A .only (at F) (omega (arith, cost-of F)) .0)
+  strip-none z = reads-none strip P s u B clear λ F f. cost-without strip P s u F λ l.
+      false≢true (sym z ∙ A .only (at F) (omega (arith, cost-of F)) .0)
 
   -- W is the record with the coefficients w
-  module _ (z : found ≡ true) (W : List ℕ) (word : IsRecord strip P W) (coefficients : (i : ℕ) → i < size strip P → at W i ≡ w i) where
+  module _ (z : found ≡ true) (W : List ℕ) (word : IsRecord strip P W)
+      (coefficients : (i : ℕ) → i < size strip P → at W i ≡ w i) where
     pub strip-cost : g ≡ costOf strip P s u W
-    strip-cost = A .sound z .0 ∙ cost-cong full (side P) (degree P) x s′ u′ (λ i l. same (sym (coefficients i (omega arith)))) ∙ sym (cost-of W)
+    strip-cost = A .sound z .0 ∙ cost-cong full (side P) (degree P) x s′ u′ (λ i l. same (sym (coefficients i (omega arith))))
+        ∙ sym (cost-of W)
 
     pub strip-found : Reads strip P s u B (readingOf strip P s u W) W
-    strip-found = reads-the strip P s u B clear (only-strip P s u photo) W word (cost-within strip P s u W (omega (arith, strip-cost, A .sound z .1)))
+    strip-found = reads-the strip P s u B clear (only-strip P s u photo) W word
+        (cost-within strip P s u W (omega (arith, strip-cost, A .sound z .1)))

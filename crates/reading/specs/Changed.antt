@@ -1,6 +1,7 @@
 -- The changed cells of a mark, from what its decoder left of the symbols.
 --
---   flag s l                  other than 0 where a cell with the symbol s is changed: it is unread, or l, what is left of it, is not 0
+--   flag s l                  other than 0 where a cell with the symbol s is changed:
+--                             it is unread, or l, what is left of it, is not 0
 --   changedCells a b s left   how many cells of the first a rows of the flat grid s of b columns are changed
 --
 -- What this file is for: nothing has to be evaluated to count the changed cells.

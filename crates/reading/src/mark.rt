@@ -34,7 +34,8 @@ fn cell_flag(symbol: u16, left: u16) -> u16
 // How many cells of a row are changed, from its symbols and what the decoder left of them.
 fn changed_in_row(symbols: &[u8], left: [u16; 16]) -> u32
     requires { ⌜ length (now symbols) ≤ 16 ⌝ }
-    ensures { λ r. ⌜ (r ≡ changed (length (now (symbols .entry))) (λ c. flag (at (now (symbols .entry)) c) (at left c)) (λ _. 0)) × (r ≤ 16) ⌝ }
+    ensures { λ r. ⌜ (r ≡ changed (length (now (symbols .entry))) (λ c. flag (at (now (symbols .entry)) c) (at left c)) (λ _. 0))
+        × (r ≤ 16) ⌝ }
 {
     let mut sum = 0;
     for i in 0..symbols.len() {
@@ -73,7 +74,8 @@ fn total(doubts: &[u8]) -> u32
 // The mark, by the decoder.
 fn decoded(plan: Plan, symbols: &[u8], doubts: &[u8], record: &mut [u8]) -> Reading
     requires { ⌜ ((P : List ℕ) × Says P plan × Taken square P (now symbols) (now doubts) (now «record»)) ⌝ }
-    ensures { λ r. ⌜ ((P : List ℕ) → Says P plan → Taken square P (now (symbols .entry)) (now (doubts .entry)) (now («record» .entry)) →
+    ensures { λ r.
+        ⌜ ((P : List ℕ) → Says P plan → Taken square P (now (symbols .entry)) (now (doubts .entry)) (now («record» .entry)) →
         Reads square P (now (symbols .entry)) (now (doubts .entry)) (now («record» .entry)) r (now («record» .exit))) ⌝ }
 {
     let x = plan.x;
@@ -103,11 +105,12 @@ fn decoded(plan: Plan, symbols: &[u8], doubts: &[u8], record: &mut [u8]) -> Read
     answers::reading(radius, cost, changed)
 }
 
-// The one record within the radius goes into the lent buffer; where there is none the buffer stays as it was, and the number is 10.
-// Doubts that come to the radius leave no record under it.
+// The one record within the radius goes into the lent buffer; where there is none the buffer stays as it was, and the number is
+// 10. Doubts that come to the radius leave no record under it.
 pub fn read_mark(plan: Plan, symbols: &[u8], doubts: &[u8], record: &mut [u8]) -> Reading
     requires { ⌜ ((P : List ℕ) × Says P plan × Taken square P (now symbols) (now doubts) (now «record»)) ⌝ }
-    ensures { λ r. ⌜ ((P : List ℕ) → Says P plan → Taken square P (now (symbols .entry)) (now (doubts .entry)) (now («record» .entry)) →
+    ensures { λ r.
+        ⌜ ((P : List ℕ) → Says P plan → Taken square P (now (symbols .entry)) (now (doubts .entry)) (now («record» .entry)) →
         Reads square P (now (symbols .entry)) (now (doubts .entry)) (now («record» .entry)) r (now («record» .exit))) ⌝ }
 {
     if total(doubts) >= limit::radius(plan.full, plan.a, plan.b, plan.d) {

@@ -19,7 +19,8 @@ ghost use Rattle.reading.specs.Loading.{Taken};
 // The strip, over the row points.
 pub fn read_strip(plan: Plan, symbols: &[u8], doubts: &[u8], record: &mut [u8]) -> Reading
     requires { ⌜ ((P : List ℕ) × Says P plan × Taken stripCode P (now symbols) (now doubts) (now «record»)) ⌝ }
-    ensures { λ r. ⌜ ((P : List ℕ) → Says P plan → Taken stripCode P (now (symbols .entry)) (now (doubts .entry)) (now («record» .entry)) →
+    ensures { λ r.
+        ⌜ ((P : List ℕ) → Says P plan → Taken stripCode P (now (symbols .entry)) (now (doubts .entry)) (now («record» .entry)) →
         Reads stripCode P (now (symbols .entry)) (now (doubts .entry)) (now («record» .entry)) r (now («record» .exit))) ⌝ }
 {
     let x = plan.x;

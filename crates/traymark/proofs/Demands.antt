@@ -50,15 +50,15 @@ demand-1 = record {
   read = read-keeps;
 }
 
--- Demand 3. For every sound plan and every photograph in buffers of the right lengths, whatever the points, symbols and doubts: where a
--- record costs under the limit, every other record of the plan costs the limit or more; the reading is the one under the limit with
--- its cost; it is refusal 10 exactly when no record costs under the limit.
+-- Demand 3. For every sound plan and every photograph in buffers of the right lengths, whatever the points, symbols and doubts:
+-- where a record costs under the limit, every other record of the plan costs the limit or more; the reading is the one under the
+-- limit with its cost; it is refusal 10 exactly when no record costs under the limit.
 pub demand-3 : (C : Code) (P s u B : List ℕ) → Photograph C P s u → length B ≡ size C P → Nearest C P s u B
 demand-3 strip P s u B h l = nearest strip P s u B h l (only-strip P s u h)
 demand-3 square P s u B h l = nearest square P s u B h l (only-square P s u h)
 
--- Demand 2, writing: for every plan, record and buffer that the writer accepts, each cell of the buffer afterwards has the value, modulo p,
--- of the record's polynomial at its row and column points; for a strip, at its point.
+-- Demand 2, writing: for every plan, record and buffer that the writer accepts, each cell of the buffer afterwards has the value,
+-- modulo p, of the record's polynomial at its row and column points; for a strip, at its point.
 pub demand-2-written : (C : Code) (P F B : List ℕ) → writeNumber C P F B ≡ 0 → Written C P F (writeBuffer C P F B)
 demand-2-written C P F B e = rw (← write-fills C P F B refl e) (mark-written C P F)
 

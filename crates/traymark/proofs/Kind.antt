@@ -1,5 +1,5 @@
--- Marks and strips: the number of the test at which a check stops; and the checks by the struct that says what a plan does are those by
--- the plan itself. Assumes nothing.
+-- Marks and strips: the number of the test at which a check stops; and the checks by the struct that says what a plan does are
+-- those by the plan itself. Assumes nothing.
 use mathlib.Core.Path.{_≡_, refl}
 use mathlib.Core.Bool.{Bool, true, false}
 use mathlib.Core.List.{List}

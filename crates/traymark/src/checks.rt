@@ -1,6 +1,6 @@
-// The refusals that writing, measuring and reading share, for marks (`square`) and for strips: one test for each row of document 01's
-// table "What is returned", in its order. Any bytes of any length get an answer. A loop over cells looks at all of them, with no
-// way out, so that it is vectorised.
+// The refusals that writing, measuring and reading share, for marks (`square`) and for strips: one test for each row of document
+// 01's table "What is returned", in its order. Any bytes of any length get an answer. A loop over cells looks at all of them,
+// with no way out, so that it is vectorised.
 use definitions::UNREAD;
 use plan::Plan;
 use polynomial::bivariate::start;
@@ -28,7 +28,8 @@ pub fn write_number(square: bool, plan: &[u8], record: &[u8], buffer: &[u8]) -> 
 // The same after the plan's own.
 fn write_refusal(square: bool, plan: Plan, record: &[u8], buffer: &[u8]) -> u32
     requires { ⌜ Ready plan ⌝ }
-    ensures { λ r. ⌜ r ≡ writeRefusal (plan .p) (now («record» .entry)) (now (buffer .entry)) (cellsOf square plan) (sizeOf square plan) ⌝ }
+    ensures { λ r. ⌜ r
+        ≡ writeRefusal (plan .p) (now («record» .entry)) (now (buffer .entry)) (cellsOf square plan) (sizeOf square plan) ⌝ }
 {
     let k = record_size(square, plan);
     if record.len() != k {

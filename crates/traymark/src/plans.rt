@@ -18,8 +18,8 @@ pub extern "C" fn traymark_check_plan(plan: &[u8]) -> u32
     plan::check(plan)
 }
 
-// Finds the plan of a season in a plan file, for Rattle. `file` is 24-byte records one after another, and is only read; only their
-// season bytes are looked at, so the plan that is found may be unsound. `number` is set, whatever it was.
+// Finds the plan of a season in a plan file, for Rattle. `file` is 24-byte records one after another, and is only read; only
+// their season bytes are looked at, so the plan that is found may be unsound. `number` is set, whatever it was.
 //
 // Sets the number to 0 and returns the 24 bytes of a record of that season, a part of `file` itself at a multiple of 24. Where
 // several records have the season it may be any of them. Else returns an empty part and sets the number to the lowest of

@@ -5,11 +5,12 @@ ghost use mathlib.Core.Path.{_≡_};
 ghost use Rattle.definitions.specs.Code.{strip, square};
 ghost use Rattle.definitions.specs.Calls.{readReading, readBuffer};
 
-// Reads a photographed mark, from Rattle and from C. `plan`, `symbols` and `doubts` are any bytes of any length, and are only read.
+// Reads a photographed mark, from Rattle and from C.
+// `plan`, `symbols` and `doubts` are any bytes of any length, and are only read.
 //
-// Returns number 0 with the cost, the margin, the changed count and the class of the one record that costs under 100 n (n - d), and has
-// filled `record` with its (d + 1)(d + 2) / 2 coefficients, by total degree and then by rising power of Y. Else leaves `record` as it
-// was, and all but the number is 0; that is the lowest that applies of
+// Returns number 0 with the cost, the margin, the changed count and the class of the one record that costs under 100 n (n - d),
+// and has filled `record` with its (d + 1)(d + 2) / 2 coefficients, by total degree and then by rising power of Y. Else leaves
+// `record` as it was, and all but the number is 0; that is the lowest that applies of
 //   1 to 5  the plan is refused, as by `traymark_check_plan`
 //   6       `symbols` or `doubts` has not n times n bytes, or `record` has not (d + 1)(d + 2) / 2
 //   7       a symbol is p or more and not 255
@@ -22,8 +23,10 @@ pub extern "C" fn traymark_read_mark(
     doubts: &[u8],
     record: &mut [u8],
 ) -> Reading
-    ensures reading { λ r. ⌜ r ≡ readReading square (now (plan .entry)) (now (symbols .entry)) (now (doubts .entry)) (now («record» .entry)) ⌝ }
-    ensures bytes { λ r. ⌜ now («record» .exit) ≡ readBuffer square (now (plan .entry)) (now (symbols .entry)) (now (doubts .entry)) (now («record» .entry)) ⌝ }
+    ensures reading { λ r. ⌜ r
+        ≡ readReading square (now (plan .entry)) (now (symbols .entry)) (now (doubts .entry)) (now («record» .entry)) ⌝ }
+    ensures bytes { λ r. ⌜ now («record» .exit)
+        ≡ readBuffer square (now (plan .entry)) (now (symbols .entry)) (now (doubts .entry)) (now («record» .entry)) ⌝ }
 {
     let number = checks::photo_number(true, plan, symbols, doubts, record);
     if number != 0 {
@@ -32,7 +35,8 @@ pub extern "C" fn traymark_read_mark(
     reading::mark::read_mark(plan::parse(plan), symbols, doubts, record)
 }
 
-// The same for a strip: `record` has d + 1 bytes, lowest power first, `symbols` and `doubts` have n, and the limit is 100 (n - d).
+// The same for a strip: `record` has d + 1 bytes, lowest power first, `symbols` and `doubts` have n, and
+// the limit is 100 (n - d).
 #[no_mangle]
 pub extern "C" fn traymark_read_strip(
     plan: &[u8],
@@ -40,8 +44,10 @@ pub extern "C" fn traymark_read_strip(
     doubts: &[u8],
     record: &mut [u8],
 ) -> Reading
-    ensures reading { λ r. ⌜ r ≡ readReading strip (now (plan .entry)) (now (symbols .entry)) (now (doubts .entry)) (now («record» .entry)) ⌝ }
-    ensures bytes { λ r. ⌜ now («record» .exit) ≡ readBuffer strip (now (plan .entry)) (now (symbols .entry)) (now (doubts .entry)) (now («record» .entry)) ⌝ }
+    ensures reading { λ r. ⌜ r
+        ≡ readReading strip (now (plan .entry)) (now (symbols .entry)) (now (doubts .entry)) (now («record» .entry)) ⌝ }
+    ensures bytes { λ r. ⌜ now («record» .exit)
+        ≡ readBuffer strip (now (plan .entry)) (now (symbols .entry)) (now (doubts .entry)) (now («record» .entry)) ⌝ }
 {
     let number = checks::photo_number(false, plan, symbols, doubts, record);
     if number != 0 {

@@ -6,15 +6,16 @@ ghost use Rattle.definitions.specs.Calls.{writeNumber, writeBuffer};
 
 // Writes the mark of a record, from Rattle and from C. `plan` and `record` are any bytes of any length, and are only read.
 //
-// Returns 0 and has filled `mark`, n times n bytes: the value at the i-th row point and the j-th column point, modulo p, is at i n + j.
-// Else leaves `mark` as it was and returns the lowest that applies of
+// Returns 0 and has filled `mark`, n times n bytes: the value at the i-th row point and the j-th column point, modulo p, is at i
+// n + j. Else leaves `mark` as it was and returns the lowest that applies of
 //   1 to 5  the plan is refused, as by `traymark_check_plan`
 //   6       `record` has not (d + 1)(d + 2) / 2 bytes, or `mark` has not n times n
 //   9       a coefficient is p or more
 #[no_mangle]
 pub extern "C" fn traymark_write_mark(plan: &[u8], record: &[u8], mark: &mut [u8]) -> u32
     ensures number { λ r. ⌜ r ≡ writeNumber square (now (plan .entry)) (now («record» .entry)) (now (mark .entry)) ⌝ }
-    ensures bytes { λ r. ⌜ now (mark .exit) ≡ writeBuffer square (now (plan .entry)) (now («record» .entry)) (now (mark .entry)) ⌝ }
+    ensures bytes { λ r. ⌜ now (mark .exit)
+        ≡ writeBuffer square (now (plan .entry)) (now («record» .entry)) (now (mark .entry)) ⌝ }
 {
     let number = checks::write_number(true, plan, record, mark);
     if number != 0 {
@@ -24,11 +25,13 @@ pub extern "C" fn traymark_write_mark(plan: &[u8], record: &[u8], mark: &mut [u8
     0
 }
 
-// The same for a strip: `record` has d + 1 bytes, lowest power first, and `strip` n, of which the j-th is the value at the j-th point.
+// The same for a strip: `record` has d + 1 bytes, lowest power first, and `strip` n, of which the j-th is the
+// value at the j-th point.
 #[no_mangle]
 pub extern "C" fn traymark_write_strip(plan: &[u8], record: &[u8], strip: &mut [u8]) -> u32
     ensures number { λ r. ⌜ r ≡ writeNumber stripCode (now (plan .entry)) (now («record» .entry)) (now (strip .entry)) ⌝ }
-    ensures bytes { λ r. ⌜ now (strip .exit) ≡ writeBuffer stripCode (now (plan .entry)) (now («record» .entry)) (now (strip .entry)) ⌝ }
+    ensures bytes { λ r. ⌜ now (strip .exit)
+        ≡ writeBuffer stripCode (now (plan .entry)) (now («record» .entry)) (now (strip .entry)) ⌝ }
 {
     let number = checks::write_number(false, plan, record, strip);
     if number != 0 {

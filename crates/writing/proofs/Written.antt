@@ -18,10 +18,20 @@ use Rattle.polynomial.specs.Record.{valueXY}
 use Rattle.definitions.specs.Demands.{Written}
 
 -- the part from r * n on has come back with row r in it
-pub row-more : (n r : ℕ) (f : ℕ → ℕ) (d mark last : List ℕ) → mark ≡ tab (r * n) f ++ drop (r * n) d → last ≡ tab n (λ j. f (r * n + j)) →
-    putMid (r * n) (r * n + n - r * n) mark last ≡ tab ((r + 1) * n) f ++ drop ((r + 1) * n) d
+pub row-more : (n r : ℕ) (f : ℕ → ℕ) (d mark last : List ℕ) → mark ≡ tab (r * n) f ++ drop (r * n) d →
+    last ≡ tab n (λ j. f (r * n + j)) → putMid (r * n) (r * n + n - r * n) mark last ≡ tab ((r + 1) * n) f ++ drop ((r + 1) * n) d
 row-more n r f d mark last e h =
-    rw (e, h, take-at (tab (r * n) f) (drop (r * n) d) (r * n) (length-tab (r * n) f), drop-at (tab (r * n) f) (drop (r * n) d) (r * n) (length-tab (r * n) f), add-sub-cancel-left, drop-drop, add-one r, suc-mul r n, tab-append (r * n) n f)
+    rw (
+      e,
+      h,
+      take-at (tab (r * n) f) (drop (r * n) d) (r * n) (length-tab (r * n) f),
+      drop-at (tab (r * n) f) (drop (r * n) d) (r * n) (length-tab (r * n) f),
+      add-sub-cancel-left,
+      drop-drop,
+      add-one r,
+      suc-mul r n,
+      tab-append (r * n) n f,
+    )
     (sym (append-assoc (tab (r * n) f) (tab n λ j. f (r * n + j)) (drop (r * n + n) d)))
 
 mark-at : (C : Code) (P F : List ℕ) (c : ℕ) → c < cells C P → at (mark C P F) c ≡ value C P F c
@@ -35,5 +45,6 @@ mark-written square P F = (
   length-tab _ _,
   λ i j k l.
       mark-at square P F (i * side P + j) (omega (arith, row-in i (side P) (side P) k))
-      ∙ ap₂ (λ r c. valueXY (modulus P) (degree P) F (point P r) (point P c)) (cell-row (side P) i j l) (cell-column (side P) i j l),
+      ∙ ap₂ (λ r c. valueXY (modulus P) (degree P) F (point P r) (point P c)) (cell-row (side P) i j l)
+      (cell-column (side P) i j l),
 )

@@ -27,12 +27,7 @@ pub fn write_mark(plan: Plan, record: &[u8], mark: &mut [u8])
 }
 
 // Its rows, one after the other, each into its own part of the mark. X was put in for all rows at once, which gave the columns.
-fn write_rows(
-    plan: Plan,
-    columns: &[[u16; 16]; 16],
-    ys: &[[u16; 16]; 16],
-    mark: &mut [u8],
-)
+fn write_rows(plan: Plan, columns: &[[u16; 16]; 16], ys: &[[u16; 16]; 16], mark: &mut [u8])
     requires { ⌜ Ready plan × Rows (plan .p) (now columns) × Rows (plan .p) (now ys) × (length (now mark) ≡ plan .a * plan .b) ⌝ }
     ensures { λ _. ⌜ ((x y F : List ℕ) → Columns (plan .p) (plan .d) x F (now (columns .entry)) →
         Powers (plan .p) y (plan .d) (now (ys .entry)) →

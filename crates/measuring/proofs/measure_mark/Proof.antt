@@ -54,7 +54,9 @@ pub measure-mark-spec : {M : Type 1} → statement M
 measure-mark-spec =
     tie.close
     (tie.spec
-    (λ c κs. let (P, says, photo, given) = c .before .before .before .before .pre in let g = ready (sound P (photo .sound)) says in
+    (λ c κs.
+    let (P, says, photo, given) = c .before .before .before .before .pre in
+    let g = ready (sound P (photo .sound)) says in
     (g .reciprocal, g .rowPoints, omega (arith, g .low, g .rows)))
     columns-requires
     measure-rows-requires

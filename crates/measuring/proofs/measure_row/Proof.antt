@@ -14,7 +14,8 @@ use Rattle.measuring.proofs.measure_row.Tie as tie
 
 abbrev Inv-loop : tie.InvT-loop
 Inv-loop symbols doubts full values cost₀ changed₀ j₀ j-end cost changed j =
-    (j ≤ length symbols) × (j-end ≡ length symbols) × Measured full j (at symbols) (at doubts) (at values) cost changed × (cost ≤ 131072 * j) × (changed ≤ j)
+    (j ≤ length symbols) × (j-end ≡ length symbols) × Measured full j (at symbols) (at doubts) (at values) cost changed
+    × (cost ≤ 131072 * j) × (changed ≤ j)
 
 abbrev μ-loop : tie.MeasureT-loop
 μ-loop symbols doubts full values cost₀ changed₀ j₀ j-end cost changed j = length symbols - j

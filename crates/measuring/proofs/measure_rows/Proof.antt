@@ -38,7 +38,9 @@ measure-row-requires c κs =
       omega (arith, s, start .pre .0 .columns),
       u ∙ sym s,
       omega (arith, start .pre .0 .full),
-      λ i l. let k = rw s at l in rw (part-at (r * b) b (start .args .doubts .now) i k) (start .pre .5 (r * b + i) (omega (arith, h))),
+      λ i l.
+          let k = rw s at l in
+          rw (part-at (r * b) b (start .args .doubts .now) i k) (start .pre .5 (r * b + i) (omega (arith, h))),
     )
 
 loop-again : tie.Need-loop-again Inv-loop μ-loop
@@ -54,8 +56,10 @@ loop-again c =
       omega arith,
       omega (arith, t .1, l .inv .1),
       omega (arith, t .2, l .inv .2),
-      λ x y F C P. measured-more (g .b) (l .r) _ _ _ (l .inv .3 x y F C P) (measured-part (l .r * g .b) (start .args .symbols .now) (start .args .doubts .now) (omega (arith, start .pre .3, h))
-          (grid-row (g .p) (g .d) (g .b) (l .r) x y F (start .pre .0 .columns) (values .row-values .ensures .1 x y F C P)) (t .0)),
+      λ x y F C P. measured-more (g .b) (l .r) _ _ _ (l .inv .3 x y F C P)
+          (measured-part (l .r * g .b) (start .args .symbols .now) (start .args .doubts .now) (omega (arith, start .pre .3, h))
+          (grid-row (g .p) (g .d) (g .b) (l .r) x y F (start .pre .0 .columns) (values .row-values .ensures .1 x y F C P))
+          (t .0)),
     )
 
 returns : tie.Need-returns Inv-loop μ-loop
@@ -72,13 +76,23 @@ measure-rows-spec =
     Inv-loop
     μ-loop
     loop-holds
-    (λ c κs. let b = c .before .before .before .before .pre in (b .0 .reciprocal, b .1, b .2, omega (arith, b .0 .rows), omega (arith, b .0 .low, b .0 .rows)))
-    (λ c. let b = c .before .before .before .before .before .args .plan .b in omega (arith, row-in _ _ b (c .before .loop-test .taken)))
-    (λ c. let b = c .before .before .before .before .before .args .plan .b in omega (arith, row-in _ _ b (c .before .loop-test .taken)))
+    (λ c κs.
+    let b = c .before .before .before .before .pre in
+    (b .0 .reciprocal, b .1, b .2, omega (arith, b .0 .rows), omega (arith, b .0 .low, b .0 .rows)))
+    (λ c.
+    let b = c .before .before .before .before .before .args .plan .b in
+    omega (arith, row-in _ _ b (c .before .loop-test .taken)))
+    (λ c.
+    let b = c .before .before .before .before .before .args .plan .b in
+    omega (arith, row-in _ _ b (c .before .loop-test .taken)))
     (λ c. search needs) (λ c. search needs)
-    (λ c. let b = c .before .before .before .before .before .args .plan .b in omega (arith, row-in _ _ b (c .before .loop-test .taken)))
+    (λ c.
+    let b = c .before .before .before .before .before .args .plan .b in
+    omega (arith, row-in _ _ b (c .before .loop-test .taken)))
     (λ c. search needs) (λ c. search needs)
-    (λ c. let b = c .before .before .before .before .before .before .args .plan .b in omega (arith, row-in _ _ b (c .before .before .loop-test .taken)))
+    (λ c.
+    let b = c .before .before .before .before .before .before .args .plan .b in
+    omega (arith, row-in _ _ b (c .before .before .loop-test .taken)))
     measure-row-requires
     (λ c. search needs) (λ c. search needs) (λ c. search needs) (λ c. search needs)
     loop-again

@@ -57,7 +57,19 @@ returns-11 c = check-at _ 10 (search tests depth 16)
 returns-12 : tie.Need-returns-12
 unfolding planRows
 returns-12 c =
-    check-at _ 11 (search tests, (search tests, (search tests, (search tests, (search tests, (search tests, (search tests, (search tests, (search tests, (search tests, (search tests, tt)))))))))))
+    check-at _ 11 (
+      search tests,
+      (
+        search tests,
+        (
+          search tests,
+          (
+            search tests,
+            (search tests, (search tests, (search tests, (search tests, (search tests, (search tests, (search tests, tt))))))),
+          ),
+        ),
+      ),
+    )
 
 pub check-spec : {M : Type 1} → statement M
 check-spec =

@@ -8,7 +8,11 @@ use Rattle.plan.proofs.find.Tie as tie
 
 returns : tie.Need-returns
 returns c =
-    record { decided = c .before .before .before .locate .ensures .decided; found = λ e. absurd (c .before .if1 .taken e); empty = λ e. refl }
+    record {
+      decided = c .before .before .before .locate .ensures .decided;
+      found = λ e. absurd (c .before .if1 .taken e);
+      empty = λ e. refl;
+    }
 
 add-result : tie.Need-add-result
 add-result c =

@@ -45,7 +45,8 @@ loop-again : tie.Need-loop-again Inv-loop μ-loop
 loop-again c =
     let b = c .before .before .before .before .before in (
       search needs,
-      any-more _ _ (b .loop .inv .1) (ne-eqb _ _ λ e. c .if2 .left (c .before .season-of .ensures ∙ sym (season-at _ (b .loop .k)) ∙ e)),
+      any-more _ _ (b .loop .inv .1)
+          (ne-eqb _ _ λ e. c .if2 .left (c .before .season-of .ensures ∙ sym (season-at _ (b .loop .k)) ∙ e)),
       b .loop .inv .2,
     )
 

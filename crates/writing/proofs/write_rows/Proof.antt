@@ -31,9 +31,10 @@ loop-holds c = (omega arith, refl, λ x y F C P. rw zero-mul)
 store-requires : tie.Need-store-requires Inv-loop μ-loop
 store-requires c κs =
     let values = c .before .before in
-    let start = values .before .before .before .before in
-    (omega (arith, c .before .store-arg .given .1, values .row-values .ensures .0 .size, start .pre .0 .columns),
-    λ j _. omega (arith, values .row-values .ensures .0 .small j, start .pre .0 .reciprocal .most))
+    let start = values .before .before .before .before in (
+      omega (arith, c .before .store-arg .given .1, values .row-values .ensures .0 .size, start .pre .0 .columns),
+      λ j _. omega (arith, values .row-values .ensures .0 .small j, start .pre .0 .reciprocal .most),
+    )
 
 loop-again : tie.Need-loop-again Inv-loop μ-loop
 loop-again c =
@@ -43,12 +44,14 @@ loop-again c =
     let l = values .before .before .loop in
     let start = values .before .before .before .before in
     let g = start .args .plan in
-    let last = stored .store .ensures ∙ ap (λ k. tab k (at (values .row-values .result))) (sym (part .store-arg .given .1) ∙ add-sub-cancel-left _ _) in (
+    let last = stored .store .ensures
+    ∙ ap (λ k. tab k (at (values .row-values .result))) (sym (part .store-arg .given .1) ∙ add-sub-cancel-left _ _) in (
       omega arith,
       search needs,
       λ x y F C P. row-more (g .b) (l .r) (gridValue (g .p) (g .d) (g .b) (at x) (at y) F) (start .args .mark .now) (l .mark) _
           (l .inv .2 x y F C P)
-          (last ∙ tab-eq (g .b) (grid-row (g .p) (g .d) (g .b) (l .r) x y F (start .pre .0 .columns) (values .row-values .ensures .1 x y F C P))),
+          (last ∙ tab-eq (g .b)
+          (grid-row (g .p) (g .d) (g .b) (l .r) x y F (start .pre .0 .columns) (values .row-values .ensures .1 x y F C P))),
     )
 
 returns : tie.Need-returns Inv-loop μ-loop
@@ -64,11 +67,19 @@ write-rows-spec =
     Inv-loop
     μ-loop
     loop-holds
-    (λ c κs. let b = c .before .before .before .pre in (b .0 .reciprocal, b .1, b .2, omega (arith, b .0 .rows), omega (arith, b .0 .low, b .0 .rows)))
-    (λ c. let start = c .before .before .before .before in omega (arith, row-in _ _ (start .args .plan .b) (c .before .loop-test .taken)))
-    (λ c. let start = c .before .before .before .before in omega (arith, row-in _ _ (start .args .plan .b) (c .before .loop-test .taken)))
+    (λ c κs.
+    let b = c .before .before .before .pre in
+    (b .0 .reciprocal, b .1, b .2, omega (arith, b .0 .rows), omega (arith, b .0 .low, b .0 .rows)))
+    (λ c.
+    let start = c .before .before .before .before in
+    omega (arith, row-in _ _ (start .args .plan .b) (c .before .loop-test .taken)))
+    (λ c.
+    let start = c .before .before .before .before in
+    omega (arith, row-in _ _ (start .args .plan .b) (c .before .loop-test .taken)))
     (λ c. search needs) (λ c. search needs)
-    (λ c. let start = c .before .before .before .before in omega (arith, row-in _ _ (start .args .plan .b) (c .before .loop-test .taken)))
+    (λ c.
+    let start = c .before .before .before .before in
+    omega (arith, row-in _ _ (start .args .plan .b) (c .before .loop-test .taken)))
     (λ c. search needs)
     store-requires
     (λ c. search needs) (λ c. search needs)

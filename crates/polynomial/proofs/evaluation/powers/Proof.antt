@@ -1,4 +1,5 @@
--- `polynomial::evaluation::powers` meets its contract: the rows up to t are set, and `power` is the last of them. Assumes nothing.
+-- `polynomial::evaluation::powers` meets its contract: the rows up to t are set, and `power` is the last of them.
+-- Assumes nothing.
 use mathlib.Core.Path.{_≡_, refl}
 use mathlib.Core.List.{[]}
 use Prim.Native.Nat.{_+_, _-_, _%_, _^_, _≤_, _<_}

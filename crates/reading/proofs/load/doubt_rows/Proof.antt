@@ -24,7 +24,11 @@ loop-holds : tie.Need-loop-holds Inv-loop μ-loop
 loop-holds c = (omega arith, passed-zeros)
 
 loop-again : tie.Need-loop-again Inv-loop μ-loop
-loop-again c = (omega arith, passed-step _ (omega (arith, c .before .before .before .before .pre .0)) (c .doubt-line .ensures) (c .before .before .loop .inv .1))
+loop-again c = (
+  omega arith,
+  passed-step _ (omega (arith, c .before .before .before .before .pre .0)) (c .doubt-line .ensures)
+      (c .before .before .loop .inv .1),
+)
 
 returns : tie.Need-returns Inv-loop μ-loop
 returns c =

@@ -20,12 +20,16 @@ abbrev μ-loop : tie.MeasureT-loop
 μ-loop symbols out₀ i₀ i-end out i = length symbols - i
 
 loop-holds : tie.Need-loop-holds Inv-loop μ-loop
-loop-holds c = (omega arith, refl, record { size = refl; done = λ j l. absurd (omega arith); todo = λ j _ l. getD-replicate 16 j 0 0 l })
+loop-holds c =
+    (omega arith, refl, record { size = refl; done = λ j l. absurd (omega arith); todo = λ j _ l. getD-replicate 16 j 0 0 l })
 
 loop-again : tie.Need-loop-again Inv-loop μ-loop
 loop-again c =
-    let l = c .before .before .before .loop in
-    (omega arith, refl, passed-step _ (omega (arith, c .before .before .before .before .before .pre)) (c .symbol-residue .ensures) (l .inv .2))
+    let l = c .before .before .before .loop in (
+      omega arith,
+      refl,
+      passed-step _ (omega (arith, c .before .before .before .before .before .pre)) (c .symbol-residue .ensures) (l .inv .2),
+    )
 
 returns : tie.Need-returns Inv-loop μ-loop
 returns c =

@@ -31,7 +31,8 @@ loop-again c =
     let start = here .before .before .before in
     let given = start .args in
     let inside = row-in (l .r) (given .a) (given .b) (here .loop-test .taken) in
-    let residues = residues-part (given .b) (l .r) (given .symbols .now) (c .residue-row .ensures) (omega (arith, start .pre .2, inside)) in
+    let residues = residues-part (given .b) (l .r) (given .symbols .now) (c .residue-row .ensures)
+    (omega (arith, start .pre .2, inside)) in
     (omega arith, passed-step _ (omega (arith, start .pre .0)) residues (l .inv .1))
 
 returns : tie.Need-returns Inv-loop μ-loop
@@ -39,7 +40,8 @@ returns c =
     let start = c .before .before .before in
     let given = start .args in
     let e : c .before .loop .r ≡ given .a = omega arith in
-    passed-rest (rw e at (c .before .loop .inv .1)) λ r l. no-residues (given .a) (given .b) r (given .symbols .now) l (start .pre .2)
+    passed-rest (rw e at (c .before .loop .inv .1)) λ r l.
+    no-residues (given .a) (given .b) r (given .symbols .now) l (start .pre .2)
 
 pub residue-rows-spec : {M : Type 1} → statement M
 residue-rows-spec =
@@ -51,7 +53,9 @@ residue-rows-spec =
     (λ c. let b = c .before .before .before .pre in omega (arith, product-small (b .0) (b .1) (c .loop-test .taken)))
     (λ c. let b = c .before .before .before .pre in omega (arith, b .1, product-small (b .0) (b .1) (c .loop-test .taken)))
     (λ c. search needs) (λ c. search needs)
-    (λ c. let start = c .before .before .before in omega (arith, start .pre .2, row-in _ _ (start .args .b) (c .loop-test .taken)))
+    (λ c.
+    let start = c .before .before .before in
+    omega (arith, start .pre .2, row-in _ _ (start .args .b) (c .loop-test .taken)))
     (λ c κs. search needs) (λ c. search needs) (λ c. search needs) (λ c. search needs) (λ c. search needs)
     loop-again
     returns)

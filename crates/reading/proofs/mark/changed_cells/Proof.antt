@@ -26,7 +26,7 @@ loop-again c =
     let given = start .args in
     let inside = row-in (l .r) (given .a) (given .b) (here .loop-test .taken) in
     let more = changed-more (given .b) (l .r) (given .symbols .now) (given .left .now) (omega (arith, start .pre .2, inside))
-        (c .changed-in-row .ensures .0) in
+    (c .changed-in-row .ensures .0) in
     (omega arith, omega (arith, more, l .inv .1), omega (arith, c .changed-in-row .ensures .1))
 
 returns : tie.Need-returns Inv-loop μ-loop
@@ -45,7 +45,9 @@ changed-cells-spec =
     (λ c. let b = c .before .before .before .pre in omega (arith, product-small (b .0) (b .1) (c .loop-test .taken)))
     (λ c. let b = c .before .before .before .pre in omega (arith, b .1, product-small (b .0) (b .1) (c .loop-test .taken)))
     (λ c. search needs) (λ c. search needs)
-    (λ c. let start = c .before .before .before in omega (arith, start .pre .2, row-in _ _ (start .args .b) (c .loop-test .taken)))
+    (λ c.
+    let start = c .before .before .before in
+    omega (arith, start .pre .2, row-in _ _ (start .args .b) (c .loop-test .taken)))
     (λ c. search needs) (λ c. search needs) (λ c κs. search needs) (λ c. search needs) (λ c. search needs) (λ c. search needs)
     loop-again
     returns)

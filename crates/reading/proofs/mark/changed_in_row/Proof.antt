@@ -14,7 +14,8 @@ use Rattle.reading.proofs.mark.changed_in_row.Tie as tie
 
 abbrev Inv-loop : tie.InvT-loop
 Inv-loop symbols left sum₀ i₀ i-end sum i =
-    (i ≤ length symbols) × (i-end ≡ length symbols) × (sum ≡ changed i (λ c. flag (at symbols c) (at left c)) (λ _. 0)) × (sum ≤ i)
+    (i ≤ length symbols) × (i-end ≡ length symbols)
+    × (sum ≡ changed i (λ c. flag (at symbols c) (at left c)) (λ _. 0)) × (sum ≤ i)
 
 abbrev μ-loop : tie.MeasureT-loop
 μ-loop symbols left sum₀ i₀ i-end sum i = length symbols - i

@@ -1,4 +1,5 @@
--- `reading::mark::decoded` meets its contract: what is loaded is what the decoder asks for, and its answer is the reading. Assumes nothing.
+-- `reading::mark::decoded` meets its contract: what is loaded is what the decoder asks for, and its answer is the reading.
+-- Assumes nothing.
 use mathlib.Core.Path.{refl, sym, _∙_}
 use native.Mathlib.Omega.{arith}
 use Rattle.plan.proofs.Ready.{ready}
@@ -40,7 +41,8 @@ store-requires c κs =
     let doubts = symbols .before .before in
     let (P, says, t) = doubts .before .before .before .before .before .before .pre in (
       omega (arith, record-room t .1, decoded .decode .ensures .1),
-      message-small says t (symbols .residue-rows .ensures) (doubts .doubt-rows .ensures) (decoded .decode .ensures .0) (radius .radius .ensures .0)
+      message-small says t (symbols .residue-rows .ensures) (doubts .doubt-rows .ensures) (decoded .decode .ensures .0)
+          (radius .radius .ensures .0)
           (c .before .before .if1 .left),
     )
 
@@ -61,15 +63,25 @@ returns-2 c = λ P says t.
     let decoded = radius .before in
     let symbols = decoded .before .before .before .before in
     rw (c .reading .ensures) (mark-reading says t (symbols .residue-rows .ensures) (symbols .before .before .doubt-rows .ensures)
-    (decoded .decode .ensures .0) (radius .radius .ensures .0) (test .if1 .left) (stored .store .ensures) (changed .changed-cells .ensures))
+    (decoded .decode .ensures .0) (radius .radius .ensures .0) (test .if1 .left) (stored .store .ensures)
+    (changed .changed-cells .ensures))
 
 pub decoded-spec : {M : Type 1} → statement M
 decoded-spec =
     tie.close
     (tie.spec
-    (λ c κs. let (P, says, t) = c .before .before .before .before .before .pre in let g = ready (t .sound) says in (g .rows, g .columns, t .photo .doubts ∙ mark-cells says))
-    (λ c κs. let (P, says, t) = c .before .before .before .before .before .before .pre in let g = ready (t .sound) says in (g .prime, g .reciprocal .most, g .reciprocal))
-    (λ c κs. let (P, says, t) = c .before .before .before .before .before .before .before .pre in let g = ready (t .sound) says in (g .rows, g .columns, t .photo .symbols ∙ mark-cells says))
+    (λ c κs.
+    let (P, says, t) = c .before .before .before .before .before .pre in
+    let g = ready (t .sound) says in
+    (g .rows, g .columns, t .photo .doubts ∙ mark-cells says))
+    (λ c κs.
+    let (P, says, t) = c .before .before .before .before .before .before .pre in
+    let g = ready (t .sound) says in
+    (g .prime, g .reciprocal .most, g .reciprocal))
+    (λ c κs.
+    let (P, says, t) = c .before .before .before .before .before .before .before .pre in
+    let g = ready (t .sound) says in
+    (g .rows, g .columns, t .photo .symbols ∙ mark-cells says))
     decode-requires
     radius-requires
     (λ c κs. search needs)

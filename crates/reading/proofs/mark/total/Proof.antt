@@ -11,7 +11,8 @@ use Rattle.reading.proofs.mark.total.Statement.{statement}
 use Rattle.reading.proofs.mark.total.Tie as tie
 
 abbrev Inv-loop : tie.InvT-loop
-Inv-loop doubts sum₀ i₀ i-end sum i = (i ≤ length doubts) × (i-end ≡ length doubts) × (sum ≡ bounded.sum i (at doubts)) × (sum ≤ 255 * i)
+Inv-loop doubts sum₀ i₀ i-end sum i = (i ≤ length doubts) × (i-end ≡ length doubts) × (sum ≡ bounded.sum i (at doubts))
+    × (sum ≤ 255 * i)
 
 abbrev μ-loop : tie.MeasureT-loop
 μ-loop doubts sum₀ i₀ i-end sum i = length doubts - i
@@ -21,11 +22,18 @@ loop-holds c = (omega arith, refl, refl, omega arith)
 
 loop-again : tie.Need-loop-again Inv-loop μ-loop
 loop-again c =
-    let l = c .before .before .loop in
-    (omega arith, refl, omega (arith, l .inv .2, sum-more (l .i) (at (c .before .before .before .args .doubts .now))), omega (arith, c .shared-slice-known .given (l .i)))
+    let l = c .before .before .loop in (
+      omega arith,
+      refl,
+      omega (arith, l .inv .2, sum-more (l .i) (at (c .before .before .before .args .doubts .now))),
+      omega (arith, c .shared-slice-known .given (l .i)),
+    )
 
 returns : tie.Need-returns Inv-loop μ-loop
-returns c = let l = c .before .loop in let e : l .i ≡ length (c .before .before .args .doubts .now) = omega arith in rw e at (l .inv .2)
+returns c =
+    let l = c .before .loop in
+    let e : l .i ≡ length (c .before .before .args .doubts .now) = omega arith in
+    rw e at (l .inv .2)
 
 pub total-spec : {M : Type 1} → statement M
 total-spec =

@@ -1,4 +1,5 @@
--- `reading::strip::read_strip` meets its contract: what is loaded is what the decoder asks for, and its answer is the reading. Assumes nothing.
+-- `reading::strip::read_strip` meets its contract: what is loaded is what the decoder asks for, and its answer is the reading.
+-- Assumes nothing.
 use native.Mathlib.Omega.{arith}
 use Rattle.plan.proofs.Ready.{ready}
 use Rattle.reading.proofs.Loading.{negated}
@@ -19,7 +20,8 @@ refuses : tie.Need-returns
 refuses c = λ P says t.
     let decoded = c .before .before .before in
     let doubts = decoded .before .before .before in
-    rw (c .refused .ensures) (strip-refused t (doubts .before .residue-row .ensures) (doubts .wide-row .ensures) says (decoded .decode .ensures)
+    rw (c .refused .ensures)
+    (strip-refused t (doubts .before .residue-row .ensures) (doubts .wide-row .ensures) says (decoded .decode .ensures)
     (negated _ (c .before .if1 .taken)))
 
 store-requires : tie.Need-store-requires
@@ -48,9 +50,11 @@ reading-requires c κs =
     let decoded = test .before .before in
     let doubts = decoded .before .before .before in
     let symbols = doubts .before in
-    let (P, says, t) = symbols .before .before .before .before .before .pre in
-    (c .radius .ensures .1, strip-under t (symbols .residue-row .ensures) (doubts .wide-row .ensures) says (decoded .decode .ensures)
-    (negated _ (test .if1 .left)))
+    let (P, says, t) = symbols .before .before .before .before .before .pre in (
+      c .radius .ensures .1,
+      strip-under t (symbols .residue-row .ensures) (doubts .wide-row .ensures) says (decoded .decode .ensures)
+          (negated _ (test .if1 .left)),
+    )
 
 returns-2 : tie.Need-returns-2
 returns-2 c = λ P says t.
@@ -60,8 +64,10 @@ returns-2 c = λ P says t.
     let test = stored .before .before .before .before .before in
     let decoded = test .before .before in
     let doubts = decoded .before .before .before in
-    rw (c .reading .ensures) (strip-reading t (doubts .before .residue-row .ensures) (doubts .wide-row .ensures) says (decoded .decode .ensures)
-    (negated _ (test .if1 .left)) (stored .store .ensures) (seen .row .ensures) (changed .word-changed .ensures .0) (c .before .radius .ensures .0))
+    rw (c .reading .ensures)
+    (strip-reading t (doubts .before .residue-row .ensures) (doubts .wide-row .ensures) says (decoded .decode .ensures)
+    (negated _ (test .if1 .left)) (stored .store .ensures) (seen .row .ensures) (changed .word-changed .ensures .0)
+    (c .before .radius .ensures .0))
 
 pub read-strip-spec : {M : Type 1} → statement M
 read-strip-spec =
@@ -69,14 +75,25 @@ read-strip-spec =
     (tie.spec
     (λ c κs. let (P, says, t) = c .before .before .before .before .pre in omega (arith, t .photo .symbols, t .sound .most))
     (λ c κs. let (P, says, t) = c .before .before .before .before .before .pre in omega (arith, t .photo .doubts, t .sound .most))
-    (λ c κs. let (P, says, t) = c .before .before .before .before .before .before .pre in let g = ready (t .sound) says in (g .prime, g .reciprocal .most, g .reciprocal))
+    (λ c κs.
+    let (P, says, t) = c .before .before .before .before .before .before .pre in
+    let g = ready (t .sound) says in
+    (g .prime, g .reciprocal .most, g .reciprocal))
     decode-requires
     (λ c κs. search needs)
     refuses
     (λ c. search needs)
     store-requires
-    (λ c κs. let stored = c .before .before in let decoded = stored .before .before .before .before .before .before .before in let (P, says, t) = decoded .before .before .before .before .before .before .before .before .before .pre in omega (arith, t .photo .symbols, t .sound .most))
-    (λ c κs. let stored = c .before .before .before in let decoded = stored .before .before .before .before .before .before .before in let (P, says, t) = decoded .before .before .before .before .before .before .before .before .before .pre in ready (t .sound) says .rows)
+    (λ c κs.
+    let stored = c .before .before in
+    let decoded = stored .before .before .before .before .before .before .before in
+    let (P, says, t) = decoded .before .before .before .before .before .before .before .before .before .pre in
+    omega (arith, t .photo .symbols, t .sound .most))
+    (λ c κs.
+    let stored = c .before .before .before in
+    let decoded = stored .before .before .before .before .before .before .before in
+    let (P, says, t) = decoded .before .before .before .before .before .before .before .before .before .pre in
+    ready (t .sound) says .rows)
     radius-requires
     reading-requires
     (λ c. search needs)

@@ -17,9 +17,11 @@ returns-2 : tie.Need-returns-2
 returns-2 c =
     let test = c .before .before .before in
     let radius = test .before in
-    let solved = radius .before in
-    (outcome-found (solved .solve .ensures) (solved .before .before .before .before .pre .0) (c .flatten .ensures)
-    (omega (arith, test .if1 .left, radius .radius .ensures)), c .flatten .ensures .size)
+    let solved = radius .before in (
+      outcome-found (solved .solve .ensures) (solved .before .before .before .before .pre .0) (c .flatten .ensures)
+          (omega (arith, test .if1 .left, radius .radius .ensures)),
+      c .flatten .ensures .size,
+    )
 
 pub decode-spec : {M : Type 1} → statement M
 decode-spec =

@@ -1,4 +1,5 @@
--- `traymark::checks::is_half_read` meets its contract: what is found is whether one of the cells before c is such. Assumes nothing.
+-- `traymark::checks::is_half_read` meets its contract: what is found is whether one of the cells before c is such.
+-- Assumes nothing.
 use mathlib.Core.Path.{_≡_, sym}
 use Prim.Native.Nat.{_-_, _≤_}
 use native.Mathlib.Omega.{arith}
@@ -21,7 +22,9 @@ loop-again : tie.Need-loop-again Inv-loop μ-loop
 loop-again c = (omega arith, any-next _ _ (c .before .before .before .before .loop .inv .1) (c .is-half-read-cell .ensures))
 
 returns : tie.Need-returns Inv-loop μ-loop
-returns c = let e : c .before .loop .c ≡ c .before .before .before .before .args .n = omega arith in rw e at (c .before .loop .inv .1)
+returns c =
+    let e : c .before .loop .c ≡ c .before .before .before .before .args .n = omega arith in
+    rw e at (c .before .loop .inv .1)
 
 pub is-half-read-spec : {M : Type 1} → statement M
 is-half-read-spec =

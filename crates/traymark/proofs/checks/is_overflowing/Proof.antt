@@ -1,4 +1,5 @@
--- `traymark::checks::is_overflowing` meets its contract: what is found is whether one of the coefficients before k is such. Assumes nothing.
+-- `traymark::checks::is_overflowing` meets its contract: what is found is whether one of the coefficients before k is such.
+-- Assumes nothing.
 use mathlib.Core.Path.{_≡_, refl, sym}
 use Prim.Native.Nat.{_-_, _≤_}
 use native.Mathlib.Omega.{arith}

@@ -1,4 +1,5 @@
--- `traymark::checks::is_strange` meets its contract: what is found is whether one of the symbols before c is such. Assumes nothing.
+-- `traymark::checks::is_strange` meets its contract: what is found is whether one of the symbols before c is such.
+-- Assumes nothing.
 use mathlib.Core.Path.{_≡_, sym}
 use Prim.Native.Nat.{_-_, _≤_}
 use native.Mathlib.Omega.{arith}

@@ -1,4 +1,5 @@
--- `traymark::checks::write_refusal` meets its contract: at each return the tests before it failed, and its own holds. Assumes nothing.
+-- `traymark::checks::write_refusal` meets its contract: at each return the tests before it failed, and its own holds.
+-- Assumes nothing.
 use mathlib.Core.Path.{refl}
 use Rattle.definitions.proofs.Refusals.{equal, unequal, answered}
 use Rattle.traymark.proofs.Kind.{write-at}

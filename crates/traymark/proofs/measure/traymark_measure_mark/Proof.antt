@@ -1,4 +1,5 @@
--- `traymark::measure::traymark_measure_mark` meets its contract: the checks come first, and after them the one call below measures.
+-- `traymark::measure::traymark_measure_mark` meets its contract:
+-- the checks come first, and after them the one call below measures.
 -- Assumes nothing.
 use mathlib.Core.Path.{sym, _∙_}
 use Rattle.definitions.proofs.Accepted.{accepted-measuring}

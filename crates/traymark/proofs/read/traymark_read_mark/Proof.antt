@@ -1,4 +1,5 @@
--- `traymark::read::traymark_read_mark` meets its contract: the checks come first, and after them the one call below reads. Assumes nothing.
+-- `traymark::read::traymark_read_mark` meets its contract: the checks come first, and after them the one call below reads.
+-- Assumes nothing.
 use mathlib.Core.Path.{_∙_}
 use Rattle.traymark.proofs.Answer.{read-refuses, read-takes}
 use borrow.Author.Needs.{needs}

@@ -1,4 +1,5 @@
--- `traymark::write::traymark_write_strip` meets its contract: the checks come first, and after them the one call below writes. Assumes nothing.
+-- `traymark::write::traymark_write_strip` meets its contract: the checks come first, and after them the one call below writes.
+-- Assumes nothing.
 use mathlib.Core.Path.{sym, _∙_}
 use Rattle.definitions.proofs.Accepted.{accepted-writing}
 use Rattle.traymark.proofs.Answer.{write-keeps, write-fills}

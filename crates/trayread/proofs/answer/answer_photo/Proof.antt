@@ -84,7 +84,13 @@ returns-2 c =
     let n = cells square (planOf i) in
     let l : length (drop (24 + n) i) ≤ length i - (24 + n) = simp length-drop (omega arith) in
     let u = take-all (length i - (24 + n)) (drop (24 + n) i) l in
-    rw (← mark-cells says, add-sub-cancel-left 24 n, u, cut s (sized .start .result) (size-is s says (sized .start .ensures)), season-is s says)
+    rw (
+      ← mark-cells says,
+      add-sub-cancel-left 24 n,
+      u,
+      cut s (sized .start .result) (size-is s says (sized .start .ensures)),
+      season-is s says,
+    )
     at (answered .answer-mark .ensures)
 
 pub answer-photo-spec : {M : Type 1} → statement M
@@ -98,9 +104,13 @@ answer-photo-spec =
     (λ c. let parsed = c .before in omega (arith, cells-most (parsed .before .before .before .before) (parsed .parse .ensures)))
     (λ c κs. search needs) (λ c. search needs)
     returns
-    (λ c. let parsed = c .before .before .before in let g = fits (parsed .before .before .before .before) (parsed .parse .ensures) in
+    (λ c.
+    let parsed = c .before .before .before in
+    let g = fits (parsed .before .before .before .before) (parsed .parse .ensures) in
     omega (arith, g .low, g .rows))
-    (λ c κs. let parsed = c .before .before .before in let g = fits (parsed .before .before .before .before) (parsed .parse .ensures) in
+    (λ c κs.
+    let parsed = c .before .before .before in
+    let g = fits (parsed .before .before .before .before) (parsed .parse .ensures) in
     omega (arith, g .low, g .rows))
     (λ c. search needs) (λ c. search needs) (λ c. search needs) (λ c. search needs) (λ c. search needs) (λ c. search needs)
     (λ c. search needs)
