@@ -52,7 +52,7 @@ module _ {g : Grid} {t : ℕ} (f : Fit g) (low : t ≤ g .d) where
     full = omega (arith, f .full);
   }
 
-  pub strip-valid : Valid (stripAxis g t)
+  pub strip-valid : Valid (stripAxis g t (g .full * (g .b - t)))
   strip-valid = record {
     prime = f .prime;
     reciprocal = f .reciprocal;

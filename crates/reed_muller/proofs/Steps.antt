@@ -103,19 +103,22 @@ module _ {g : Grid} {j : ℕ} (f : Fit g) (left u left′ ws : List (List ℕ)) 
 -- what the lines hand on is a strip: its symbols are a row, its doubts at most the full one
 module _ {g : Grid} {t : ℕ} (f : Fit g) {left u ws : List (List ℕ)} {e v : List ℕ} (A : AnsweredRows g t left u ws v)
     (leading : e ≡ row λ r. cellAt ws r t) where
-  pub leading-received : t ≤ g .d → Received (stripAxis g t) e v
-  leading-received low = record {
+  pub leading-received : {R : ℕ} → R ≡ g .full * (g .b - t) → t ≤ g .d → Received (stripAxis g t R) e v
+  leading-received i low = rw i (record {
     axis = strip-valid f low;
     symbols = column-row t (positive f) (A .rows) leading;
     doubts = λ r l. A .answered r l .entered .below;
-  }
+  })
 
   leading-entered : (r : ℕ) → r < g .a → HandsOn (g .p - 1) (g .full) (g .b) t (at (g .y)) (cellAt left r) (cellAt u r)
       (at e r) (at v r)
   leading-entered r l = rw (leading, row-at (λ r. cellAt ws r t) r (omega (arith, f .rows))) (A .answered r l .entered)
 
   -- the strip, read
-  module _ {strip : Strip.Decoded} (D : StripDecoded (stripAxis g t) e v strip) where
+  module _ {R : ℕ} (i : R ≡ g .full * (g .b - t)) {strip : Strip.Decoded} (S : StripDecoded (stripAxis g t R) e v strip) where
+    D : StripDecoded (stripAxis g t (g .full * (g .b - t))) e v strip
+    D = rw i at S
+
     pub stepped-none : strip .found ≡ false → (left′ : List (List ℕ)) (vs : List ℕ) →
         Stepped g t left u left′ ws false (strip .message) vs
     stepped-none z left′ vs = record {
@@ -133,8 +136,7 @@ module _ {g : Grid} {t : ℕ} (f : Fit g) {left u ws : List (List ℕ)} {e v : L
 
     pub stepped-found : strip .found ≡ true → {w v′ : List ℕ} {left′ : List (List ℕ)} → DoubtRows g u → Rows (g .p) left →
         w ≡ row (λ c. at (g .y) c ^ t % g .p) → Without g left (strip .values) w left′ →
-        v′ ≡ row (λ r. kept (at e r) (at (strip .values) r) (at v r) (g .full * (g .b - t))) →
-        Stepped g t left u left′ ws true (strip .message) v′
+        v′ ≡ row (λ r. kept (at e r) (at (strip .values) r) (at v r) R) → Stepped g t left u left′ ws true (strip .message) v′
     stepped-found y {w} {v′} {left′} du sq power W carried = record {
       e = e;
       v = v;
@@ -144,13 +146,13 @@ module _ {g : Grid} {t : ℕ} (f : Fit g) {left u ws : List (List ℕ)} {e v : L
       good = D .small;
       lines = A .rows;
       rows = λ _. W .rows;
-      subtracted = λ _. S;
-      known = λ _ j i. known-next f left u left′ ws (strip .message) {z = strip .values} du (rw i at A) (rw i at leading)
-          (rw i at (D .values y)) (rw i at carried) (rw i at S);
+      subtracted = λ _. less;
+      known = λ _ j k. known-next f left u left′ ws (strip .message) {z = strip .values} du (rw k at A) (rw k at leading)
+          (rw k at (D .values y)) (rw k at (rw i at carried)) (rw k at less);
     }
       where
-        S : (r : ℕ) → r < g .a → Lessened g t (strip .message) left left′ r
-        S = without-subtracted t f left left′ (strip .message) sq (D .values y) power W
+        less : (r : ℕ) → r < g .a → Lessened g t (strip .message) left left′ r
+        less = without-subtracted t f left left′ (strip .message) sq (D .values y) power W
 
 -- the steps start: nothing is found, all is left, and no answer is known
 pub solving-start : {g : Grid} {s u columns ws : List (List ℕ)} {vs : List ℕ} → Fit g → Rows (g .p) s → Rows (g .p) columns →

@@ -3,15 +3,14 @@
 --   Fit g           p is prime and m its reciprocal; at most sixteen points each way, all apart; d is below both sides; the full
 --                   doubt is below 4096, so that the full doubt of a line, full (b - t), is below 65536
 --   DoubtRows g u   no doubt of the grid's cells is above the full doubt
---   lineAxis g t, stripAxis g t
---                   the axis of a line at the degree t, and that of the strip of what the lines hand on: the full doubt of that
---                   is the radius of a line
+--   lineAxis g t    the axis of a line at the degree t
+--   stripAxis g t R the axis of the strip of what the lines hand on, whose full doubt is the radius R of a line
 --   ColumnPowers g ys
 --                   row t of ys has the powers t of the column points, t ≤ d
 --
 -- What this file is for: what the decoder asks of its caller, and what its parts lend each other.
 use mathlib.Core.List.{List}
-use Prim.Native.Nat.{ℕ, _*_, _-_, _≤_, _<_}
+use Prim.Native.Nat.{ℕ, _-_, _≤_, _<_}
 use Rattle.bounded.specs.Bounded.{at}
 use Rattle.field.specs.Prime.{Prime}
 use Rattle.field.specs.Row.{Row, Reciprocal}
@@ -41,8 +40,8 @@ DoubtRows g u = (r : ℕ) → r < g .a → Doubts (g .full) (g .b) (cellAt u r)
 abbrev pub lineAxis : Grid → ℕ → Axis
 lineAxis g t = record { p = g .p; m = g .m; x = g .y; n = g .b; k = t; full = g .full }
 
-abbrev pub stripAxis : Grid → ℕ → Axis
-stripAxis g t = record { p = g .p; m = g .m; x = g .x; n = g .a; k = g .d - t; full = g .full * (g .b - t) }
+abbrev pub stripAxis : Grid → (t R : ℕ) → Axis
+stripAxis g t R = record { p = g .p; m = g .m; x = g .x; n = g .a; k = g .d - t; full = R }
 
 pub record ColumnPowers (g : Grid) (ys : List (List ℕ)) : Type 0 where
   pub rows : Rows (g .p) ys

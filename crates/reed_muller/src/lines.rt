@@ -1,5 +1,6 @@
 // The lines of a mark: each row of what is left, read as a strip over the column points.
 use crate::grid::Grid;
+use distance::word;
 use reed_solomon::axis::Axis;
 ghost use mathlib.Core.Path.{_≡_};
 ghost use Prim.Native.Nat.{_≤_, _<_};
@@ -46,7 +47,7 @@ fn read(g: Grid, inverses: &[u16; 251], t: usize, symbols: [u16; 16], doubts: [u
     }
     Line {
         message: [0; 16],
-        cost: g.full * ((g.b - t) as u32),
+        cost: word::radius(g.full, 1, g.b, t),
     }
 }
 

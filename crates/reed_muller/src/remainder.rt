@@ -2,7 +2,7 @@
 use crate::grid::Grid;
 use distance::word;
 ghost use mathlib.Core.Path.{_≡_};
-ghost use Prim.Native.Nat.{_*_, _≤_, _<_};
+ghost use Prim.Native.Nat.{_*_};
 ghost use Rattle.field.specs.Row.{Row};
 ghost use Rattle.polynomial.specs.Grid.{gridDistance};
 ghost use Rattle.polynomial.specs.Powers.{Rows};
@@ -43,21 +43,13 @@ pub fn measure(g: Grid, left: &[[u16; 16]; 16], doubts: &[[u32; 16]; 16]) -> u32
     sum
 }
 
-// full a b, for sides of at most sixteen.
-fn area(full: u32, a: usize, b: usize) -> u32
-    requires { ⌜ (full < 4096) × (a ≤ 16) × (b ≤ 16) ⌝ }
-    ensures { λ r. ⌜ r ≡ full * (a * b) ⌝ }
-{
-    full * ((a * b) as u32)
-}
-
 // The full doubt times the least number of cells in which two records differ, max(a, b) (min(a, b) - d).
 pub fn radius(g: Grid) -> u32
     requires { ⌜ Fit g ⌝ }
     ensures { λ r. ⌜ r ≡ g .full * gridDistance (g .a) (g .b) (g .d) ⌝ }
 {
     if g.a < g.b {
-        return area(g.full, g.b, g.a - g.d);
+        return word::radius(g.full, g.b, g.a, g.d);
     }
-    area(g.full, g.a, g.b - g.d)
+    word::radius(g.full, g.a, g.b, g.d)
 }

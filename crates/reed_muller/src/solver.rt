@@ -4,6 +4,7 @@ use crate::grid::Grid;
 use crate::lines;
 use crate::remainder;
 use crate::trial;
+use distance::word;
 use polynomial::bivariate;
 use polynomial::evaluation;
 use reed_solomon::axis::Axis;
@@ -41,7 +42,7 @@ fn step(
 {
     let costs = lines::answer(g, inverses, t, messages, known, left, doubts);
     let leading = bivariate::place_of_each(messages, t);
-    let radius = g.full * ((g.b - t) as u32);
+    let radius = word::radius(g.full, 1, g.b, t);
     let x = g.x;
     let axis = Axis {
         p: g.p,

@@ -1,6 +1,8 @@
 -- `reed_muller::lines::read` meets its contract: by the laws of a line that was found and of one that was not. Assumes nothing.
+use mathlib.Core.Path.{_≡_}
+use Prim.Native.Nat.{_*_, _-_}
 use native.Mathlib.Omega.{arith}
-use Rattle.reed_muller.proofs.Answers.{line-full, line-valid, answered-found, answered-none}
+use Rattle.reed_muller.proofs.Answers.{line-valid, answered-found, answered-none}
 use borrow.Author.Needs.{needs}
 use Rattle.reed_muller.proofs.lines.read.Statement.{statement}
 use Rattle.reed_muller.proofs.lines.read.Tie as tie
@@ -12,14 +14,20 @@ returns c =
     let b = i .before .before .before .pre in
     answered-found (b .0) (b .3) (D .small) (i .if1 .taken) (D .strip)
 
+returns-2 : tie.Need-returns-2
+returns-2 c =
+    let compared = c .before in
+    let read = compared .before in
+    let start = read .before .before in
+    let g = start .args .g in
+    let e : c .radius .result ≡ g .full * (g .b - start .args .t) = omega (arith, c .radius .ensures .0) in
+    rw e (answered-none (start .pre .0) (compared .if1 .left) (read .decode .ensures .strip))
+
 pub read-spec : {M : Type 1} → statement M
 read-spec =
     tie.close
     (tie.spec
     (λ c κs. let b = c .before .pre in (record { axis = line-valid (b .0) (b .1); symbols = b .2; doubts = b .3 }, b .4))
     returns
-    (λ c. search needs) (λ c. search needs)
-    (λ c. let start = c .before .before .before .before .before in omega (arith, line-full (start .args .t) (start .pre .0)))
-    (λ c.
-    let D = c .before .before .before .decode .ensures in
-    answered-none (c .before .before .before .before .before .pre .0) (c .before .before .if1 .left) (D .strip)))
+    (λ c κs. search needs)
+    returns-2)

@@ -8,23 +8,23 @@ use Rattle.reed_muller.proofs.remainder.radius.Tie as tie
 
 returns : tie.Need-returns
 returns c =
-    let g = c .before .before .before .before .args .g in
-    let m : max (g .a) (g .b) ≡ g .b = omega arith in
-    let n : min (g .a) (g .b) ≡ g .a = omega arith in
-    rw (m, n) (c .area .ensures)
+    let g = c .before .before .before .args .g in
+    let long : max (g .a) (g .b) ≡ g .b = omega arith in
+    let short : min (g .a) (g .b) ≡ g .a = omega arith in
+    rw (long, short) (omega (arith, c .radius .ensures .0))
 
 returns-2 : tie.Need-returns-2
 returns-2 c =
-    let g = c .before .before .before .before .args .g in
-    let m : max (g .a) (g .b) ≡ g .a = omega arith in
-    let n : min (g .a) (g .b) ≡ g .b = omega arith in
-    rw (m, n) (c .area2 .ensures)
+    let g = c .before .before .before .args .g in
+    let long : max (g .a) (g .b) ≡ g .a = omega arith in
+    let short : min (g .a) (g .b) ≡ g .b = omega arith in
+    rw (long, short) (omega (arith, c .radius2 .ensures .0))
 
 pub radius-spec : {M : Type 1} → statement M
 radius-spec =
     tie.close
     (tie.spec
-    (λ c. search needs) (λ c κs. search needs)
+    (λ c κs. search needs)
     returns
-    (λ c. search needs) (λ c κs. search needs)
+    (λ c κs. search needs)
     returns-2)

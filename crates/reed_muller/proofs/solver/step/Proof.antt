@@ -1,24 +1,28 @@
 -- `reed_muller::solver::step` meets its contract: by the laws of a step with and without an answer. Assumes nothing.
-use Prim.Native.Nat.{_<_}
+use mathlib.Core.Path.{_≡_}
+use Prim.Native.Nat.{_*_, _-_, _<_}
 use native.Mathlib.Omega.{arith}
 use borrow.Author.Tests.{not-true, not-false}
 use Rattle.field.proofs.Row.{result-row}
-use Rattle.reed_muller.proofs.Answers.{positive, line-full}
+use Rattle.reed_muller.proofs.Answers.{positive}
 use Rattle.reed_muller.proofs.Steps.{leading-received, stepped-none, stepped-found}
 use borrow.Author.Needs.{needs}
 use Rattle.reed_muller.proofs.solver.step.Statement.{statement}
 use Rattle.reed_muller.proofs.solver.step.Tie as tie
 
 -- the strip of the leading coefficients is read: the states before that
-module _ (c : tie.After-struct-known3) where
+module _ (c : tie.After-struct-known) where
   abbrev led : tie.After-place-of-each
-  led = c .before .before .before .before
+  led = c .before .before .before
 
   abbrev answered : tie.After-answer
   answered = led .before .before
 
   abbrev start : tie.Start
   start = answered .before .before .before
+
+  radius : c .before .before .radius .result ≡ start .args .g .full * (start .args .g .b - start .args .t)
+  radius = omega (arith, c .before .before .radius .ensures .0)
 
   small : start .args .t < 16
   small = let b = start .pre in omega (arith, b .3, b .0 .low, b .0 .rows)
@@ -27,8 +31,8 @@ returns : tie.Need-returns
 returns c =
     let read = c .before .before .before in
     let s = read .before in
-    stepped-none (start s .pre .0) (answered s .answer .ensures) (led s .place-of-each .ensures) (read .decode .ensures)
-    (not-true _ (c .if1 .taken)) _ _
+    stepped-none (start s .pre .0) (answered s .answer .ensures) (led s .place-of-each .ensures) (radius s)
+    (read .decode .ensures) (not-true _ (c .if1 .taken)) _ _
 
 returns-2 : tie.Need-returns-2
 returns-2 c =
@@ -36,22 +40,19 @@ returns-2 c =
     let read = found .before .before .before in
     let s = read .before in
     let (f, _, P, low, sq, du, _) = start s .pre in
-    stepped-found f (answered s .answer .ensures) (led s .place-of-each .ensures) (read .decode .ensures)
+    stepped-found f (answered s .answer .ensures) (led s .place-of-each .ensures) (radius s) (read .decode .ensures)
     (not-false _ (found .if1 .left)) du sq (P .powers .done _ (omega arith)) (c .before .subtract .ensures) (c .carry .ensures)
 
 pub step-spec : {M : Type 1} → statement M
 step-spec =
     tie.close
     (tie.spec
-    (λ c κs. search needs) (λ c κs. search needs) (λ c. search needs) (λ c. search needs)
-    (λ c.
-    let answered = c .before .before .before .before in
-    let start = answered .before .before .before in
-    omega (arith, line-full (start .args .t) (start .pre .0)))
+    (λ c κs. search needs) (λ c κs. search needs)
+    (λ c κs. search needs)
     (λ c. search needs)
     (λ c κs.
     let b = start c .pre in
-    (leading-received (b .0) (answered c .answer .ensures) (led c .place-of-each .ensures) (b .3), b .1))
+    (leading-received (b .0) (answered c .answer .ensures) (led c .place-of-each .ensures) (radius c) (b .3), b .1))
     returns
     (λ c. let read = c .before .before .before .before .before in omega (arith, small (read .before)))
     (λ c. let read = c .before .before .before .before .before in small (read .before))
