@@ -31,7 +31,7 @@ refuses c = λ P says t.
     let decoded = radius .before in
     let symbols = decoded .before .before .before .before in
     rw (c .refused .ensures) (mark-refused says t (symbols .residue-rows .ensures) (symbols .before .before .doubt-rows .ensures)
-    (decoded .decode .ensures .0) (radius .radius .ensures .0) (c .before .if1 .taken))
+    (decoded .decode .ensures .0) (radius .radius .ensures .0) (omega (arith, c .before .if1 .taken)))
 
 store-requires : tie.Need-store-requires
 store-requires c κs =
@@ -42,8 +42,7 @@ store-requires c κs =
     let (P, says, t) = doubts .before .before .before .before .before .before .pre in (
       omega (arith, record-room t .1, decoded .decode .ensures .1),
       message-small says t (symbols .residue-rows .ensures) (doubts .doubt-rows .ensures) (decoded .decode .ensures .0)
-          (radius .radius .ensures .0)
-          (c .before .before .if1 .left),
+          (radius .radius .ensures .0) (omega (arith, c .before .before .if1 .left)),
     )
 
 changed-cells-requires : tie.Need-changed-cells-requires
@@ -63,7 +62,7 @@ returns-2 c = λ P says t.
     let decoded = radius .before in
     let symbols = decoded .before .before .before .before in
     rw (c .reading .ensures) (mark-reading says t (symbols .residue-rows .ensures) (symbols .before .before .doubt-rows .ensures)
-    (decoded .decode .ensures .0) (radius .radius .ensures .0) (test .if1 .left) (stored .store .ensures)
+    (decoded .decode .ensures .0) (radius .radius .ensures .0) (omega (arith, test .if1 .left)) (stored .store .ensures)
     (changed .changed-cells .ensures))
 
 pub decoded-spec : {M : Type 1} → statement M
