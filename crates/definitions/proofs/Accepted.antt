@@ -11,7 +11,7 @@
 --
 -- What this file is for: the calls test in order, and each case of theirs is one law. Assumes nothing.
 use mathlib.Core.Path.{_≡_, refl, sym, _∙_}
-use mathlib.Core.Bool.{false}
+use mathlib.Core.Bool.{Bool, false}
 use mathlib.Core.List.{List, [], _∷_}
 use Prim.Native.Nat.{ℕ}
 use lib.ListN.{length}
@@ -32,6 +32,11 @@ use Rattle.definitions.proofs.Refusals.{testAt, first-clear, first-both
 use Rattle.definitions.proofs.Refusals.{first-passes}
 use Rattle.definitions.proofs.Sound.{sound}
 use Rattle.definitions.proofs.Photograph.{photo-accepted, accepted-photo, accepted-buffer}
+
+-- one row that does not apply
+passed : (k : ℕ) (b : Bool) → b ≡ false → first ((k when b) ∷ []) ≡ 0
+unfolding first
+passed k b e = rw e
 
 module _ (C : Code) (P : List ℕ) where
   -- the record of a call that row 9 does not refuse
@@ -68,7 +73,7 @@ module _ (C : Code) (P : List ℕ) where
       c = first-clear (writeTests (modulus P) F B (cells C P) (size C P)) tt (b .1)
 
       rest : testAt (writeTests (modulus P) F B (cells C P) (size C P)) 2 ≡ false → first (recordRow C P F ∷ []) ≡ 0
-      rest t = rw t
+      rest t = passed 9 (overflowing (modulus P) F (size C P)) t
 
   -- a number that is the plan's, and that of one of the tests after it
   module _ (s u F : List ℕ) where
