@@ -1,4 +1,4 @@
--- The published distance: document 004, section 4.2, with its uncertainties in fractions.
+-- The published distance (Kim, section 4.2), with its uncertainties in fractions.
 --
 --   a over b           the fraction a / b
 --   q ⊕ r, half q      their sum, and half of q

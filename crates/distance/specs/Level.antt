@@ -1,4 +1,4 @@
--- Levels of doubt (document 004, chapter 4): at level t a cell whose doubt is over t counts as erased.
+-- Levels of doubt (Forney; Kim, section 4.2): at level t a cell whose doubt is over t counts as erased.
 --
 --   differ v w          1 where two values differ, else 0
 --   wrong t s u v       1 for a cell that is kept at level t and whose symbol is not the value
