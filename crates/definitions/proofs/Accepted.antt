@@ -1,11 +1,10 @@
 -- What a call that is not refused knows of its arguments, and the number of one that is.
 --
---   photoTests, writeTests        the tests after those of the plan
 --   accepted-measuring            measuring: a sound plan, a photograph and a record
 --   accepted-reading              reading: a photograph
 --   accepted-writing              writing: what it asks of its arguments
---   photo-refused, photo-at       the plan's own number; the number of the test at which a photograph stops
---   write-refused, write-at       the same of writing
+--   photo-refused, photo-passes   the plan's own number; past the plan, that of the tests of a photograph
+--   write-refused, write-passes   the same of writing
 --   measure-refused, measure-at   the photograph's number; that of the test after it
 --   measuring-accepted            a photograph and a record of its plan are measured
 --
@@ -17,7 +16,7 @@ use Prim.Native.Nat.{ℕ}
 use lib.ListN.{length}
 use borrow.Author.Tests.{leb-false, lt-leb, eqb-true, not-false}
 use Rattle.bounded.proofs.Any.{any-none, none-any}
-use Rattle.definitions.specs.Refusals.{Refusal, _when_, first}
+use Rattle.definitions.specs.Refusals.{_when_, first}
 use Rattle.definitions.specs.Plan.{modulus, planRows, checkNumber}
 use Rattle.definitions.specs.Code.{Code, size, cells}
 use Rattle.definitions.specs.Cost.{full}

@@ -7,14 +7,14 @@
 use mathlib.Core.Path.{_≡_, refl, sym, ap, _∙_}
 use mathlib.Core.Logic.{_⊎_, inl, inr}
 use mathlib.Core.Bool.{Bool, true, false, not, _&&_, true≢false}
-use mathlib.Core.List.{List, [], _∷_}
+use mathlib.Core.List.{List}
 use Prim.Native.Nat.{ℕ, zero, suc, _<_}
 use lib.Dec.{eqb, leb}
 use lib.ListN.{length}
 use borrow.Author.Tests.{eqb-true, ltb-false, leb-false, eq-eqb, le-ltb, lt-leb}
 use Rattle.bounded.specs.Bounded.{at}
 use Rattle.bounded.proofs.Any.{any-none, none-any}
-use Rattle.definitions.specs.Refusals.{Refusal, _when_, first, accepted}
+use Rattle.definitions.specs.Refusals.{Refusal, first, accepted}
 use Rattle.definitions.specs.Plan.{modulus, planRows, checkNumber}
 use Rattle.definitions.specs.Code.{Code, cells, size}
 use Rattle.definitions.specs.Cost.{full, unread}
