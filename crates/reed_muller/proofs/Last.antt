@@ -5,7 +5,8 @@ use mathlib.Core.Bool.{true, false, false≢true}
 use Prim.Native.Nat.{ℕ, suc, _+_, _*_, _≤_, _<_}
 use Rattle.field.proofs.Congruence.{same}
 use Rattle.polynomial.specs.Grid.{gridDistance}
-use Rattle.reed_muller.specs.Degree.{remaining, GridNear, GridCosts}
+use Rattle.grid.specs.Cost.{remaining, GridCosts}
+use Rattle.reed_muller.specs.Degree.{GridNear}
 use Rattle.reed_muller.specs.Mark.{Decoded}
 use Rattle.reed_muller.proofs.Degree.{grid-cost}
 

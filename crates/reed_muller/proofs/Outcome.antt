@@ -1,33 +1,38 @@
 -- What the decoder of marks returns: what is left, measured row by row; and its outcome under the radius and else. Assumes
 -- nothing.
-use mathlib.Core.Path.{_≡_, sym, ap, _∙_}
+use mathlib.Core.Path.{_≡_, sym}
 use mathlib.Core.Bool.{false≢true}
 use mathlib.Core.List.{List}
 use Prim.Native.Nat.{ℕ, suc, _+_, _-_, _≤_, _<_}
 use native.Mathlib.Omega.{arith}
-use lib.ListN.{replicate, getD-replicate}
 use borrow.Author.Tests.{lt-ltb, le-ltb}
 use Rattle.bounded.specs.Bounded.{at}
-use Rattle.bounded.proofs.Sum.{sum-eq, sum-more}
-use Rattle.field.proofs.Congruence.{same}
-use Rattle.distance.specs.Cost.{cell, cost}
+use Rattle.field.specs.Congruence.{Cong}
+use Rattle.field.proofs.Congruence.{same, _⨾_}
+use Rattle.distance.specs.Cost.{cost}
 use Rattle.polynomial.specs.Record.{coef}
-use Rattle.reed_muller.specs.declared.grid.Grid.{Grid}
-use Rattle.reed_muller.specs.Degree.{remaining}
-use Rattle.reed_muller.specs.Fit.{Fit}
+use Rattle.polynomial.proofs.Eval.{eval-cong}
+use Rattle.grid.specs.declared.Grid.{Grid}
+use Rattle.grid.specs.Fit.{Fit}
+use Rattle.grid.specs.Cost.{lines}
+use Rattle.grid.specs.Rest.{Rest}
+use Rattle.grid.specs.Drawn.{found, limit}
 use Rattle.reed_muller.specs.Groups.{Flat}
-use Rattle.reed_muller.specs.Loops.{cellAt}
+use Rattle.reed_muller.specs.Rest.{Remains}
 use Rattle.reed_muller.specs.Outcome.{Outcome, under}
-use Rattle.reed_muller.specs.Steps.{found, limit, Solved}
+use Rattle.reed_muller.specs.Steps.{Solved}
 use Rattle.reed_muller.proofs.Last.{decoded-none, decoded-found}
-use Rattle.reed_muller.proofs.Rest.{rest-whole}
 
--- a row more of what is left, against a row of zeros
-pub remaining-more : (full r b : ℕ) (u left : List (List ℕ)) → b ≤ 16 →
-    remaining full (r + 1) b (cellAt u) (cellAt left) ≡
-    remaining full r b (cellAt u) (cellAt left) + cost full b (cellAt left r) (cellAt u r) (at (replicate 16 0))
-remaining-more full r b u left h = sum-more r _ ∙ ap (λ n. remaining full r b (cellAt u) (cellAt left) + n)
-    (sum-eq b λ c l. ap (cell full (cellAt left r c) (cellAt u r c)) (sym (getD-replicate {A = ℕ} 16 c 0 0 (omega arith))))
+-- what is left after the last step
+module _ {q a b d : ℕ} {y : ℕ → ℕ} {s : ℕ → ℕ → ℕ} where
+  pub rest-whole : (x : ℕ → ℕ) {left : ℕ → ℕ → ℕ} (found h : ℕ → ℕ → ℕ) → ((r c : ℕ) → r < a → c < b → left r c < suc q) →
+      Rest q a b d y 0 s left (lines d x found) → ((t i : ℕ) → i + t ≤ d → Cong q (found i t) (h i t)) →
+      Remains q a b d x y s left h
+  rest-whole x found h small R e = record {
+    below = small;
+    whole = λ r c l m. R .makes (lines d x h) (λ t r _ k _. eval-cong (suc (d - t)) (x r) λ i n. e t i (omega arith)) r c l m
+        ⨾ same (omega arith);
+  }
 
 module _ {g : Grid} {s u left columns : List (List ℕ)} {cost : ℕ} (S : Solved g s u left columns cost) where
   -- the cost is not under the radius

@@ -4,7 +4,7 @@ use mathlib.Core.Logic.{_≢_}
 use mathlib.Core.Path.{_≡_, refl, sym, ap, _∙_}
 use mathlib.Core.Bool.{Bool, true, false, cond, false≢true}
 use mathlib.Core.List.{List, []}
-use Prim.Native.Nat.{ℕ, suc, _+_, _*_, _-_, _%_, _^_, _≤_, _<_, min}
+use Prim.Native.Nat.{ℕ, suc, _*_, _-_, _%_, _^_, _≤_, _<_, min}
 use native.Mathlib.Omega.{arith}
 use lib.Dec.{eqb, ltb}
 use lib.ListN.{length, set}
@@ -13,59 +13,30 @@ use borrow.Author.Tests.{eqb-true, ltb-true}
 use Rattle.bounded.specs.Bounded.{at}
 use Rattle.bounded.proofs.Tab.{length-tab}
 use Rattle.field.specs.Congruence.{Cong}
-use Rattle.field.specs.Row.{row, Row}
-use Rattle.field.proofs.Congruence.{same, ~sym, _⨾_, ~add, ~mul, ~mul-right, less}
+use Rattle.field.specs.Row.{row}
+use Rattle.field.proofs.Congruence.{same, _⨾_, less}
 use Rattle.field.proofs.Loop.{upto-put}
-use Rattle.field.proofs.Row.{row-at, result-row, result-cong}
+use Rattle.field.proofs.Row.{row-at, result-cong}
 use Rattle.polynomial.specs.Eval.{eval}
 use Rattle.polynomial.specs.Powers.{Rows}
 use Rattle.polynomial.proofs.Eval.{eval-cong}
 use Rattle.reed_solomon.specs.declared.decoder.Decoded as Strip
 use Rattle.reed_solomon.specs.Axis.{Received}
 use Rattle.reed_solomon.specs.Decoded.{StripDecoded}
-use Rattle.reed_muller.specs.declared.grid.Grid.{Grid}
-use Rattle.reed_muller.specs.Line.{HandsOn}
-use Rattle.reed_muller.specs.Degree.{lines}
-use Rattle.reed_muller.specs.Fit.{Fit, DoubtRows, stripAxis}
-use Rattle.reed_muller.specs.Loops.{line, cellAt}
-use Rattle.reed_muller.specs.Answers.{unknown, Answer, kept, KnownRows, AnsweredRows}
-use Rattle.reed_muller.specs.Steps.{found, Without, Lessened, limit, left-over, Stepped, Solving, Solved}
-use Rattle.reed_muller.proofs.Answers.{positive, column-row, strip-valid}
-use Rattle.reed_muller.proofs.Line.{answer-carried}
+use Rattle.grid.specs.declared.Grid.{Grid}
+use Rattle.grid.specs.Line.{HandsOn}
+use Rattle.grid.specs.Cost.{lines}
+use Rattle.grid.specs.Fit.{Fit, DoubtRows, stripAxis}
+use Rattle.grid.specs.Loops.{line, cellAt}
+use Rattle.grid.specs.Answers.{unknown, Answer, kept, KnownRows, AnsweredRows}
+use Rattle.grid.specs.Drawn.{found, Without, Lessened, limit, left-over}
+use Rattle.grid.proofs.Answers.{positive, column-row, strip-valid}
+use Rattle.grid.proofs.Line.{answer-carried}
+use Rattle.grid.proofs.Drawn.{without-subtracted}
+use Rattle.grid.proofs.Rest.{rest-start, rest-next}
+use Rattle.reed_muller.specs.Steps.{Stepped, Solving, Solved}
 use Rattle.reed_muller.proofs.Degree.{grid-start, grid-none, grid-next, grid-over}
-use Rattle.reed_muller.proofs.Drawn.{solving-drawn}
-use Rattle.reed_muller.proofs.Rest.{rest-start, rest-next}
-
--- what was subtracted, added again
-added-again : {p l′ l v w e f : ℕ} → v ≤ p → 0 < p → Cong (p - 1) l′ (l + (p - v) * w) → Cong (p - 1) v e → Cong (p - 1) w f →
-    Cong (p - 1) (l′ + e * f) l
-added-again {p} {l′} {l} {v} {w} {e} {f} h pos c d g =
-    ~add c (~sym (~mul-right w d ⨾ ~mul e g)) ⨾ less w (omega (arith, ap (λ t. t * w) back, ap (λ t. t * w) whole))
-  where
-    back : p - v + v ≡ p
-    back = omega arith
-
-    whole : suc (p - 1) ≡ p
-    whole = omega arith
-
-modulus : {g : Grid} → Fit g → suc (g .p - 1) ≡ g .p
-modulus f = omega (arith, f .prime .least)
-
--- the column's value times the power of the column point is subtracted
-module _ {g : Grid} (t : ℕ) (f : Fit g) (left left′ : List (List ℕ)) (column : List ℕ) {z w : List ℕ} (sq : Rows (g .p) left)
-    (values : z ≡ row λ j. eval (suc (g .d - t)) (at column) (at (g .x) j) % g .p) (power : w ≡ row λ c. at (g .y) c ^ t % g .p)
-    (W : Without g left z w left′) where
-  pub without-subtracted : (r : ℕ) → r < g .a → Lessened g t column left left′ r
-  without-subtracted r l =
-      let h : r < 16 = omega (arith, f .rows) in record {
-        before = λ c m. rw (modulus f) (sq .done r h .small c);
-        after = λ c m. rw (modulus f) (W .rows .done r h .small c);
-        term = λ c m.
-            let k : c < 16 = omega (arith, f .columns) in
-            added-again (omega (arith, result-row _ (positive f) values .small r)) (positive f)
-            (result-cong _ (positive f) (W .each r l) c k) (result-cong _ (positive f) values r h)
-            (result-cong _ (positive f) power c k);
-      }
+use Rattle.reed_muller.proofs.Drafts.{solving-drawn}
 
 -- a cost that was kept
 kept-from : (e z v R : ℕ) → kept e z v R ≢ unknown → (e ≡ z) × (v < R) × (kept e z v R ≡ v)

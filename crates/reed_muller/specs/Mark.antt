@@ -14,8 +14,8 @@ use mathlib.Core.Bool.{Bool, true}
 use mathlib.Core.List.{List}
 use Prim.Native.Nat.{ℕ, suc, _+_, _*_, _≤_, _<_}
 use Rattle.bounded.specs.Bounded.{at}
-use Rattle.polynomial.specs.Grid.{gridDistance}
 use Rattle.distance.specs.Loaded.{Loaded}
+use Rattle.polynomial.specs.Grid.{gridDistance}
 use Rattle.reed_muller.specs.Degree.{gridCost, GridNear}
 
 abbrev pub grid : ℕ → List ℕ → ℕ → ℕ → ℕ

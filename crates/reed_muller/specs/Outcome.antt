@@ -14,11 +14,11 @@ use Prim.Native.Nat.{ℕ, _-_}
 use lib.Dec.{ltb}
 use Rattle.bounded.specs.Bounded.{at}
 use Rattle.polynomial.specs.Record.{coef}
-use Rattle.reed_muller.specs.declared.grid.Grid.{Grid}
-use Rattle.reed_muller.specs.Loops.{cellAt}
+use Rattle.grid.specs.declared.Grid.{Grid}
+use Rattle.grid.specs.Loops.{cellAt}
+use Rattle.grid.specs.Drawn.{limit}
 use Rattle.reed_muller.specs.Mark.{Decoded}
 use Rattle.reed_muller.specs.Rest.{Remains}
-use Rattle.reed_muller.specs.Steps.{limit}
 
 abbrev pub under : Grid → ℕ → Bool
 under g cost = ltb cost (limit g)

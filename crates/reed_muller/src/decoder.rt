@@ -1,13 +1,13 @@
 // The decoder of marks: the solver gives a candidate, and what it costs decides whether it is the answer.
-use crate::grid::Grid;
 use crate::message;
-use crate::remainder;
 use crate::solver;
+use grid::Grid;
+use grid::remainder;
 ghost use mathlib.Core.Path.{_≡_};
 ghost use lib.ListN.{length};
 ghost use Rattle.field.specs.Prime.{Inverses};
 ghost use Rattle.polynomial.specs.Powers.{Rows};
-ghost use Rattle.reed_muller.specs.Fit.{Fit, DoubtRows};
+ghost use Rattle.grid.specs.Fit.{Fit, DoubtRows};
 ghost use Rattle.reed_muller.specs.Outcome.{Outcome, under};
 
 // Takes the square of the symbols, each below p, and that of the doubts by value, and returns what is left of the symbols by

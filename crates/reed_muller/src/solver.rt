@@ -1,18 +1,17 @@
 // The degree steps: one coefficient of Y at a time, from Y^d down to Y^0, is read from the lines and subtracted. Drafts go first.
-use crate::draft;
-use crate::grid::Grid;
-use crate::lines;
-use crate::remainder;
-use crate::trial;
 use distance::word;
+use grid::Grid;
+use grid::lines;
+use grid::remainder;
+use grid::trial;
 use polynomial::bivariate;
 use polynomial::evaluation;
 use reed_solomon::axis::Axis;
 ghost use Prim.Native.Nat.{_≤_};
 ghost use Rattle.field.specs.Prime.{Inverses};
 ghost use Rattle.polynomial.specs.Powers.{Rows};
-ghost use Rattle.reed_muller.specs.Fit.{Fit, DoubtRows, ColumnPowers};
-ghost use Rattle.reed_muller.specs.Answers.{KnownRows};
+ghost use Rattle.grid.specs.Fit.{Fit, DoubtRows, ColumnPowers};
+ghost use Rattle.grid.specs.Answers.{KnownRows};
 ghost use Rattle.reed_muller.specs.Steps.{Stepped, Drafted, Solved};
 
 // What a step gives: the coefficients of Y^t by rising power of X, and the costs of the lines whose answers are kept.
@@ -100,7 +99,7 @@ fn solve_by_degrees(
         columns[t] = w;
         known = column.known;
         if untried {
-            if draft::from_lines(g, inverses, t, &messages, known, columns) {
+            if drafts::columns::from_lines(g, inverses, t, &messages, known, columns) {
                 untried = false;
                 let cost = trial::complete(g, ys, t, columns, left, doubts);
                 if cost < radius {
@@ -126,7 +125,7 @@ fn try_cells(
         DoubtRows g (now doubts) × Rows (g .p) (now columns) ⌝ }
     ensures { λ r. ⌜ Drafted g (now (left .entry)) (now (doubts .entry)) (now (left .exit)) (now (columns .exit)) r ⌝ }
 {
-    if !draft::from_cells(g, inverses, left, columns) {
+    if !drafts::columns::from_cells(g, inverses, left, columns) {
         return remainder::radius(g);
     }
     trial::complete(g, ys, g.d + 1, columns, left, doubts)

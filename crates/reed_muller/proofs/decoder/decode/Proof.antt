@@ -1,7 +1,7 @@
 -- `reed_muller::decoder::decode` meets its contract: by the laws of its two outcomes. Assumes nothing.
 use native.Mathlib.Omega.{arith}
 use Rattle.polynomial.proofs.Powers.{equal-rows}
-use Rattle.reed_muller.proofs.Answers.{positive}
+use Rattle.grid.proofs.Answers.{positive}
 use Rattle.reed_muller.proofs.Outcome.{outcome-none, outcome-found}
 use borrow.Author.Needs.{needs}
 use Rattle.reed_muller.proofs.decoder.decode.Statement.{statement}

@@ -5,8 +5,9 @@ use Prim.Native.Nat.{_+_, _-_, _≤_, _<_}
 use native.Mathlib.Omega.{arith}
 use Rattle.polynomial.specs.Record.{start}
 use Rattle.polynomial.proofs.Record.{start-most}
-use Rattle.reed_muller.specs.Loops.{cellAt, Stretch}
-use Rattle.reed_muller.proofs.Loops.{stretch-start, stretch-step}
+use Rattle.grid.specs.Loops.{cellAt}
+use Rattle.reed_muller.specs.Groups.{Stretch}
+use Rattle.reed_muller.proofs.Groups.{stretch-start, stretch-step}
 use borrow.Author.Needs.{needs}
 use Rattle.reed_muller.proofs.message.put_group.Statement.{statement}
 use Rattle.reed_muller.proofs.message.put_group.Tie as tie

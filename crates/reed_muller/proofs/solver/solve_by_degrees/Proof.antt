@@ -7,10 +7,10 @@ use native.Mathlib.Numerals.{add-one}
 use lib.ListN.{set, getD-replicate}
 use borrow.Author.Tests.{not-true, not-false}
 use Rattle.polynomial.proofs.Powers.{equal-rows}
-use Rattle.reed_muller.specs.Answers.{unknown}
-use Rattle.reed_muller.specs.Steps.{limit, Solving}
-use Rattle.reed_muller.proofs.Answers.{positive}
-use Rattle.reed_muller.proofs.Drawn.{solving-drawn, solving-redrawn, drawn-solved}
+use Rattle.grid.specs.Answers.{unknown}
+use Rattle.grid.proofs.Answers.{positive}
+use Rattle.reed_muller.specs.Steps.{Solving}
+use Rattle.reed_muller.proofs.Drafts.{solving-drawn, solving-redrawn, drawn-solved}
 use Rattle.reed_muller.proofs.Steps.{solving-start, solving-none, solving-next, solving-done}
 use borrow.Author.Needs.{needs}
 use Rattle.reed_muller.proofs.solver.solve_by_degrees.Statement.{statement}

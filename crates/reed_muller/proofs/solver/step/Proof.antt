@@ -4,7 +4,7 @@ use Prim.Native.Nat.{_*_, _-_, _<_}
 use native.Mathlib.Omega.{arith}
 use borrow.Author.Tests.{not-true, not-false}
 use Rattle.field.proofs.Row.{result-row}
-use Rattle.reed_muller.proofs.Answers.{positive}
+use Rattle.grid.proofs.Answers.{positive}
 use Rattle.reed_muller.proofs.Steps.{leading-received, stepped-none, stepped-found}
 use borrow.Author.Needs.{needs}
 use Rattle.reed_muller.proofs.solver.step.Statement.{statement}

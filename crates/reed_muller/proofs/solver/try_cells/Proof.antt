@@ -1,7 +1,7 @@
 -- `reed_muller::solver::try_cells` meets its contract: by the law of a draft of all columns. Assumes nothing.
 use mathlib.Core.Path.{refl}
 use native.Mathlib.Omega.{arith}
-use Rattle.reed_muller.proofs.Drawn.{drawn-drafted}
+use Rattle.reed_muller.proofs.Drafts.{drawn-drafted}
 use borrow.Author.Needs.{needs}
 use Rattle.reed_muller.proofs.solver.try_cells.Statement.{statement}
 use Rattle.reed_muller.proofs.solver.try_cells.Tie as tie

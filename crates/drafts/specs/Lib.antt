@@ -1,0 +1,2 @@
+-- Drafts of a mark's columns.
+pub mod Redrawn

@@ -1,0 +1,86 @@
+-- The lines as the decoder holds them: a line that was read, found or not, and one that was kept, are answered. Assumes nothing.
+use mathlib.Core.Logic.{_≢_}
+use mathlib.Core.Path.{_≡_, refl}
+use mathlib.Core.Bool.{Bool, true, false}
+use mathlib.Core.List.{List}
+use Prim.Native.Nat.{ℕ, suc, _*_, _-_, _≤_, _<_}
+use native.Mathlib.Omega.{arith}
+use native.Mathlib.Nat.{mod-eq-of-lt, mul-le-mul}
+use lib.ListN.{replicate, getD-replicate}
+use Rattle.bounded.specs.Bounded.{at}
+use Rattle.bounded.proofs.Tab.{length-tab}
+use Rattle.field.specs.Row.{row, Row}
+use Rattle.field.proofs.Row.{row-at, row-of}
+use Rattle.distance.specs.Doubts.{Doubts}
+use Rattle.polynomial.specs.Powers.{Rows}
+use Rattle.reed_solomon.specs.Strip.{Strip}
+use Rattle.reed_solomon.specs.Axis.{Valid}
+use Rattle.grid.specs.declared.Grid.{Grid}
+use Rattle.grid.specs.Fit.{Fit, lineAxis, stripAxis}
+use Rattle.grid.specs.Loops.{cellAt}
+use Rattle.grid.specs.Answers.{unknown, Answer, Known, Answered}
+use Rattle.grid.proofs.Line.{line-answered, line-unanswered}
+
+pub row-zeros : {p : ℕ} → 0 < p → Row p (replicate 16 0)
+row-zeros z = row-of z refl λ j k. rw (getD-replicate {A = ℕ} 16 j 0 0 k) z
+
+-- a place of each of some rows
+pub column-row : {p : ℕ} {rows : List (List ℕ)} {l : List ℕ} (t : ℕ) → 0 < p → Rows p rows → l ≡ row (λ r. cellAt rows r t) →
+    Row p l
+column-row {rows} t z R e = rw e (row-of z (length-tab 16 _) λ r k. rw (row-at (λ r. cellAt rows r t) r k) (R .done r k .small t))
+
+pub positive : {g : Grid} → Fit g → 0 < g .p
+positive f = omega (arith, f .prime .least)
+
+-- the full doubt of a line at the degree t
+pub line-full : {g : Grid} (t : ℕ) → Fit g → g .full * (g .b - t) < 65536
+line-full {g} t f =
+    let low : g .full ≤ 4095 = omega (arith, f .full) in
+    let short : g .b - t ≤ 16 = omega (arith, f .columns) in
+    omega (arith, mul-le-mul low short)
+
+-- the axis of a line, read at the degree t, and that of what the lines hand on
+module _ {g : Grid} {t : ℕ} (f : Fit g) (low : t ≤ g .d) where
+  pub line-valid : Valid (lineAxis g t)
+  line-valid = record {
+    prime = f .prime;
+    reciprocal = f .reciprocal;
+    points = f .columnPoints;
+    apart = f .columnsApart;
+    most = f .columns;
+    low = omega (arith, f .narrow);
+    full = omega (arith, f .full);
+  }
+
+  pub strip-valid : Valid (stripAxis g t (g .full * (g .b - t)))
+  strip-valid = record {
+    prime = f .prime;
+    reciprocal = f .reciprocal;
+    points = f .rowPoints;
+    apart = f .rowsApart;
+    most = f .rows;
+    low = omega (arith, f .low);
+    full = line-full t f;
+  }
+
+module _ {g : Grid} {t : ℕ} {s u : List ℕ} (f : Fit g) where
+  module _ {w : List ℕ} {v : ℕ} (du : Doubts (g .full) (g .b) (at u)) (good : Row (g .p) w) where
+    pub answered-found : {found : Bool} → found ≡ true →
+        Strip (g .p - 1) (g .full) (g .b) t (at (g .y)) (at s) (at u) found (at w) v → Answered g t s u w v
+    answered-found e S =
+        let A : Answer g t s u w v = rw e at S in
+        let small : at w t < suc (g .p - 1) = omega (arith, good .small t) in
+        record { good = good; entered = rw (mod-eq-of-lt small) at (line-answered (f .columnsApart) du A); strip = λ _. A }
+
+  pub answered-kept : {w : List ℕ} {v : ℕ} → Doubts (g .full) (g .b) (at u) → v ≢ unknown → Known g t s u w v →
+      Answered g t s u w v
+  answered-kept du h K = answered-found du (K .good) refl (K .strip h)
+
+  pub answered-none : {w : ℕ → ℕ} {v : ℕ} {found : Bool} → found ≡ false →
+      Strip (g .p - 1) (g .full) (g .b) t (at (g .y)) (at s) (at u) found w v →
+      Answered g t s u (replicate 16 0) (g .full * (g .b - t))
+  answered-none e S = record {
+    good = row-zeros (positive f);
+    entered = line-unanswered (at (replicate 16 0) t) (rw e at S);
+    strip = λ l. absurd (omega arith);
+  }
