@@ -1,6 +1,7 @@
 // What is left of a mark's symbols: a column is subtracted from it, and it is measured.
 use crate::Grid;
 use distance::word;
+use polynomial::limit;
 ghost use mathlib.Core.Path.{_≡_};
 ghost use Prim.Native.Nat.{_*_};
 ghost use Rattle.field.specs.Row.{Row};
@@ -48,8 +49,5 @@ pub fn radius(g: Grid) -> u32
     requires { ⌜ Fit g ⌝ }
     ensures { λ r. ⌜ r ≡ g .full * gridDistance (g .a) (g .b) (g .d) ⌝ }
 {
-    if g.a < g.b {
-        return word::radius(g.full, g.b, g.a, g.d);
-    }
-    word::radius(g.full, g.a, g.b, g.d)
+    limit::radius(g.full, g.a, g.b, g.d)
 }

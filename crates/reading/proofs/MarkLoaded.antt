@@ -34,12 +34,12 @@ use Rattle.plan.specs.Says.{said, Says}
 use Rattle.plan.proofs.Ready.{point-at, ready}
 use Rattle.plan.proofs.Values.{mark-radius}
 use Rattle.answers.specs.Summary.{summary}
-use Rattle.reed_muller.specs.declared.grid.Grid.{Grid}
-use Rattle.reed_muller.specs.Fit.{Fit, DoubtRows}
-use Rattle.reed_muller.specs.Loops.{cellAt}
+use Rattle.grid.specs.declared.Grid.{Grid}
+use Rattle.grid.specs.Fit.{Fit, DoubtRows}
+use Rattle.grid.specs.Loops.{cellAt}
 use Rattle.reed_muller.specs.Mark.{LoadedGrid}
 use Rattle.reed_muller.specs.Outcome.{Outcome, under}
-use Rattle.reed_muller.specs.Steps.{limit}
+use Rattle.grid.specs.Drawn.{limit}
 use Rattle.reading.proofs.MarkReading.{mark-none, mark-record, mark-cost, mark-found}
 use Rattle.reading.specs.Loading.{residue, gridCell, SymbolRows, DoubtLines, Taken}
 use Rattle.reading.specs.Changed.{flag, changedCells}

@@ -21,7 +21,7 @@ use Rattle.field.proofs.Row.{row-at, beyond, upto-row}
 use Rattle.definitions.specs.Cost.{unread}
 use Rattle.distance.specs.Cost.{changed}
 use Rattle.bounded.proofs.Part.{part-at, part-length}
-use Rattle.reed_muller.specs.Loops.{cellAt}
+use Rattle.grid.specs.Loops.{cellAt}
 use Rattle.reading.specs.Loading.{residue, gridCell}
 use Rattle.reading.specs.Changed.{flag, changedCells}
 

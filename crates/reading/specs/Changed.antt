@@ -12,7 +12,7 @@ use lib.Dec.{eqb}
 use Rattle.bounded.specs.Bounded.{sum}
 use Rattle.definitions.specs.Cost.{unread}
 use Rattle.distance.specs.Cost.{changed}
-use Rattle.reed_muller.specs.Loops.{cellAt}
+use Rattle.grid.specs.Loops.{cellAt}
 use Rattle.reading.specs.Loading.{gridCell}
 
 abbrev pub flag : (s l : ℕ) → ℕ
