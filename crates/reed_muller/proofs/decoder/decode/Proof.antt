@@ -10,8 +10,10 @@ use Rattle.reed_muller.proofs.decoder.decode.Tie as tie
 returns : tie.Need-returns
 returns c =
     let radius = c .before in
-    let solved = radius .before in
-    (outcome-none (solved .solve .ensures) (omega (arith, c .if1 .taken, radius .radius .ensures)), solved .before .before .before .before .pre .4)
+    let solved = radius .before in (
+      outcome-none (solved .solve .ensures) (omega (arith, c .if1 .taken, radius .radius .ensures)),
+      solved .before .before .before .before .pre .4,
+    )
 
 returns-2 : tie.Need-returns-2
 returns-2 c =
