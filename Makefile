@@ -47,6 +47,8 @@ target/staticlib/libtraymark.a: $(call read_by,$(LIBRARIES))
 tests: lib program
 	$(CARGO) run --quiet --release -p traymark-tests --bin calls
 	$(CARGO) run --quiet --release -p traymark-tests --bin program target/bin/trayread
+	$(CARGO) run --quiet --release -p traymark-tests --bin strips input | cmp - crates/example_strips/stdin
+	$(CARGO) run --quiet --release -p traymark-tests --bin strips output | cmp - crates/example_strips/stdout
 	$(CARGO) run --quiet --release -p traymark-bench check
 	$(CARGO) test --quiet --release -p traymark
 	$(CC11) tests/c/calls.c target/staticlib/libtraymark.a -o target/calls_c
