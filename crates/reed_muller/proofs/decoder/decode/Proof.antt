@@ -7,16 +7,24 @@ use borrow.Author.Needs.{needs}
 use Rattle.reed_muller.proofs.decoder.decode.Statement.{statement}
 use Rattle.reed_muller.proofs.decoder.decode.Tie as tie
 
+returns : tie.Need-returns
+returns c =
+    let compared = c .before in
+    outcome-none (compared .before .solve .ensures) (omega (arith, c .if1 .taken, compared .radius .ensures))
+
+returns-2 : tie.Need-returns-2
+returns-2 c =
+    let under = c .before .before .before in
+    let solved = under .before .before in
+    outcome-found (solved .solve .ensures) (solved .before .before .before .before .pre .0) (c .flatten .ensures)
+    (omega (arith, under .if1 .left, under .before .radius .ensures))
+
 pub decode-spec : {M : Type 1} → statement M
 decode-spec =
     tie.close
     (tie.spec
     (λ c κs. let b = c .before .before .before .pre in (b .0, b .3, b .1, b .2, equal-rows 0 (positive (b .0))))
     (λ c κs. search needs)
-    (λ c. let r = c .before in outcome-none (r .before .solve .ensures) (omega (arith, c .if1 .taken, r .radius .ensures)))
+    returns
     (λ c κs. search needs)
-    (λ c.
-    let e = c .before .before .before in
-    let s = e .before .before in
-    outcome-found (s .solve .ensures) (s .before .before .before .before .pre .0) (c .flatten .ensures)
-    (omega (arith, e .if1 .left, e .before .radius .ensures))))
+    returns-2)
