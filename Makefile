@@ -63,12 +63,13 @@ tests: lib program
 bench: lib
 	$(CARGO) run --quiet --release -p traymark-bench
 
-## make quick           MEASURED      MEASURED        what needs no proof: layout, lines of at most 130 columns, and that what
-##                                                    the documents name is there
+## make quick           MEASURED      MEASURED        what needs no proof: layout, lines of at most 130 columns, that what the
+##                                                    documents name is there, and that no call has a requires
 quick:
 	rt fmt --check
 	tools/columns
 	tools/index
+	tools/exported
 
 ## make wrong-programs  after a gate  MEASURED        writes docs/WRONG-PROGRAMS.md from what the last gate's prover said
 wrong-programs:

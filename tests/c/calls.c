@@ -12,6 +12,17 @@ _Static_assert(offsetof(traymark_reading, margin) == 8, "margin");
 _Static_assert(offsetof(traymark_reading, changed) == 12, "changed");
 _Static_assert(offsetof(traymark_reading, class_) == 16, "class_");
 
+/* The calls once more, by their types: a header that declares another one doesn't compile. */
+typedef const uint8_t *in;
+uint32_t traymark_check_plan(in, size_t);
+uint32_t traymark_find_plan(in, size_t, uint16_t, size_t *);
+uint32_t traymark_write_mark(in, size_t, in, size_t, uint8_t *, size_t);
+uint32_t traymark_write_strip(in, size_t, in, size_t, uint8_t *, size_t);
+traymark_reading traymark_measure_mark(in, size_t, in, size_t, in, size_t, in, size_t);
+traymark_reading traymark_measure_strip(in, size_t, in, size_t, in, size_t, in, size_t);
+traymark_reading traymark_read_mark(in, size_t, in, size_t, in, size_t, uint8_t *, size_t);
+traymark_reading traymark_read_strip(in, size_t, in, size_t, in, size_t, uint8_t *, size_t);
+
 static int tests;
 
 static void expect(int holds, const char *what, int line)

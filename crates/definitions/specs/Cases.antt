@@ -117,7 +117,7 @@ cases =
     ∷ []
 
 -- not of the table: a strip written and read, a plan with several faults at once, a record of total degree 2 at the corners; each
--- of the bytes 21 to 23 filled; symbol and doubt wrong at once, doubt and coefficient wrong at once
+-- of the bytes 21 to 23 filled; symbol and doubt wrong at once, doubt and coefficient wrong at once; an unread cell in doubt 99
 abbrev pub moreCases : List Case
 moreCases =
     (write strip planA (3 ∷ 1 ∷ []) (nines 3) ⟹ only 0 leaving 4 ∷ 5 ∷ 0 ∷ [])
@@ -132,4 +132,5 @@ moreCases =
     ∷ (check (set planA 23 1) ⟹ only 1 leaving [])
     ∷ (read square planA (7 ∷ drop 1 mark₁) (101 ∷ sure 8) (nines 3) ⟹ only 7 leaving nines 3)
     ∷ (measure square planA mark₁ (101 ∷ sure 8) (3 ∷ 1 ∷ 7 ∷ []) ⟹ only 8 leaving 3 ∷ 1 ∷ 7 ∷ [])
+    ∷ (read square planA (hidden 1) (99 ∷ sure 8) (nines 3) ⟹ only 8 leaving nines 3)
     ∷ []

@@ -14,8 +14,8 @@ last-small c =
     ⊎-elim (λ w. omega (arith, w .0 .taken, w .1, g .gather .ensures .2))
     (λ w. omega (arith, w .1, f .low, f .rows)) (c .before .if2 .came)
 
-returns : tie.Need-returns-3
-returns c = search needs
+returns-3 : tie.Need-returns-3
+returns-3 c = search needs
 
 pub from-lines-spec : {M : Type 1} → statement M
 from-lines-spec =
@@ -29,4 +29,4 @@ from-lines-spec =
     (λ c. omega (arith, last-small (c .before .before .before)))
     (λ c. last-small (c .before .before .before))
     (λ c κs. search needs) (λ c. search needs) (λ c κs. search needs) (λ c κs. search needs)
-    returns)
+    returns-3)

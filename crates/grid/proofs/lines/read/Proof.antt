@@ -9,19 +9,19 @@ use Rattle.grid.proofs.lines.read.Tie as tie
 
 returns : tie.Need-returns
 returns c =
-    let i = c .before in
-    let D = i .before .decode .ensures in
-    let b = i .before .before .before .pre in
-    answered-found (b .0) (b .3) (D .small) (i .if1 .taken) (D .strip)
+    let found = c .before in
+    let read = found .before in
+    let (f, _, _, du, _) = read .before .before .pre in
+    answered-found f du (read .decode .ensures .small) (found .if1 .taken) (read .decode .ensures .strip)
 
 returns-2 : tie.Need-returns-2
 returns-2 c =
-    let compared = c .before in
-    let read = compared .before in
+    let unread = c .before in
+    let read = unread .before in
     let start = read .before .before in
     let g = start .args .g in
     let e : c .radius .result ≡ g .full * (g .b - start .args .t) = omega (arith, c .radius .ensures .0) in
-    rw e (answered-none (start .pre .0) (compared .if1 .left) (read .decode .ensures .strip))
+    rw e (answered-none (start .pre .0) (unread .if1 .left) (read .decode .ensures .strip))
 
 pub read-spec : {M : Type 1} → statement M
 read-spec =
