@@ -84,14 +84,8 @@ returns-2 c =
     let n = cells square (planOf i) in
     let l : length (drop (24 + n) i) ≤ length i - (24 + n) = simp length-drop (omega arith) in
     let u = take-all (length i - (24 + n)) (drop (24 + n) i) l in
-    rw (
-      ← mark-cells says,
-      add-sub-cancel-left 24 n,
-      u,
-      cut s (sized .start .result) (size-is s says (sized .start .ensures)),
-      season-is s says,
-    )
-    at (answered .answer-mark .ensures)
+    let buffer = cut s (sized .start .result) (size-is s says (sized .start .ensures)) in
+    rw (← season-is s says) (rw (← mark-cells says, add-sub-cancel-left 24 n, u, buffer) at (answered .answer-mark .ensures))
 
 pub answer-photo-spec : {M : Type 1} → statement M
 answer-photo-spec =
