@@ -7,7 +7,9 @@ use grid::trial;
 use polynomial::bivariate;
 use polynomial::evaluation;
 use reed_solomon::axis::Axis;
-ghost use Prim.Native.Nat.{_≤_};
+ghost use mathlib.Core.Path.{_≡_};
+ghost use mathlib.Core.Bool.{true};
+ghost use Prim.Native.Nat.{_≤_, _<_};
 ghost use Rattle.field.specs.Prime.{Inverses};
 ghost use Rattle.polynomial.specs.Powers.{Rows};
 ghost use Rattle.grid.specs.Fit.{Fit, DoubtRows, ColumnPowers};
@@ -21,23 +23,35 @@ pub struct Column {
     pub found: bool,
 }
 
+// The powers of the column points, made at the first step that has an answer, which is that of degree d: a mark without one ends
+// before.
+fn make_powers(g: Grid, t: usize, ys: &mut [[u16; 16]; 16])
+    requires { ⌜ Fit g × (t ≤ g .d) × (t < g .d → ColumnPowers g (now ys)) ⌝ }
+    ensures { λ _. ⌜ ColumnPowers g (now (ys .exit)) ⌝ }
+{
+    if t == g.d {
+        let y = g.y;
+        let powers = evaluation::powers(y, g.d, g.p, g.m);
+        *ys = powers;
+    }
+}
+
 // The coefficients of Y^t: the lines' leading coefficients are a strip over the row points of degree d - t, whose doubts are the
-// lines' costs and whose full doubt is the lines' radius. So nothing is divided or rounded. ys has the powers of the column
-// points.
+// lines' costs and whose full doubt is the lines' radius. So nothing is divided or rounded.
 fn step(
     g: Grid,
     inverses: &[u16; 251],
-    ys: &[[u16; 16]; 16],
+    ys: &mut [[u16; 16]; 16],
     t: usize,
     known: [u32; 16],
     messages: &mut [[u16; 16]; 16],
     left: &mut [[u16; 16]; 16],
     doubts: &[[u32; 16]; 16],
 ) -> Column
-    requires { ⌜ Fit g × Inverses (g .p) (now inverses) × ColumnPowers g (now ys) × (t ≤ g .d) × Rows (g .p) (now left) ×
-        DoubtRows g (now doubts) × KnownRows g t (now left) (now doubts) (now messages) known ⌝ }
+    requires { ⌜ Fit g × Inverses (g .p) (now inverses) × (t < g .d → ColumnPowers g (now ys)) × (t ≤ g .d) ×
+        Rows (g .p) (now left) × DoubtRows g (now doubts) × KnownRows g t (now left) (now doubts) (now messages) known ⌝ }
     ensures { λ r. ⌜ Stepped g t (now (left .entry)) (now (doubts .entry)) (now (left .exit)) (now (messages .exit))
-        (r .found) (r .message) (r .known) ⌝ }
+        (r .found) (r .message) (r .known) × (r .found ≡ true → ColumnPowers g (now (ys .exit))) ⌝ }
 {
     let costs = lines::answer(g, inverses, t, messages, known, left, doubts);
     let leading = bivariate::place_of_each(messages, t);
@@ -60,6 +74,7 @@ fn step(
             known,
         };
     }
+    make_powers(g, t, ys);
     let v = strip.values;
     remainder::subtract(g, left, v, ys[t]);
     Column {
@@ -75,23 +90,23 @@ fn step(
 fn solve_by_degrees(
     g: Grid,
     inverses: &[u16; 251],
-    ys: &[[u16; 16]; 16],
     left: &mut [[u16; 16]; 16],
     doubts: &[[u32; 16]; 16],
     columns: &mut [[u16; 16]; 16],
 ) -> u32
-    requires { ⌜ Fit g × Inverses (g .p) (now inverses) × ColumnPowers g (now ys) × Rows (g .p) (now left) ×
-        DoubtRows g (now doubts) × Rows (g .p) (now columns) ⌝ }
+    requires { ⌜ Fit g × Inverses (g .p) (now inverses) × Rows (g .p) (now left) × DoubtRows g (now doubts) ×
+        Rows (g .p) (now columns) ⌝ }
     ensures { λ r. ⌜ Solved g (now (left .entry)) (now (doubts .entry)) (now (left .exit)) (now (columns .exit)) r ⌝ }
 {
     let radius = remainder::radius(g);
+    let mut ys = [[0u16; 16]; 16];
     let mut messages = [[0u16; 16]; 16];
     let mut known = [lines::UNKNOWN; 16];
     let mut untried = true;
     let mut t = g.d + 1;
     while t > 0 {
         t -= 1;
-        let column = step(g, inverses, ys, t, known, &mut messages, left, doubts);
+        let column = step(g, inverses, &mut ys, t, known, &mut messages, left, doubts);
         if !column.found {
             return radius;
         }
@@ -101,7 +116,7 @@ fn solve_by_degrees(
         if untried {
             if drafts::columns::from_lines(g, inverses, t, &messages, known, columns) {
                 untried = false;
-                let cost = trial::complete(g, ys, t, columns, left, doubts);
+                let cost = trial::complete(g, t, columns, left, doubts);
                 if cost < radius {
                     return cost;
                 }
@@ -116,19 +131,18 @@ fn solve_by_degrees(
 fn try_cells(
     g: Grid,
     inverses: &[u16; 251],
-    ys: &[[u16; 16]; 16],
     left: &mut [[u16; 16]; 16],
     doubts: &[[u32; 16]; 16],
     columns: &mut [[u16; 16]; 16],
 ) -> u32
-    requires { ⌜ Fit g × Inverses (g .p) (now inverses) × ColumnPowers g (now ys) × Rows (g .p) (now left) ×
-        DoubtRows g (now doubts) × Rows (g .p) (now columns) ⌝ }
+    requires { ⌜ Fit g × Inverses (g .p) (now inverses) × Rows (g .p) (now left) × DoubtRows g (now doubts) ×
+        Rows (g .p) (now columns) ⌝ }
     ensures { λ r. ⌜ Drafted g (now (left .entry)) (now (doubts .entry)) (now (left .exit)) (now (columns .exit)) r ⌝ }
 {
     if !drafts::columns::from_cells(g, inverses, left, columns) {
         return remainder::radius(g);
     }
-    trial::complete(g, ys, g.d + 1, columns, left, doubts)
+    trial::complete(g, g.d + 1, columns, left, doubts)
 }
 
 // The record under the radius, if there is one: its coefficients of Y^t in row t of the columns, what it leaves of the symbols in
@@ -144,11 +158,9 @@ pub fn solve(
         Rows (g .p) (now columns) ⌝ }
     ensures { λ r. ⌜ Solved g (now (left .entry)) (now (doubts .entry)) (now (left .exit)) (now (columns .exit)) r ⌝ }
 {
-    let y = g.y;
-    let ys = evaluation::powers(y, g.d, g.p, g.m);
-    let cost = try_cells(g, inverses, &ys, left, doubts, columns);
+    let cost = try_cells(g, inverses, left, doubts, columns);
     if cost < remainder::radius(g) {
         return cost;
     }
-    solve_by_degrees(g, inverses, &ys, left, doubts, columns)
+    solve_by_degrees(g, inverses, left, doubts, columns)
 }

@@ -186,7 +186,15 @@ pub fn decode(g: Axis, inverses: &[u16; 251], s: [u16; 16], u: [u32; 16]) -> Dec
     let x = g.x;
     let all = order::keys(g.n, u);
     let f = newton::through(all, x, s, g.k, g.p, g.m, inverses);
-    let mut answer = measured(g, f, s, u);
+    let axis = Axis {
+        p: g.p,
+        m: g.m,
+        x,
+        n: g.n,
+        k: g.k,
+        full: g.full,
+    };
+    let mut answer = measured(axis, f, s, u);
     if answer.found {
         return answer;
     }
@@ -222,7 +230,7 @@ pub fn decode(g: Axis, inverses: &[u16; 251], s: [u16; 16], u: [u32; 16]) -> Dec
                 inverses,
             );
             if hopeful(g, d2, e2, a, b, entered, u) {
-                let tried = attempt(g, inverses, e2, entered, all, s, u);
+                let tried = attempt(axis, inverses, e2, entered, all, s, u);
                 if tried.found {
                     answer = tried;
                     break 'levels;

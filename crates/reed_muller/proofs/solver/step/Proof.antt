@@ -1,5 +1,6 @@
 -- `reed_muller::solver::step` meets its contract: by the laws of a step with and without an answer. Assumes nothing.
 use mathlib.Core.Path.{_≡_}
+use mathlib.Core.Bool.{false≢true}
 use Prim.Native.Nat.{_*_, _-_, _<_}
 use native.Mathlib.Omega.{arith}
 use borrow.Author.Tests.{not-true, not-false}
@@ -30,39 +31,48 @@ module _ (c : tie.After-struct-known) where
 returns : tie.Need-returns
 returns c =
     let read = c .before .before .before in
-    let s = read .before in
-    stepped-none (start s .pre .0) (answered s .answer .ensures) (led s .place-of-each .ensures) (radius s)
-    (read .decode .ensures) (not-true _ (c .if1 .taken)) _ _
+    let s = read .before in (
+      stepped-none (start s .pre .0) (answered s .answer .ensures) (led s .place-of-each .ensures) (radius s)
+          (read .decode .ensures) (not-true _ (c .if1 .taken)) _ _,
+      λ y. absurd (false≢true y),
+    )
 
 returns-2 : tie.Need-returns-2
 returns-2 c =
-    let found = c .before .before .before .before .before in
+    let made = c .before .before .before .before .before in
+    let found = made .before .before in
     let read = found .before .before .before in
     let s = read .before in
-    let (f, _, P, low, sq, du, _) = start s .pre in
-    stepped-found f (answered s .answer .ensures) (led s .place-of-each .ensures) (radius s) (read .decode .ensures)
-    (not-false _ (found .if1 .left)) du sq (P .powers .done _ (omega arith)) (c .before .subtract .ensures) (c .carry .ensures)
+    let (f, _, _, low, sq, du, _) = start s .pre in
+    let P = made .make-powers .ensures in (
+      stepped-found f (answered s .answer .ensures) (led s .place-of-each .ensures) (radius s) (read .decode .ensures)
+          (not-false _ (found .if1 .left)) du sq (P .powers .done _ (omega arith)) (c .before .subtract .ensures) (c .carry .ensures),
+      λ _. P,
+    )
 
 pub step-spec : {M : Type 1} → statement M
 step-spec =
     tie.close
     (tie.spec
-    (λ c κs. search needs) (λ c κs. search needs)
-    (λ c κs. search needs)
-    (λ c. search needs)
+    (λ c κs. search needs) (λ c κs. search needs) (λ c κs. search needs) (λ c. search needs)
     (λ c κs.
     let b = start c .pre in
     (leading-received (b .0) (answered c .answer .ensures) (led c .place-of-each .ensures) (radius c) (b .3), b .1))
     returns
-    (λ c. let read = c .before .before .before .before .before in omega (arith, small (read .before)))
-    (λ c. let read = c .before .before .before .before .before in small (read .before))
     (λ c κs.
-    let found = c .before .before .before in
+    let read = c .before .before .before .before in
+    let (f, _, P, low, _, _, _) = start (read .before) .pre in
+    (f, low, P))
+    (λ c. let found = c .before .before .before .before in omega (arith, small (found .before .before .before .before)))
+    (λ c. let found = c .before .before .before .before in small (found .before .before .before .before))
+    (λ c κs.
+    let made = c .before .before .before in
+    let found = made .before .before in
     let read = found .before .before .before in
-    let (f, _, P, _, sq, _, _) = start (read .before) .pre in
+    let (f, _, _, _, sq, _, _) = start (read .before) .pre in
     let values = read .decode .ensures .values (not-false _ (found .if1 .left)) in
-    (f, sq, result-row _ (positive f) values, P .rows .done _ (small (read .before))))
+    (f, sq, result-row _ (positive f) values, made .make-powers .ensures .rows .done _ (small (read .before))))
     (λ c κs.
-    let read = c .before .before .before .before .before .before .before in
-    answered (read .before) .answer .ensures .size)
+    let made = c .before .before .before .before in
+    answered (made .before .before .before .before .before .before) .answer .ensures .size)
     returns-2)

@@ -16,7 +16,7 @@ returns c = record {
 returns-2 : tie.Need-returns-2
 returns-2 c =
     let drawn = c .before .before .before .before .before in
-    drawn-drafted (drawn .before .before .before .pre .3) (drawn .from-cells .ensures) (c .complete .ensures)
+    drawn-drafted (drawn .before .before .before .pre .2) (drawn .from-cells .ensures) (c .complete .ensures)
 
 pub try-cells-spec : {M : Type 1} → statement M
 try-cells-spec =
