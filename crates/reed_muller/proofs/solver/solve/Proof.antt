@@ -12,7 +12,9 @@ returns c =
     compared .before .try-cells .ensures .under (omega (arith, c .if1 .taken, compared .radius .ensures))
 
 -- the draft is over the radius: all symbols are left
-all : (c : tie.Else1) → let tried = c .before .before in tried .try-cells .last .1 .1 .0 ≡ tried .before .before .before .args .left .now
+all : (c : tie.Else1) →
+    let tried = c .before .before in
+    tried .try-cells .last .1 .1 .0 ≡ tried .before .before .before .args .left .now
 all c =
     let compared = c .before in
     compared .before .try-cells .ensures .over (omega (arith, c .if1 .left, compared .radius .ensures))

@@ -91,8 +91,15 @@ solve-by-degrees-spec =
     let turn = c .before .before .before in
     let head = turn .before in
     let (f, I, _, du, _) = head .before .before .before .pre in
-    let (high, S, P) = head .loop .inv in
-    (f, I, λ l. P (omega (arith, turn .loop-test .taken)), omega (arith, high, turn .loop-test .taken), S .rows, du, S .known _ (omega arith)))
+    let (high, S, P) = head .loop .inv in (
+      f,
+      I,
+      λ l. P (omega (arith, turn .loop-test .taken)),
+      omega (arith, high, turn .loop-test .taken),
+      S .rows,
+      du,
+      S .known _ (omega arith),
+    ))
     returns
     (λ c. omega (arith, small (c .before .before .before)))
     (λ c. small (c .before .before .before))

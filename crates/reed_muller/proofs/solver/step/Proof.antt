@@ -46,7 +46,8 @@ returns-2 c =
     let (f, _, _, low, sq, du, _) = start s .pre in
     let P = made .make-powers .ensures in (
       stepped-found f (answered s .answer .ensures) (led s .place-of-each .ensures) (radius s) (read .decode .ensures)
-          (not-false _ (found .if1 .left)) du sq (P .powers .done _ (omega arith)) (c .before .subtract .ensures) (c .carry .ensures),
+          (not-false _ (found .if1 .left)) du sq (P .powers .done _ (omega arith)) (c .before .subtract .ensures)
+          (c .carry .ensures),
       λ _. P,
     )
 

@@ -17,12 +17,14 @@ use Rattle.reed_solomon.proofs.decoder.decode.Statement.{statement}
 use Rattle.reed_solomon.proofs.decoder.decode.Tie as tie
 
 abbrev Inv-loop : tie.InvT-loop
-Inv-loop g inverses s u x all axis answer₀ d1₀ e1₀ d2₀ e2₀ a₀ b₀ entered₀ keys₀ next₀ level answer d1 e1 d2 e2 a b entered keys next =
+Inv-loop g inverses s u x all axis answer₀ d1₀ e1₀ d2₀ e2₀ a₀ b₀ entered₀ keys₀ next₀ level answer d1 e1 d2 e2 a b entered keys
+    next =
     let t = pairs d1 e1 d2 e2 a b entered in
     None answer × Inverses (g .p) inverses × Going g s u all keys next t × Within (g .n) u level t × (next₀ ≤ next)
 
 abbrev μ-loop : tie.MeasureT-loop
-μ-loop g inverses s u x all axis answer₀ d1₀ e1₀ d2₀ e2₀ a₀ b₀ entered₀ keys₀ next₀ level answer d1 e1 d2 e2 a b entered keys next =
+μ-loop g inverses s u x all axis answer₀ d1₀ e1₀ d2₀ e2₀ a₀ b₀ entered₀ keys₀ next₀ level answer d1 e1 d2 e2 a b entered keys
+    next =
     taken - next
 
 abbrev Inv-levels : tie.InvT-levels
