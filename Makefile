@@ -21,12 +21,12 @@ help:
 read_by = $(shell find $(1) -path '*/must-fail' -prune -o -type f -print) crates.txt $(shell command -v rt)
 LIBRARIES = $(patsubst %/src/lib.rt,%,$(wildcard crates/*/src/lib.rt))
 
-## make example         MEASURED      MEASURED        reads a tray end to end by the program: case c of document 01
+## make example         4 min         1 s             reads a tray end to end by the program: case c of document 01
 example: program
 	target/bin/trayread < crates/trayread/stdin | tee target/example.printed
 	diff crates/trayread/stdout target/example.printed
 
-## make program         MEASURED      MEASURED        the proved program: target/bin/trayread
+## make program         4 min         1 s             the proved program: target/bin/trayread
 program: target/stamp/trayread
 
 # rt writes this stamp once the program is proved, has run, and has printed what crates/trayread/stdout has.
@@ -34,7 +34,7 @@ target/stamp/trayread: $(call read_by,$(LIBRARIES) crates/trayread)
 	rt check trayread
 	touch $@
 
-## make lib             MEASURED      MEASURED        the proved library for C and Rust: target/staticlib/libtraymark.a
+## make lib             4 min         1 s             the proved library for C and Rust: target/staticlib/libtraymark.a
 lib: target/staticlib/libtraymark.a
 
 # After `rt ci` this proves the crate traymark once more, and only that: an archive is built by the run that proves its crate as
@@ -42,7 +42,7 @@ lib: target/staticlib/libtraymark.a
 target/staticlib/libtraymark.a: $(call read_by,$(LIBRARIES))
 	rt staticlib traymark
 
-## make tests           MEASURED      MEASURED        the calls and the program against an independent decoder, from Rust and C;
+## make tests           6 min         80 s            the calls and the program against an independent decoder, from Rust and C;
 ##                                                    the wrapper's own tests, the benchmark's ports and the two examples
 tests: lib program
 	$(CARGO) run --quiet --release -p traymark-tests --bin calls
@@ -59,11 +59,11 @@ tests: lib program
 	$(CARGO) run --quiet --release -p traymark --example read_case_c | tee target/read_case_c.printed
 	diff examples/read_case_c.stdout target/read_case_c.printed
 
-## make bench           MEASURED      MEASURED        times beside the same method in Rust and the independent decoder; no test
+## make bench           not timed     not timed        times beside the same method in Rust and the independent decoder; no test
 bench: lib
 	$(CARGO) run --quiet --release -p traymark-bench
 
-## make quick           MEASURED      MEASURED        what needs no proof: layout, lines of at most 130 columns, that what the
+## make quick           1 s           1 s             what needs no proof: layout, lines of at most 130 columns, that what the
 ##                                                    documents name is there, and that no call has a requires
 quick:
 	rt fmt --check
@@ -71,13 +71,13 @@ quick:
 	tools/index
 	tools/exported
 
-## make wrong-programs  after a gate  MEASURED        writes docs/WRONG-PROGRAMS.md from what the last gate's prover said
+## make wrong-programs  after a gate  1 s             writes docs/WRONG-PROGRAMS.md from what the last gate's prover said
 wrong-programs:
 	mkdir -p target
 	tools/wrong-programs > target/WRONG-PROGRAMS.md
 	cp target/WRONG-PROGRAMS.md docs/WRONG-PROGRAMS.md
 
-## make test            MEASURED      the same        THE GATE: `quick`, every proof from nothing, every wrong program, which
+## make test            15 min        the same        THE GATE: `quick`, every proof from nothing, every wrong program, which
 ##                                                    must be refused, and `tests`; its last line is 'N passed, 0 failed'
 # `rt ci` removes target/ first, so .verdict stands beside it.
 # Four proofs at a time, also on two processors: rt waits for the whole batch before it begins the next.
