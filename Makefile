@@ -63,11 +63,13 @@ tests: lib program
 bench: lib
 	$(CARGO) run --quiet --release -p traymark-bench
 
-## make quick           1 s           1 s             what needs no proof: layout, lines of at most 130 columns, that what the
-##                                                    documents name is there, and that no call has a requires
+## make quick           1 s           1 s             what needs no proof: layout, lines of at most 130 columns, that files of
+##                                                    laws open with their laws, that what the documents name is there, and
+##                                                    that no call has a requires
 quick:
 	rt fmt --check
 	tools/columns
+	tools/heads
 	tools/index
 	tools/exported
 

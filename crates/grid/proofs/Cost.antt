@@ -1,5 +1,10 @@
--- What is left tells what a message costs: nothing is subtracted at the start, then the coefficients of one power of Y after the
--- other, and after the last what is left, measured against 0, is the cost. Assumes nothing.
+-- What is left tells what a message costs.
+--
+--   costs-start   nothing is subtracted, and all symbols are left
+--   costs-next    the values of one power of Y are subtracted
+--   costs-last    after the last, what is left, measured against 0, is the cost
+--
+-- What this file is for: a record found in steps is measured without evaluating it. Assumes nothing.
 use mathlib.Core.Path.{_≡_, refl, sym, ap, _∙_}
 use Prim.Native.Nat.{ℕ, suc, _*_, _-_, _^_, _≤_, _<_}
 use native.Mathlib.Omega.{arith}

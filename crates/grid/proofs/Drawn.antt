@@ -1,4 +1,11 @@
--- What columns leave: they are subtracted one by one, and what is left is measured row by row. Assumes nothing.
+-- What columns leave of a mark.
+--
+--   without-subtracted   a row less a column's value times the power of Y is the row with that term subtracted
+--   drawn-start          nothing is subtracted
+--   drawn-next           one column more
+--   remaining-more       what is left, measured against 0, one row more
+--
+-- What this file is for: columns are subtracted one by one, and what is left is measured row by row. Assumes nothing.
 use mathlib.Core.Path.{_≡_, refl, ap, sym, _∙_}
 use mathlib.Core.List.{List}
 use Prim.Native.Nat.{ℕ, suc, _+_, _*_, _-_, _%_, _^_, _≤_, _<_}

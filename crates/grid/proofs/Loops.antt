@@ -1,5 +1,9 @@
--- The laws of the loop over pairs that are changed where they stand: a step, and an element passed.
--- Assumes nothing.
+-- The loop over elements in pairs with numbers, both changed where they stand.
+--
+--   both-step   the element and the number at i are set
+--   both-pass   they stay as they are
+--
+-- What this file is for: the loop over the lines, of which some are read and some are known. Assumes nothing.
 use mathlib.Core.Logic.{_≢_}
 use mathlib.Core.Path.{_∙_}
 use mathlib.Core.List.{List}

@@ -1,5 +1,9 @@
--- What is left of the symbols through the degree steps: all of them at the start, a term less after each step, and after the last
--- the symbol less the value. Assumes nothing.
+-- What is left of the symbols through the degree steps.
+--
+--   rest-start   all of them
+--   rest-next    a term less
+--
+-- What this file is for: after the last step the symbol less the value is left. Assumes nothing.
 use mathlib.Core.Path.{refl}
 use Prim.Native.Nat.{ℕ, suc, _*_, _-_, _^_, _≤_, _<_}
 use native.Mathlib.Omega.{arith}

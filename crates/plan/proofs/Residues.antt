@@ -1,4 +1,8 @@
--- The points of a sound plan are a row of residues modulo its prime: the unused ones are 0. Assumes nothing.
+-- The points of a sound plan.
+--
+--   points-row   they are a row of residues modulo its prime: the unused ones are 0
+--
+-- What this file is for: the field's functions take whole rows. Assumes nothing.
 use mathlib.Core.List.{List}
 use Prim.Native.Nat.{ℕ, _<_}
 use native.Mathlib.Omega.{arith}

@@ -1,4 +1,9 @@
--- The early answer of a mark: doubts that come to the radius leave no record under it. Assumes nothing.
+-- The early answer of a mark.
+--
+--   cells-most      a mark has at most 256 cells
+--   doubts-refuse   doubts that come to the radius leave no record under it: refusal 10
+--
+-- What this file is for: a mark of which nothing is known is refused before it is loaded. Assumes nothing.
 use mathlib.Core.Path.{_≡_}
 use mathlib.Core.List.{List}
 use Prim.Native.Nat.{ℕ, _*_, _≤_}

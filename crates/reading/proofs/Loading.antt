@@ -1,5 +1,11 @@
--- Loaded cells: residues are below the modulus, and stand for their symbols;
--- a call that passes its checks has taken a photograph. Assumes nothing.
+-- Photographs as the readers take and load them.
+--
+--   taken            where refusals 1 to 8 do not apply, a photograph was taken
+--   negated          what a test `!b` says of b
+--   residue-below    a loaded symbol is below the modulus
+--   residue-loaded   and stands for the symbol that was lent
+--
+-- What this file is for: from the checks' number to what the readers ask. Assumes nothing.
 use mathlib.Core.Path.{_≡_, refl, ap}
 use mathlib.Core.Logic.{_⊎_, inl, inr}
 use mathlib.Core.Bool.{Bool, true, false, not, cond}

@@ -1,4 +1,16 @@
--- Grids of loaded cells, row by row: their rows, from the bytes lent, and the cells that are changed. Assumes nothing.
+-- Grids of loaded cells, row by row.
+--
+--   product-small             where a row begins is a small number
+--   cell-at                   a cell of the grid is a byte of the flat photograph
+--   part                      the bytes of row r
+--   part-line, no-line        a row from its own part of the bytes; below the grid there is nothing
+--   passed-zeros, passed-rest rows that are set one by one, the others being zeros
+--   residues-set              the residues of some bytes, set in a row of zeros
+--   residues-part, no-residues   those of a row from its own part of the bytes; below the grid there are none
+--   changed-more              a row more of the changed cells
+--   flag-differ               a cell's flag says whether its symbol is the value
+--
+-- What this file is for: loading a mark, and counting its changed cells from what the decoder left. Assumes nothing.
 use mathlib.Core.Path.{_≡_, refl, sym, ap, _∙_}
 use mathlib.Core.Logic.{_⊎_, inl, inr}
 use mathlib.Core.Bool.{Bool, true, false, cond}

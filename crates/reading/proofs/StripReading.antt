@@ -1,5 +1,11 @@
--- From the contract of a strip reader to the reading that document 01 defines: an answer of a sound plan's strip is the reading,
--- and no answer is refusal 10; at most one record is within the radius. Assumes nothing.
+-- From the contract of a strip reader to the reading of a sound plan's strip.
+--
+--   only-strip   at most one record is within the radius
+--   strip-none   no answer is refusal 10
+--   strip-cost, strip-found
+--                the cost of an answer is the record's, and the answer is the reading
+--
+-- What this file is for: the decoder speaks of coefficients at points, the document of a record and its strip. Assumes nothing.
 use mathlib.Core.Logic.{inl}
 use mathlib.Core.Path.{_≡_, refl, sym, ap, ap₂, _∙_}
 use mathlib.Core.Bool.{Bool, true, false, false≢true}

@@ -1,6 +1,16 @@
--- The degree step over any set of lines: it starts, it finds the next coefficients of every message under the radius or shows
--- that there is none, and after the last step what is left, measured against 0, is the cost. Then the same for two coordinates.
--- Assumes nothing.
+-- The degree step over any set of lines; then the same for two coordinates, where the lines are rows.
+--
+--   left-start        before the first step nothing is found and all symbols are left
+--   lower-near        what the lines hand on: the coefficients of a message under the radius are under theirs
+--   left-none         where these have no answer, no message is under the radius
+--   left-next         where they have one, every message under the radius has what was found
+--   bivariate-strip   in two coordinates the reader of these is the reader of strips
+--   grid-start, grid-none, grid-next
+--                     the three for two coordinates
+--   grid-cost         after the last step what is left, measured against 0, is the cost of what was found
+--   grid-over         where that is not under the radius, no record is
+--
+-- What this file is for: the decoder of marks finds one coefficient of Y at a time, and misses no record. Assumes nothing.
 use mathlib.Core.Path.{_≡_, refl, sym, ap, _∙_}
 use mathlib.Core.Bool.{Bool, true, false, false≢true}
 use Prim.Native.Nat.{ℕ, suc, _+_, _*_, _-_, _%_, _≤_, _<_, min}

@@ -1,4 +1,11 @@
--- Columns that were drafted: they are subtracted one by one, and under the radius they are the answer. Assumes nothing.
+-- Columns that were drafted.
+--
+--   solving-drawn     the columns that the steps found are drawn
+--   solving-redrawn   the columns that the steps have yet to find may be any
+--   drawn-solved      a draft that leaves a cost under the radius is the answer
+--   drawn-drafted     a draft of all columns is the answer, or is taken back
+--
+-- What this file is for: a draft counts by what it leaves, however it was made. Assumes nothing.
 use mathlib.Core.Path.{ap}
 use mathlib.Core.List.{List}
 use Prim.Native.Nat.{ℕ, suc, _+_, _-_, _≤_, _<_}

@@ -1,4 +1,10 @@
--- A group more of the flat record: those before it stay, and the record's coefficients are those of the columns. Assumes nothing.
+-- The flat record, written group by group.
+--
+--   flat-more       one group more: those before it stay, and the coefficients are those of the columns
+--   stretch-start, stretch-step
+--                   a stretch of a list, written place by place
+--
+-- What this file is for: the record of what the steps found. Assumes nothing.
 use mathlib.Core.Logic.{_≢_}
 use mathlib.Core.Path.{_≡_, refl, _∙_}
 use mathlib.Core.List.{List}

@@ -1,5 +1,9 @@
--- What the decoder hands over where there is no record under the radius, and where what is left of one costs less. Assumes
--- nothing.
+-- What the decoder hands over, from what is left after the last step.
+--
+--   decoded-none    no record is under the radius
+--   decoded-found   what is left costs less than the radius: the record found is the answer
+--
+-- What this file is for: the two ends of the decoder, for any coefficients. Assumes nothing.
 use mathlib.Core.Path.{_≡_, refl, sym, _∙_}
 use mathlib.Core.Bool.{true, false, false≢true}
 use Prim.Native.Nat.{ℕ, suc, _+_, _*_, _≤_, _<_}

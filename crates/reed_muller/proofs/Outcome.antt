@@ -1,5 +1,10 @@
--- What the decoder of marks returns: what is left, measured row by row; and its outcome under the radius and else. Assumes
--- nothing.
+-- What the decoder of marks returns.
+--
+--   rest-whole      what is left after all columns is the symbol less the value
+--   outcome-none    the outcome where the cost is not under the radius
+--   outcome-found   the outcome where it is: the flat record of the columns
+--
+-- What this file is for: from what the solver found to the decoder's contract. Assumes nothing.
 use mathlib.Core.Path.{_≡_, sym}
 use mathlib.Core.Bool.{false≢true}
 use mathlib.Core.List.{List}

@@ -1,5 +1,11 @@
--- What a call's number says of what it hands back: a refusal leaves the buffer or is a reading of zeros, and 0 gives the result.
--- Assumes nothing.
+-- What a call's number says of what it hands back.
+--
+--   write-keeps, write-fills           a refused writing leaves the buffer, an accepted one fills it
+--   measure-refuses, measure-gives     a refused measuring is zeros, an accepted one the reading of the record
+--   read-refuses, read-takes           refusals 1 to 8 of a reading; where none applies, the photograph is taken
+--   read-keeps, read-gives             a refused reading is zeros and leaves the buffer; an accepted one is of the record in it
+--
+-- What this file is for: the calls test a number, the definitions choose by it. Assumes nothing.
 use mathlib.Core.Path.{_≡_, refl, sym, ap, _∙_}
 use mathlib.Core.List.{List}
 use Prim.Native.Nat.{ℕ, zero, suc}

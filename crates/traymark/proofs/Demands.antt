@@ -1,5 +1,4 @@
--- The customer's demands, for marks and strips, and what document 01 says of every plan, cell, margin and number, over
--- the definitions that the calls' contracts repeat. The names in these statements are of `definitions/specs`. Assumes nothing.
+-- The customer's demands, for marks and strips, and what document 01 says of every plan, cell, margin and number.
 --
 --   sound-exactly                        "The season plan": which plans are sound
 --   demand-1                             demand 1: what a refusal gives and leaves
@@ -8,6 +7,9 @@
 --   demand-3                             demand 3
 --   unread-costs, mark-margins           "Photographed mark and cost"
 --   lowest-given, measures               "What is returned"
+--
+-- What this file is for: the customer's sentences as theorems over the definitions that the calls' contracts repeat. The names in
+-- the statements are of `definitions/specs`. Assumes nothing.
 use mathlib.Core.Path.{_≡_, refl, sym, _∙_}
 use mathlib.Core.Logic.{_↔_}
 use mathlib.Core.List.{List}

@@ -1,5 +1,9 @@
--- Marks and strips: the number of the test at which a check stops; and the checks by the struct that says what a plan does are
--- those by the plan itself. Assumes nothing.
+-- The checks that marks and strips share.
+--
+--   photo-at, write-at       the number of the test at which a check stops
+--   photo-said, write-said   the checks by the struct that says what a plan does are those by the plan itself
+--
+-- What this file is for: the checks name the kind by a bool and the plan by its struct. Assumes nothing.
 use mathlib.Core.Path.{_≡_, refl}
 use mathlib.Core.Bool.{Bool, true, false}
 use mathlib.Core.List.{List}

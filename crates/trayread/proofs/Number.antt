@@ -1,4 +1,9 @@
--- The text of an answer by the number of its reading: a refusal's line, or the two lines of a reading. Assumes nothing.
+-- The text of an answer by the number of its reading.
+--
+--   refused-text   a refusal's line
+--   read-text      the two lines of a reading
+--
+-- What this file is for: the program tests the number, the definition chooses by it. Assumes nothing.
 use mathlib.Core.Path.{_≡_, refl}
 use mathlib.Core.List.{List, _++_}
 use Prim.Native.Nat.{ℕ, zero, suc}

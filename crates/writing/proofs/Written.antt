@@ -1,4 +1,9 @@
--- A mark written row by row: one row more, in its own part of the lent bytes; and what its cells then hold. Assumes nothing.
+-- A mark written row by row.
+--
+--   row-more       one row more, in its own part of the lent bytes
+--   mark-written   what the cells of a mark then hold
+--
+-- What this file is for: what the writer leaves in the buffer. Assumes nothing.
 use mathlib.Core.Path.{_≡_, sym, ap₂, _∙_}
 use mathlib.Core.List.{List, _++_, append-assoc}
 use Prim.Native.Nat.{ℕ, _+_, _*_, _-_, _<_}
