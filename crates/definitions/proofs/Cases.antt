@@ -25,14 +25,14 @@ use Rattle.definitions.specs.Finder.{findRows, findNumber}
 use Rattle.definitions.specs.Published.{_over_, _is_times_, distance, weighted}
 use Rattle.definitions.specs.Tray.{trayReading, trayRecord}
 use Rattle.definitions.specs.Printed.{decimal, signed, spaced, readLine, recordLine, refusedLine, answerText, trayText}
-use Rattle.definitions.specs.Cases.{outcome, only, call, said, cases, moreCases, planA, mark₁, photoC, photoD}
+use Rattle.definitions.specs.Cases.{effect, only, call, expected, cases, moreCases, planA, mark₁, photoC, photoD}
 
-pub cases-hold : map outcome (map call cases) ≡ map said cases
-unfolding outcome
+pub cases-hold : map effect (map call cases) ≡ map expected cases
+unfolding effect
 cases-hold = refl
 
-pub more-cases-hold : map outcome (map call moreCases) ≡ map said moreCases
-unfolding outcome
+pub more-cases-hold : map effect (map call moreCases) ≡ map expected moreCases
+unfolding effect
 more-cases-hold = refl
 
 pub class-bounds : map class (0 ∷ 1 ∷ 3 ∷ 4 ∷ 15 ∷ 16 ∷ 256 ∷ []) ≡ 0 ∷ 1 ∷ 1 ∷ 2 ∷ 2 ∷ 3 ∷ 3 ∷ []
@@ -42,7 +42,7 @@ class-bounds = refl
 pub finder-cases :
     map (findNumber (planA ++ set planA 0 1)) (12 ∷ 268 ∷ 269 ∷ []) ++ findNumber [] 12 ∷ findNumber (drop 1 planA) 12 ∷ []
     ≡ 0 ∷ 0 ∷ 12 ∷ 12 ∷ 11 ∷ []
-unfolding outcome findNumber findRows
+unfolding effect findNumber findRows
 finder-cases = refl
 
 -- a wrong cell without doubt, and a right one with the doubt 50: 1 and a quarter
@@ -56,7 +56,7 @@ never-over-zero D k a h = omega (arith, h .0)
 pub tray-cases :
     map trayReading ((planA ++ photoC ++ sure 9) ∷ (planA ++ mark₁) ∷ (planA ++ photoC ++ sure 10) ∷ drop 1 planA ∷ [])
     ≡ record { number = 0; cost = 400; margin = pos 200; changed = 2; class = 1 } ∷ only 6 ∷ only 6 ∷ only 1 ∷ []
-unfolding outcome trayReading
+unfolding effect trayReading
 tray-cases = refl
 
 -- READ, the season's digits, 2 1 400 200, RECORD 3 1 2; REFUSED and a number's digits
@@ -76,7 +76,7 @@ pub text-cases :
     )
     ≡ caseC (49 ∷ 50 ∷ []) ∷ caseC (50 ∷ 54 ∷ 56 ∷ []) ∷ refusal (49 ∷ 48 ∷ [])
     ∷ refusal (54 ∷ []) ∷ refusal (54 ∷ []) ∷ refusal (49 ∷ []) ∷ []
-unfolding outcome trayReading trayRecord decimal signed spaced readLine recordLine refusedLine answerText trayText
+unfolding effect trayReading trayRecord decimal signed spaced readLine recordLine refusedLine answerText trayText
 text-cases = refl
 
 -- 0, 9, 10, 65535, 4294967295

@@ -25,7 +25,7 @@ use Rattle.definitions.specs.Cost.{full, radius, margin}
 use Rattle.distance.specs.Cost.{cell}
 use Rattle.definitions.specs.Calls.{refused, costOf, readingOf, nearest, the}
 use Rattle.definitions.specs.Calls.{measureNumber, measureReading, readNumber, readReading}
-use Rattle.definitions.specs.Cases.{outcome}
+use Rattle.definitions.specs.Cases.{effect}
 use Rattle.definitions.specs.Photograph.{Photograph, sure}
 use Rattle.definitions.specs.Demands.{InRange, Reached}
 use Rattle.definitions.proofs.Sound.{sound}
@@ -85,9 +85,9 @@ widest : ℕ → List ℕ
 widest d = 0 ∷ 12 ∷ 17 ∷ 16 ∷ d ∷ tab 16 (λ i. i) ++ sure 3
 
 pub lowest : Reached (negℤ (pos 49600))
-unfolding widest outcome
+unfolding widest effect
 lowest = record { P = widest 15; s = replicate 256 1; u = sure 256; F = sure 136; accepted = refl; margin = refl }
 
 pub highest : Reached (pos 25600)
-unfolding widest outcome
+unfolding widest effect
 highest = record { P = widest 0; s = sure 256; u = sure 256; F = sure 1; accepted = refl; margin = refl }

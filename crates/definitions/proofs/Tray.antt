@@ -19,7 +19,7 @@ use Rattle.definitions.specs.Plan.{modulus, checkNumber}
 use Rattle.definitions.specs.Code.{square, size, cells}
 use Rattle.definitions.specs.Cost.{full}
 use Rattle.definitions.specs.Calls.{photoTests, photoRows}
-use Rattle.definitions.specs.Tray.{planOf, symbolsOf, doubtsOf, bufferOf, trayReading, Holds, longest}
+use Rattle.definitions.specs.Tray.{planOf, symbolsOf, doubtsOf, bufferOf, trayReading, HoldsFirst, longest}
 use Rattle.definitions.specs.Printed.{refusedLine, answerText, trayText}
 use Rattle.definitions.proofs.Refusals.{first-at, equal, unequal}
 use Rattle.definitions.proofs.Sound.{sound}
@@ -76,20 +76,20 @@ long-text a b p l m = go (checkNumber (planOf b)) refl
         sym (plan-text a (suc k) (sym (ap checkNumber p ∙ e)) (λ z. omega arith)) ∙ plan-text b (suc k) (sym e) (λ z. omega arith)
 
 -- every input has its rooms: one that it leaves space in, and one that it is too long for
-pub holds-whole : (input space : List ℕ) → Holds input (input ++ space) (length input)
+pub holds-whole : (input space : List ℕ) → HoldsFirst input (input ++ space) (length input)
 holds-whole input space = record {
   count = simp length-append (omega arith);
   bytes = take-append-seam input space ∙ sym (take-all (length input) input (omega arith));
 }
 
-pub holds-first : (room more : List ℕ) → Holds (room ++ more) room (length room)
+pub holds-first : (room more : List ℕ) → HoldsFirst (room ++ more) room (length room)
 holds-first room more = record {
   count = simp length-append (omega arith);
   bytes = take-all (length room) room (omega arith) ∙ sym (take-append-seam room more);
 }
 
 -- so a room with one byte more decides what is printed
-pub room-text : (input room : List ℕ) (came : ℕ) → longest < length room → Holds input room came →
+pub room-text : (input room : List ℕ) (came : ℕ) → longest < length room → HoldsFirst input room came →
     trayText (take came room) ≡ trayText input
 room-text input room came l h = rw (h .bytes) (go (decLe (length input) came))
   where

@@ -1,7 +1,7 @@
 -- Cases a to l of the table "Edges", as rows of one list.
 --
 --   call ⟹ reading leaving bytes    a call, what it returns, and what its last buffer then holds
---   outcome                          the same by the definitions
+--   effect                           the same by the definitions
 --
 -- What this file is for: the definitions are held against the document's own examples; proofs/Cases.antt computes both sides.
 use mathlib.Core.List.{List, [], _∷_, _++_}
@@ -29,36 +29,36 @@ pub data Call : Type 0 where
   read : (C : Code) (P s u B : List ℕ) → Call
 
 infix 10 _leaving_
-pub data Outcome : Type 0 where
-  _leaving_ : Reading → List ℕ → Outcome
+pub data Effect : Type 0 where
+  _leaving_ : Reading → List ℕ → Effect
 
 infix 5 _⟹_
 pub data Case : Type 0 where
-  _⟹_ : Call → Outcome → Case
+  _⟹_ : Call → Effect → Case
 
 -- a number with zeros beside it, written out
 abbrev pub only : ℕ → Reading
 only k = record { number = k; cost = 0; margin = pos 0; changed = 0; class = 0 }
 
 -- whoever unfolds this computes with all that it names
-unfoldable pub outcome : Call → Outcome
+unfoldable pub effect : Call → Effect
 unfolding any tab first isPrime checkNumber planRows valueX valueXY mark margin search firstOf photoRows readingOf
     writeRows writeNumber writeBuffer measureRows measureNumber measureReading
     within nearest readRows readNumber readReading readBuffer
-outcome (check P) = only (checkNumber P) leaving []
-outcome (write C P F B) = only (writeNumber C P F B) leaving writeBuffer C P F B
-outcome (measure C P s u F) = measureReading C P s u F leaving F
-outcome (read C P s u B) = readReading C P s u B leaving readBuffer C P s u B
+effect (check P) = only (checkNumber P) leaving []
+effect (write C P F B) = only (writeNumber C P F B) leaving writeBuffer C P F B
+effect (measure C P s u F) = measureReading C P s u F leaving F
+effect (read C P s u B) = readReading C P s u B leaving readBuffer C P s u B
 
 abbrev pub call : Case → Call
 call (c ⟹ o) = c
 
-abbrev pub said : Case → Outcome
-said (c ⟹ o) = o
+abbrev pub expected : Case → Effect
+expected (c ⟹ o) = o
 
 -- D, margin, changed and class of a record
 abbrev gives : ℕ → ℕ → ℕ → ℕ → Reading
-gives D m n k = record { number = 0; cost = D; margin = pos m; changed = n; class = k }
+gives D z n k = record { number = 0; cost = D; margin = pos z; changed = n; class = k }
 
 -- a plan of season 12: p, n, d and the first three point bytes
 abbrev plan : ℕ → ℕ → ℕ → ℕ → ℕ → ℕ → List ℕ

@@ -90,16 +90,16 @@ abbrev pub UnreadCosts : Code → (P s u F : List ℕ) → Type 0
 UnreadCosts C P s u F = (c : ℕ) → c < cells C P → at s c ≡ unread → cell full (at s c) (at u c) (value C P F c) ≡ 100
 
 abbrev pub InRange : ℤ → Type 0
-InRange m = (negℤ (pos 49600) ≤ℤ m) × (m ≤ℤ pos 25600)
+InRange z = (negℤ (pos 49600) ≤ℤ z) × (z ≤ℤ pos 25600)
 
--- some record, measured against some mark, has the margin m
-pub record Reached (m : ℤ) : Type 0 where
+-- some record, measured against some mark, has the margin z
+pub record Reached (z : ℤ) : Type 0 where
   pub P : List ℕ
   pub s : List ℕ
   pub u : List ℕ
   pub F : List ℕ
   pub accepted : measureNumber square P s u F ≡ 0
-  pub margin : measureReading square P s u F .margin ≡ m
+  pub margin : measureReading square P s u F .margin ≡ z
 
 pub record MarkMargins : Type 0 where
   pub measured : (P s u F : List ℕ) → InRange (measureReading square P s u F .margin)

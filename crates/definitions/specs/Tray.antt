@@ -2,7 +2,7 @@
 --
 --   planOf, symbolsOf, doubtsOf   the parts of the input
 --   trayReading, trayRecord       the reading of the mark, and the record that is printed
---   Holds input room came         a room holds the first bytes of an input of any length: `came` of them, all or as many as fit
+--   HoldsFirst input room came    a room holds the first bytes of an input of any length: `came` of them, all or as many as fit
 --   longest                       the length of the longest input that a sound plan takes, with 16 times 16 cells
 --
 -- What this file is for: fewer than 24 bytes are refusal 1, since the plan is short; a wrong count after a sound plan is 6, since
@@ -34,7 +34,7 @@ trayReading input = readReading square (planOf input) (symbolsOf input) (doubtsO
 unfoldable pub trayRecord : List ℕ → List ℕ
 trayRecord input = readBuffer square (planOf input) (symbolsOf input) (doubtsOf input) (bufferOf input)
 
-pub record Holds (input room : List ℕ) (came : ℕ) : Type 0 where
+pub record HoldsFirst (input room : List ℕ) (came : ℕ) : Type 0 where
   pub count : came ≡ min (length input) (length room)
   pub bytes : take came room ≡ take came input
 

@@ -12,13 +12,13 @@ use Rattle.distance.specs.Cost.{cell, cost}
 use Rattle.distance.specs.Loaded.{Loaded}
 use Rattle.distance.proofs.Cost.{cell-full}
 
-pub cell-loaded : {F s u s′ u′ : ℕ} (v : ℕ) → Loaded F s u s′ u′ → cell F s u v ≡ cell F s′ u′ v
-cell-loaded {F} {s} {u} {s′} v L = rw (L .doubt) (go (L .symbol))
+pub cell-loaded : {full s u s′ u′ : ℕ} (v : ℕ) → Loaded full s u s′ u′ → cell full s u v ≡ cell full s′ u′ v
+cell-loaded {full} {s} {u} {s′} v L = rw (L .doubt) (go (L .symbol))
   where
-    go : (s′ ≡ s) ⊎ (u ≡ F) → cell F s u v ≡ cell F s′ u v
+    go : (s′ ≡ s) ⊎ (u ≡ full) → cell full s u v ≡ cell full s′ u v
     go (inl e) = rw e
-    go (inr e) = rw e (cell-full F s v ∙ sym (cell-full F s′ v))
+    go (inr e) = rw e (cell-full full s v ∙ sym (cell-full full s′ v))
 
-pub cost-loaded : {F n : ℕ} {s u s′ u′ : ℕ → ℕ} (v : ℕ → ℕ) → ((i : ℕ) → i < n → Loaded F (s i) (u i) (s′ i) (u′ i)) →
-    cost F n s u v ≡ cost F n s′ u′ v
+pub cost-loaded : {full n : ℕ} {s u s′ u′ : ℕ → ℕ} (v : ℕ → ℕ) → ((i : ℕ) → i < n → Loaded full (s i) (u i) (s′ i) (u′ i)) →
+    cost full n s u v ≡ cost full n s′ u′ v
 cost-loaded {n} v L = sum-eq n λ i l. cell-loaded (v i) (L i l)

@@ -1,9 +1,10 @@
--- The weighted distance of values v from symbols s with doubts u, for any full doubt f.
+-- The weighted distance of values v from symbols s with doubts u, for any full doubt.
 -- A doubt is an uncertainty in whole numbers.
 --
---   cell f s u v    what one cell costs: its doubt where the symbol is the value, else twice the full doubt less its doubt
---   cost f n s u v  the sum over n cells
---   changed n s v   how many of n symbols differ from the values
+--   cell full s u v     what one cell costs: its doubt where the symbol is the value, else twice the full doubt less its doubt
+--   cost full n s u v   the sum over n cells
+--   differ v w          1 where two values differ, else 0
+--   changed n s v       how many of n symbols differ from the values
 --
 -- What this file is for: which word is nearest.
 use mathlib.Core.Bool.{cond}
@@ -11,11 +12,14 @@ use Prim.Native.Nat.{ℕ, _*_, _-_}
 use lib.Dec.{eqb}
 use Rattle.bounded.specs.Bounded.{sum}
 
-abbrev pub cell : (f s u v : ℕ) → ℕ
-cell f s u v = cond (eqb s v) u (2 * f - u)
+abbrev pub cell : (full s u v : ℕ) → ℕ
+cell full s u v = cond (eqb s v) u (2 * full - u)
 
-abbrev pub cost : (f n : ℕ) (s u v : ℕ → ℕ) → ℕ
-cost f n s u v = sum n λ c. cell f (s c) (u c) (v c)
+abbrev pub cost : (full n : ℕ) (s u v : ℕ → ℕ) → ℕ
+cost full n s u v = sum n λ c. cell full (s c) (u c) (v c)
+
+abbrev pub differ : (v w : ℕ) → ℕ
+differ v w = cond (eqb v w) 0 1
 
 abbrev pub changed : (n : ℕ) (s v : ℕ → ℕ) → ℕ
-changed n s v = sum n λ c. cond (eqb (s c) (v c)) 0 1
+changed n s v = sum n λ c. differ (s c) (v c)

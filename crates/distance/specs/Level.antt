@@ -1,6 +1,5 @@
 -- Levels of doubt (Forney; Kim, section 4.2): at level t a cell whose doubt is over t counts as erased.
 --
---   differ v w          1 where two values differ, else 0
 --   wrong t s u v       1 for a cell that is kept at level t and whose symbol is not the value
 --   erased t u          1 for a cell that is erased at level t
 --   weight n t s u v    twice the wrong cells and the erased ones, over n cells
@@ -8,11 +7,9 @@
 -- What this file is for: a word whose cost is under the radius is near at some level.
 use mathlib.Core.Bool.{cond}
 use Prim.Native.Nat.{ℕ, _+_, _*_}
-use lib.Dec.{eqb, leb}
+use lib.Dec.{leb}
 use Rattle.bounded.specs.Bounded.{sum}
-
-abbrev pub differ : (v w : ℕ) → ℕ
-differ v w = cond (eqb v w) 0 1
+use Rattle.distance.specs.Cost.{differ}
 
 abbrev pub wrong : (t s u v : ℕ) → ℕ
 wrong t s u v = cond (leb u t) (differ s v) 0

@@ -2,9 +2,8 @@
 ghost use mathlib.Core.Path.{_≡_};
 ghost use Prim.Native.Nat.{_*_, _-_, _≤_, _<_};
 ghost use Rattle.bounded.specs.Bounded.{at};
-ghost use Rattle.distance.specs.Cost.{cell, cost, changed};
+ghost use Rattle.distance.specs.Cost.{cell, cost, differ, changed};
 ghost use Rattle.distance.specs.Doubts.{Doubts};
-ghost use Rattle.distance.specs.Level.{differ};
 
 // What one cell costs: its doubt where its symbol is the value, else twice the full doubt less its doubt. The full doubt is a
 // number of 16 bits, so that a cell costs less than 2 * 65536 = 131072, and n cells at most n times that.

@@ -10,12 +10,12 @@ pub fn is_prime(p: u16) -> bool
     if n < 2 {
         return false;
     }
-    let mut d: u32 = 2;
-    while d * d <= n {
-        if n % d == 0 {
+    let mut divisor: u32 = 2;
+    while divisor * divisor <= n {
+        if n % divisor == 0 {
             return false;
         }
-        d += 1;
+        divisor += 1;
     }
     true
 }

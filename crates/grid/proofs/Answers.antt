@@ -1,4 +1,14 @@
--- The lines as the decoder holds them: a line that was read, found or not, and one that was kept, are answered. Assumes nothing.
+-- The lines as the decoder holds them.
+--
+--   row-zeros, column-row   zeros are a row of residues, and so is a place of each of some rows
+--   positive                the prime of a grid is not 0
+--   line-full               the full doubt of what the lines hand on is small enough for the decoder of strips
+--   line-valid, strip-valid the axes of a line and of what the lines hand on are as the decoder of strips asks
+--   answered-found, answered-none
+--                           a line that was read, with and without an answer, is answered
+--   answered-kept           so is one whose answer was kept
+--
+-- What this file is for: after the loop over the lines each of them hands on a cell. Assumes nothing.
 use mathlib.Core.Logic.{_≢_}
 use mathlib.Core.Path.{_≡_, refl}
 use mathlib.Core.Bool.{Bool, true, false}
@@ -70,7 +80,7 @@ module _ {g : Grid} {t : ℕ} {s u : List ℕ} (f : Fit g) where
     answered-found e S =
         let A : Answer g t s u w v = rw e at S in
         let small : at w t < suc (g .p - 1) = omega (arith, good .small t) in
-        record { good = good; entered = rw (mod-eq-of-lt small) at (line-answered (f .columnsApart) du A); strip = λ _. A }
+        record { good = good; handed = rw (mod-eq-of-lt small) at (line-answered (f .columnsApart) du A); strip = λ _. A }
 
   pub answered-kept : {w : List ℕ} {v : ℕ} → Doubts (g .full) (g .b) (at u) → v ≢ unknown → Known g t s u w v →
       Answered g t s u w v
@@ -81,6 +91,6 @@ module _ {g : Grid} {t : ℕ} {s u : List ℕ} (f : Fit g) where
       Answered g t s u (replicate 16 0) (g .full * (g .b - t))
   answered-none e S = record {
     good = row-zeros (positive f);
-    entered = line-unanswered (at (replicate 16 0) t) (rw e at S);
+    handed = line-unanswered (at (replicate 16 0) t) (rw e at S);
     strip = λ l. absurd (omega arith);
   }

@@ -1,5 +1,11 @@
--- What a line hands on, answered or not; a polynomial measured under the radius is a line's answer however it was found; and the
--- answer of one degree more, its highest term subtracted, is the answer of the line that is left. Assumes nothing.
+-- One line of a mark, read as a strip.
+--
+--   line-answered     an answered line hands on the answer's leading coefficient, with its cost for the doubt
+--   line-unanswered   a line without an answer hands on any symbol, with the full doubt
+--   answer-measured   a polynomial measured under the radius is the line's answer, however it was found
+--   answer-carried    an answer, its highest term subtracted, is the answer of one degree less to the line that is left
+--
+-- What this file is for: what a line hands on costs no record more than the line did. Assumes nothing.
 use mathlib.Core.Logic.{_⊎_, inl, inr}
 use mathlib.Core.Path.{_≡_, refl, sym, _∙_}
 use mathlib.Core.Bool.{Bool, true, false, cond, false≢true}
@@ -13,6 +19,7 @@ use Rattle.bounded.proofs.Sum.{sum-eq}
 use Rattle.field.specs.Congruence.{Cong}
 use Rattle.field.proofs.Congruence.{same, to-mod, _⨾_, ~add, ~mul-right}
 use Rattle.distance.specs.Cost.{cell, cost, changed}
+use Rattle.distance.specs.Doubts.{Doubts}
 use Rattle.distance.proofs.Cost.{cost-two-words, cell-full, cell-less}
 use Rattle.polynomial.specs.Eval.{eval, values, Apart}
 use Rattle.polynomial.proofs.Eval.{same-or-far}
@@ -28,7 +35,7 @@ cell-other R c e v w l h = go (eqb e w)
     go true = omega arith
     go false = omega arith
 
-module _ {q full n k : ℕ} {y s u : ℕ → ℕ} (ay : Apart q n y) (du : (j : ℕ) → j < n → u j ≤ full) where
+module _ {q full n k : ℕ} {y s u : ℕ → ℕ} (ay : Apart q n y) (du : Doubts full n u) where
   -- an answered line: the answer's leading coefficient, and its cost as the doubt
   pub line-answered : {w : ℕ → ℕ} {g : ℕ} → Strip q full n k y s u true w g → HandsOn q full n k y s u (w k % suc q) g
   line-answered {w} {g} S = record { below = omega (arith, S .sound refl .1); cheap = λ h. kind h (same-or-far ay k w h) }

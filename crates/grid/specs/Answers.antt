@@ -4,7 +4,7 @@
 --   Known g t s u w v   where v is not unknown, w is the line's answer, and v its cost
 --   Answered g t s u w v
 --     good              the message is a row of numbers below p
---     entered           its coefficient of Y^t, with the doubt v, is what the line hands on
+--     handed           its coefficient of Y^t, with the doubt v, is what the line hands on
 --     strip             where v is under the line's radius, w is the line's answer, and v its cost
 --   KnownRows, AnsweredRows g t left u ws vs
 --                       the same of each row of what is left
@@ -38,7 +38,7 @@ pub record Known (g : Grid) (t : ℕ) (s u w : List ℕ) (v : ℕ) : Type 0 wher
 
 pub record Answered (g : Grid) (t : ℕ) (s u w : List ℕ) (v : ℕ) : Type 0 where
   pub good : Row (g .p) w
-  pub entered : HandsOn (g .p - 1) (g .full) (g .b) t (at (g .y)) (at s) (at u) (at w t) v
+  pub handed : HandsOn (g .p - 1) (g .full) (g .b) t (at (g .y)) (at s) (at u) (at w t) v
   pub strip : v < g .full * (g .b - t) → Answer g t s u w v
 
 pub record KnownRows (g : Grid) (t : ℕ) (left u ws : List (List ℕ)) (vs : List ℕ) : Type 0 where

@@ -17,8 +17,7 @@ use Rattle.bounded.specs.Bounded.{at}
 use Rattle.bounded.proofs.Sum.{sum-eq, sum-append}
 use Rattle.bounded.proofs.Part.{part-at, part-length}
 use Rattle.polynomial.specs.Record.{gridValue}
-use Rattle.distance.specs.Cost.{cell}
-use Rattle.distance.specs.Level.{differ}
+use Rattle.distance.specs.Cost.{cell, differ}
 use Rattle.definitions.specs.Plan.{side}
 use Rattle.definitions.specs.Code.{Code, strip, square, cells, value}
 use Rattle.definitions.specs.Cost.{full, radius}

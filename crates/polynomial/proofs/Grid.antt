@@ -22,7 +22,7 @@ use Rattle.field.proofs.Congruence.{of-mod, to-mod, ~mul-right, cancel}
 use Rattle.distance.specs.Cost.{changed}
 use Rattle.polynomial.specs.Eval.{eval, values, Apart}
 use Rattle.polynomial.specs.Record.{column, onRow}
-use Rattle.polynomial.specs.Grid.{gridDistance, apart}
+use Rattle.polynomial.specs.Grid.{gridDistance, gridChanged}
 use Rattle.polynomial.proofs.Eval.{eval-cong, same-or-far}
 
 tall : (M e r m i : ℕ) → M ≡ m + i → r ≡ e + i → e ≤ m → M * e ≤ r * m
@@ -76,7 +76,8 @@ module _ {q a b : ℕ} {x y : ℕ → ℕ} (ax : Apart q a x) (ay : Apart q b y)
   ]
 
   -- where the coefficients of Y^t agree, the lower terms decide
-  lower-terms : (t : ℕ) → ((i : ℕ) → i ≤ d - t → Cong q (g i t) (h i t)) → apart q a b d x y t g h ≤ apart q a b d x y (suc t) g h
+  lower-terms : (t : ℕ) → ((i : ℕ) → i ≤ d - t → Cong q (g i t) (h i t)) →
+      gridChanged q a b d x y t g h ≤ gridChanged q a b d x y (suc t) g h
   lower-terms t s = sum-le a λ r _. sum-le b λ c _.
       differ-more (eval t (onRow d g (x r)) (y c)) (eval t (onRow d h (x r)) (y c)) (agreed r c)
     where
@@ -84,7 +85,7 @@ module _ {q a b : ℕ} {x y : ℕ → ℕ} (ax : Apart q a x) (ay : Apart q b y)
       agreed r c = ~mul-right (y c ^ t) (eval-cong (suc (d - t)) (x r) λ i w. s i (omega arith))
 
   below-far : (k : ℕ) → k ≤ suc d →
-      ((t i : ℕ) → t < k → i + t ≤ d → Cong q (g i t) (h i t)) ⊎ (gridDistance a b d ≤ apart q a b d x y k g h)
+      ((t i : ℕ) → t < k → i + t ≤ d → Cong q (g i t) (h i t)) ⊎ (gridDistance a b d ≤ gridChanged q a b d x y k g h)
   below-far zero l = inl λ t i m. absurd (omega arith)
   below-far (suc t) l = elim (same-or-far ax (d - t) (λ i. g i t) (λ i. h i t)) [
     | inl s ↦ elim (below-far t (omega arith)) [
@@ -100,5 +101,6 @@ module _ {q a b : ℕ} {x y : ℕ → ℕ} (ax : Apart q a x) (ay : Apart q b y)
     ))
   ]
 
-  pub grid-same-or-far : ((t i : ℕ) → i + t ≤ d → Cong q (g i t) (h i t)) ⊎ (gridDistance a b d ≤ apart q a b d x y (suc d) g h)
+  pub grid-same-or-far : ((t i : ℕ) → i + t ≤ d → Cong q (g i t) (h i t)) ⊎
+      (gridDistance a b d ≤ gridChanged q a b d x y (suc d) g h)
   grid-same-or-far = elim (below-far (suc d) (omega arith)) [ inl e ↦ inl λ t i l. e t i (omega arith) l | inr m ↦ inr m ]

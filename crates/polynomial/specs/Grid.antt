@@ -1,8 +1,9 @@
 -- Polynomials in two variables on a grid of a row points x and b column points y.
 --
---   gridDistance a b d max(a, b) (min(a, b) - d): the least number of cells in which two polynomials of total
---   degree d < min(a, b) differ
---   apart q a b d x y k g h   in how many cells the terms of g and h below Y^k differ modulo suc q; all terms for k = d + 1
+--   gridDistance a b d   max(a, b) (min(a, b) - d): the least number of cells in which two polynomials of total degree
+--                        d < min(a, b) differ
+--   gridChanged q a b d x y k g h
+--                        in how many cells the terms of g and h below Y^k differ modulo suc q; all terms for k = d + 1
 --
 -- What this file is for: the distance of the codes on a product of two point sets, square or oblong.
 use Prim.Native.Nat.{ℕ, _*_, _-_, min, max}
@@ -14,5 +15,5 @@ use Rattle.polynomial.specs.Record.{onRow}
 abbrev pub gridDistance : (a b d : ℕ) → ℕ
 gridDistance a b d = max a b * (min a b - d)
 
-abbrev pub apart : (q a b d : ℕ) (x y : ℕ → ℕ) (k : ℕ) (g h : ℕ → ℕ → ℕ) → ℕ
-apart q a b d x y k g h = sum a λ r. changed b (values q k (onRow d g (x r)) y) (values q k (onRow d h (x r)) y)
+abbrev pub gridChanged : (q a b d : ℕ) (x y : ℕ → ℕ) (k : ℕ) (g h : ℕ → ℕ → ℕ) → ℕ
+gridChanged q a b d x y k g h = sum a λ r. changed b (values q k (onRow d g (x r)) y) (values q k (onRow d h (x r)) y)

@@ -1,5 +1,13 @@
--- From the mark decoder's contract to the reading that document 01 defines: an answer of a sound plan's mark is the reading, and
--- no answer is refusal 10; at most one record is within the radius. Assumes nothing.
+-- From the mark decoder's contract to the reading of a sound plan's mark.
+--
+--   flat-cost     the cost over a flat photograph, row by row
+--   record-word   coefficients below p make a record
+--   only-square   at most one record is within the radius
+--   mark-none     no answer is refusal 10
+--   mark-record, mark-cost, mark-found
+--                 an answer is a record, its cost is the record's, and it is the reading
+--
+-- What this file is for: the decoder speaks of coefficients on a grid, the document of a record and its marks. Assumes nothing.
 use mathlib.Core.Logic.{inl}
 use mathlib.Core.Path.{_≡_, refl, sym, ap, _∙_}
 use mathlib.Core.Bool.{Bool, true, false, false≢true}
@@ -41,20 +49,20 @@ use Rattle.reed_muller.specs.Mark.{grid, LoadedGrid, Decoded}
 use Rattle.reed_muller.proofs.Unique.{grid-one}
 
 -- the cost over a flat photograph of any two sizes, row by row
-pub flat-cost : (q F a b d : ℕ) (x y : ℕ → ℕ) (s u R : List ℕ) →
-    cost F (a * b) (at s) (at u) (gridValue (suc q) d b x y R) ≡ gridCost q F a b d x y (grid b u) (grid b s) (coef R)
-flat-cost q F a b d x y s u R = sum-rows a b _
-    ∙ sum-eq a λ r _. sum-eq b λ c m. ap (cell F (grid b s r c) (grid b u r c)) (there r c m)
+pub flat-cost : (q f a b d : ℕ) (x y : ℕ → ℕ) (s u F : List ℕ) →
+    cost f (a * b) (at s) (at u) (gridValue (suc q) d b x y F) ≡ gridCost q f a b d x y (grid b u) (grid b s) (coef F)
+flat-cost q f a b d x y s u F = sum-rows a b _
+    ∙ sum-eq a λ r _. sum-eq b λ c m. ap (cell f (grid b s r c) (grid b u r c)) (there r c m)
   where
-    there : (r c : ℕ) → c < b → gridValue (suc q) d b x y R (r * b + c) ≡ values q (suc d) (onRow d (coef R) (x r)) y c
-    there r c m = rw (cell-row b r c m, cell-column b r c m) (value-rows (suc q) d R (x r) (y c))
+    there : (r c : ℕ) → c < b → gridValue (suc q) d b x y F (r * b + c) ≡ values q (suc d) (onRow d (coef F) (x r)) y c
+    there r c m = rw (cell-row b r c m, cell-column b r c m) (value-rows (suc q) d F (x r) (y c))
 
 -- the cost looks at the points of the grid and at the coefficients alone, and loaded cells stand for their own
-grid-same : (q F a b d : ℕ) {x x′ y y′ : ℕ → ℕ} (s u : List ℕ) {s′ u′ g h : ℕ → ℕ → ℕ} → ((r : ℕ) → r < a → x′ r ≡ x r) →
-    ((c : ℕ) → c < b → y′ c ≡ y c) → LoadedGrid F a b s u s′ u′ → ((t i : ℕ) → i + t ≤ d → g i t ≡ h i t) →
-    gridCost q F a b d x y (grid b u) (grid b s) g ≡ gridCost q F a b d x′ y′ u′ s′ h
-grid-same q F a b d {x} {x′} {y} {y′} s u {s′} {u′} {g} {h} ex ey L e = sum-eq a λ r l. sum-eq b λ c m.
-    cell-loaded _ (L r c l m) ∙ ap (λ v. cell F (s′ r c) (u′ r c) (v % suc q))
+grid-same : (q f a b d : ℕ) {x x′ y y′ : ℕ → ℕ} (s u : List ℕ) {s′ u′ g h : ℕ → ℕ → ℕ} → ((r : ℕ) → r < a → x′ r ≡ x r) →
+    ((c : ℕ) → c < b → y′ c ≡ y c) → LoadedGrid f a b s u s′ u′ → ((t i : ℕ) → i + t ≤ d → g i t ≡ h i t) →
+    gridCost q f a b d x y (grid b u) (grid b s) g ≡ gridCost q f a b d x′ y′ u′ s′ h
+grid-same q f a b d {x} {x′} {y} {y′} s u {s′} {u′} {g} {h} ex ey L e = sum-eq a λ r l. sum-eq b λ c m.
+    cell-loaded _ (L r c l m) ∙ ap (λ v. cell f (s′ r c) (u′ r c) (v % suc q))
     (rw (ex r l, ey c m)
     (sum-eq (suc d) λ t k. ap (λ v. v * y c ^ t) (sum-eq (suc (d - t)) λ i n. ap (λ v. v * x r ^ i) (e t i (omega arith)))))
 

@@ -2,8 +2,8 @@
 --
 --   residue v            the residue that stands for the symbol v: itself, and 0 for an unread cell
 --   gridCell b s r c     the cell of row r and column c in the flat grid s of b columns, and 0 beyond it
---   SymbolRows b s m     row r of m has the residues of row r of the grid s, r from 0 to 15
---   DoubtLines b u m     row r of m is row r of the grid u, r from 0 to 15
+--   SymbolRows b s rows  row r has the residues of row r of the grid s, r from 0 to 15
+--   DoubtLines b u rows  row r is row r of the grid u, r from 0 to 15
 --   Taken C P s u B      refusals 1 to 8 do not apply: the plan is sound, s and u are a photograph of it, B has room for a record
 --
 -- What this file is for: an unread cell's symbol is no residue; its doubt is the full doubt, so any residue may stand for it.
@@ -30,10 +30,10 @@ abbrev pub gridCell : ℕ → List ℕ → ℕ → ℕ → ℕ
 gridCell b s r c = cond (ltb c b) (at s (r * b + c)) 0
 
 abbrev pub SymbolRows : ℕ → List ℕ → List (List ℕ) → Type 0
-SymbolRows b s m = Upto 16 [] (λ r l. l ≡ row λ c. residue (gridCell b s r c)) m 16
+SymbolRows b s rows = Upto 16 [] (λ r l. l ≡ row λ c. residue (gridCell b s r c)) rows 16
 
 abbrev pub DoubtLines : ℕ → List ℕ → List (List ℕ) → Type 0
-DoubtLines b u m = Upto 16 [] (λ r l. l ≡ row (gridCell b u r)) m 16
+DoubtLines b u rows = Upto 16 [] (λ r l. l ≡ row (gridCell b u r)) rows 16
 
 pub record Taken (C : Code) (P s u B : List ℕ) : Type 0 where
   pub clear : first (photoRows C P s u B) ≡ 0

@@ -1,4 +1,15 @@
--- One degree step and all of them: what is subtracted, which answers are carried, and that the steps keep their invariant.
+-- One degree step of the decoder, and all of them.
+--
+--   known-next         the answers that are carried are answers of what is left
+--   leading-received   the lines' leading coefficients, with the lines' costs, are a strip that the decoder of strips takes
+--   stepped-none, stepped-found
+--                      what a step without and with an answer hands over
+--   solving-start, solving-next
+--                      the invariant before the first step, and after one more
+--   solving-none       a step without an answer: no record is under the radius
+--   solving-done       after the last step
+--
+-- What this file is for: the steps keep their invariant, which says that every record under the radius has what was found.
 -- Assumes nothing.
 use mathlib.Core.Logic.{_≢_}
 use mathlib.Core.Path.{_≡_, refl, sym, ap, _∙_}
@@ -78,12 +89,12 @@ module _ {g : Grid} {t : ℕ} (f : Fit g) {left u ws : List (List ℕ)} {e v : L
   leading-received i low = rw i (record {
     axis = strip-valid f low;
     symbols = column-row t (positive f) (A .rows) leading;
-    doubts = λ r l. A .answered r l .entered .below;
+    doubts = λ r l. A .answered r l .handed .below;
   })
 
-  leading-entered : (r : ℕ) → r < g .a → HandsOn (g .p - 1) (g .full) (g .b) t (at (g .y)) (cellAt left r) (cellAt u r)
+  leading-handed : (r : ℕ) → r < g .a → HandsOn (g .p - 1) (g .full) (g .b) t (at (g .y)) (cellAt left r) (cellAt u r)
       (at e r) (at v r)
-  leading-entered r l = rw (leading, row-at (λ r. cellAt ws r t) r (omega (arith, f .rows))) (A .answered r l .entered)
+  leading-handed r l = rw (leading, row-at (λ r. cellAt ws r t) r (omega (arith, f .rows))) (A .answered r l .handed)
 
   -- the strip, read
   module _ {R : ℕ} (i : R ≡ g .full * (g .b - t)) {strip : Strip.Decoded} (S : StripDecoded (stripAxis g t R) e v strip) where
@@ -96,7 +107,7 @@ module _ {g : Grid} {t : ℕ} (f : Fit g) {left u ws : List (List ℕ)} {e v : L
       e = e;
       v = v;
       cost = strip .cost;
-      entered = leading-entered;
+      handed = leading-handed;
       strip = rw z at (D .strip);
       good = D .small;
       lines = A .rows;
@@ -112,7 +123,7 @@ module _ {g : Grid} {t : ℕ} (f : Fit g) {left u ws : List (List ℕ)} {e v : L
       e = e;
       v = v;
       cost = strip .cost;
-      entered = leading-entered;
+      handed = leading-handed;
       strip = rw y at (D .strip);
       good = D .small;
       lines = A .rows;
@@ -154,7 +165,7 @@ module _ {g : Grid} {k t : ℕ} (f : Fit g) (e : k ≡ suc t) (td : t ≤ g .d) 
   pub solving-none : ok ≡ false → (last : List (List ℕ)) → Solved g s u last columns (limit g)
   solving-none z last = record {
     under = λ l. absurd (omega arith);
-    over = λ _. grid-none (at (g .x)) (found columns) low td (S .steps) (T .entered) (T .strip) z;
+    over = λ _. grid-none (at (g .x)) (found columns) low td (S .steps) (T .handed) (T .strip) z;
   }
 
   -- the column found stands in its place, and those found before stay
@@ -172,7 +183,7 @@ module _ {g : Grid} {k t : ℕ} (f : Fit g) (e : k ≡ suc t) (td : t ≤ g .d) 
   solving-next y = record {
     rows = T .rows y;
     coefficients = upto-put column (omega (arith, f .low, f .rows)) (T .good) (S .coefficients);
-    steps = grid-next (at (g .x)) (found columns) low td (S .steps) (T .entered) (T .strip) (found (set columns t column)) value
+    steps = grid-next (at (g .x)) (found columns) low td (S .steps) (T .handed) (T .strip) (found (set columns t column)) value
         (λ r l. same refl) (T .subtracted y) (λ i _. new i) (λ t′ i l _. old t′ i l);
     rest = rest-next value td (S .rest) (T .subtracted y) (λ r l. eval-cong (suc (g .d - t)) (at (g .x) r) λ i k. new i)
         (λ t′ r l m _. eval-cong (suc (g .d - t′)) (at (g .x) r) λ i k. old t′ i l);

@@ -1,5 +1,10 @@
--- At most one polynomial in two variables is under the full doubt times the grid's distance, for point lists of any two sizes.
--- Assumes nothing.
+-- At most one polynomial in two variables is under the radius, for point lists of any two sizes.
+--
+--   grid-two            two polynomials cost together twice the full doubt or more for each cell in which they differ
+--   grid-same-or-over   they are the same, or where one is under the radius the other is over it
+--   grid-one            so at most one is under it
+--
+-- What this file is for: whatever is found under the radius is the answer. Assumes nothing.
 use mathlib.Core.Logic.{_⊎_, inl, inr}
 use Prim.Native.Nat.{ℕ, suc, _+_, _*_, _≤_, _<_, min}
 use native.Mathlib.Omega.{arith}
@@ -10,13 +15,13 @@ use Rattle.distance.specs.Cost.{cost, changed}
 use Rattle.distance.proofs.Cost.{cost-two-words}
 use Rattle.polynomial.specs.Eval.{values, Apart}
 use Rattle.polynomial.specs.Record.{onRow}
-use Rattle.polynomial.specs.Grid.{gridDistance, apart}
+use Rattle.polynomial.specs.Grid.{gridDistance, gridChanged}
 use Rattle.polynomial.proofs.Grid.{grid-same-or-far}
 use Rattle.reed_muller.specs.Degree.{gridCost, GridNear}
 
 -- the costs of two polynomials add up to twice the full doubt for each cell in which they differ
 pub grid-two : (q full a b d : ℕ) (x y : ℕ → ℕ) (u s g h : ℕ → ℕ → ℕ) → ((r c : ℕ) → r < a → c < b → u r c ≤ full) →
-    2 * full * apart q a b d x y (suc d) g h ≤ gridCost q full a b d x y u s g + gridCost q full a b d x y u s h
+    2 * full * gridChanged q a b d x y (suc d) g h ≤ gridCost q full a b d x y u s g + gridCost q full a b d x y u s h
 grid-two q full a b d x y u s g h du = omega (
   arith,
   sum-mul a (2 * full) (λ r. changed b (values q (suc d) (onRow d g (x r)) y) (values q (suc d) (onRow d h (x r)) y)),

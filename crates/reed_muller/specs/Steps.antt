@@ -34,7 +34,7 @@ pub record Stepped (g : Grid) (t : ℕ) (left u left′ ws : List (List ℕ)) (o
   pub e : List ℕ
   pub v : List ℕ
   pub cost : ℕ
-  pub entered : (r : ℕ) → r < g .a → HandsOn (g .p - 1) (g .full) (g .b) t (at (g .y)) (cellAt left r) (cellAt u r) (at e r)
+  pub handed : (r : ℕ) → r < g .a → HandsOn (g .p - 1) (g .full) (g .b) t (at (g .y)) (cellAt left r) (cellAt u r) (at e r)
       (at v r)
   pub strip : Strip (g .p - 1) (g .full * (g .b - t)) (g .a) (g .d - t) (at (g .x)) (at e) (at v) ok (at column) cost
   pub good : Row (g .p) column

@@ -1,5 +1,20 @@
--- Levels of doubt rise over the cells' doubts: which cells have entered, what failed trials say of the levels passed, and that
--- after the last level nothing is under the radius, or what was measured is the only one. Assumes nothing.
+-- Levels of doubt rise over the cells' doubts.
+--
+--   tried-found, tried-none   what a trial says, by its answer
+--   Going g s u l r c t       the decoder before the cell of the key c: l are the keys of all cells, r those of the cells that
+--                             have not entered, and t its pairs
+--   Within n u level t        no cell over the level has entered
+--   first-keys, going-first   the state after the first k + 1 cells
+--   going-within, going-keys, going-holds
+--                             what the state says of the level, of the keys that are left and of the pairs after an entry
+--   going-enter               a cell enters, and the trial after its entry failed
+--   going-passed              after a level nothing up to it is under the radius
+--   doubtful-decoded          where the doubts come to the radius there is no answer
+--   none-decoded              after the last level there is none
+--   found-decoded             what was measured under the radius is the only answer
+--
+-- What this file is for: which cells have entered, what failed trials say of the levels passed, and the decoder's contract at the
+-- end. Assumes nothing.
 use mathlib.Core.Logic.{_≢_}
 use mathlib.Core.Path.{_≡_, refl, sym, ap, _∙_}
 use mathlib.Core.List.{List}
@@ -29,7 +44,7 @@ use Rattle.welch_berlekamp.proofs.Cursor.{entered-below, left-above, entering-n
 use Rattle.welch_berlekamp.proofs.State.{zeros-row}
 use Rattle.reed_solomon.specs.declared.axis.Axis.{Axis}
 use Rattle.reed_solomon.specs.declared.decoder.Decoded.{Decoded}
-use Rattle.reed_solomon.specs.Axis.{Received, word, spent, radius, HoldsOn, FitsOn}
+use Rattle.reed_solomon.specs.Axis.{Received, word, spent, stripRadius, HoldsOn, FitsOn}
 use Rattle.reed_solomon.specs.Near.{missed, Near, Refuted, RefutedBelow}
 use Rattle.reed_solomon.specs.Decoded.{StripDecoded, None, Confirmed, Tried, hit, miss}
 use Rattle.reed_solomon.proofs.Trial.{cost-values}
@@ -277,7 +292,7 @@ module _ {g : Axis} {s u l : List ℕ} (R : Received g s u) (K : l ≡ row λ j.
       })
 
 module _ {g : Axis} {s u : List ℕ} (R : Received g s u) {r : Decoded} where
-  none-of : None r → ((h : ℕ → ℕ) → radius g ≤ spent g s u (word g h)) → StripDecoded g s u r
+  none-of : None r → ((h : ℕ → ℕ) → stripRadius g ≤ spent g s u (word g h)) → StripDecoded g s u r
   none-of N far = record {
     strip = record {
       sound = λ e. absurd (false≢true (sym (N .found) ∙ e));
@@ -290,12 +305,12 @@ module _ {g : Axis} {s u : List ℕ} (R : Received g s u) {r : Decoded} where
   }
 
   -- no polynomial costs less than the doubts
-  pub doubtful-decoded : None r → radius g ≤ sum (g .n) (at u) → StripDecoded g s u r
+  pub doubtful-decoded : None r → stripRadius g ≤ sum (g .n) (at u) → StripDecoded g s u r
   doubtful-decoded N l = none-of N λ h. omega (arith, doubts-cost (g .full) (g .n) (at s) (at u) (word g h) (R .doubts))
 
   -- after the last level
   pub none-decoded : None r → {level : ℕ} → g .full ≤ level → RefutedBelow g s u level → StripDecoded g s u r
-  none-decoded N l P = none-of N λ h. elim (decLe (radius g) (spent g s u (word g h))) [
+  none-decoded N l P = none-of N λ h. elim (decLe (stripRadius g) (spent g s u (word g h))) [
     | yes i ↦ i
     | no i ↦
         let c = some-cell (g .full) (g .n - g .k) (g .n) (at s) (at u) (word g h) (R .doubts) (omega arith) (omega arith) in

@@ -1,6 +1,13 @@
--- Where a polynomial P of degree at most k is near, the interpolation knows it: the first degree is over the second and k, the
--- second pair's E is 0 at the missed marked cells and nowhere else, so that all other marked symbols are right, and at every cell
--- D and E tell whether the symbol is. Assumes nothing.
+-- A polynomial P of degree at most k that is near the marked cells, and pairs that interpolate these.
+--
+--   chosen          a choice between a number and 0 that is not 0 is that number
+--   eqb-same        two tests that say the same are one
+--   first-over      the first degree is over the second and k
+--   usable-right    where E2 is not 0 a marked symbol is right
+--   usable-all      there are as many such cells as the first degree says: E2 is 0 at the missed marked cells and nowhere else
+--   suspect-right   at every cell D2 and E2 tell whether the symbol is right
+--
+-- What this file is for: where a polynomial is near, the interpolation knows it. Assumes nothing.
 use mathlib.Core.Logic.{_≢_}
 use mathlib.Core.Path.{_≡_, refl, sym, ap, _∙_}
 use mathlib.Core.Bool.{Bool, true, false, cond}

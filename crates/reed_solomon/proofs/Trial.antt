@@ -1,6 +1,23 @@
--- A trial misses no polynomial: what is near makes the first degree high enough, leaves a usable cells, costs what the second
--- pair tells, and is the candidate through k + 1 of these cells. So where no candidate is under the radius, no near polynomial
--- is. Assumes nothing.
+-- A trial misses no polynomial.
+--
+--   modulus             the prime of an axis as the successor that the laws of congruence want
+--   usable-bits, usable-sum
+--                       the row of usable cells: zeros and ones, and their number
+--   holds-few           no more cells have entered than there are
+--   candidate           pairs that hold and are hoped have a candidate
+--   cost-values         what a row of values costs is what its polynomial costs
+--   refuted-low, refuted-count, refuted-suspect
+--                       no near polynomial is under the radius where the first degree is low, where the usable cells are not as
+--                       many as it, and where what the second pair tells costs the radius
+--   enough-usable       the usable cells are enough to go through
+--   tried-usable        a trial at k + 1 of them is a trial at all of them
+--   received-doubts, enough-all
+--                       the doubts of a strip are small enough for keys, and all its cells have one
+--   refuted-rest, found-rest
+--                       what a failed and what a successful measure of Newton's polynomial says
+--
+-- What this file is for: a near polynomial is the candidate, so where no candidate is under the radius, no near polynomial is.
+-- Assumes nothing.
 use mathlib.Core.Logic.{_≢_}
 use mathlib.Core.Path.{_≡_, refl, sym, ap, ap₂, _∙_}
 use mathlib.Core.List.{List}
@@ -33,7 +50,7 @@ use Rattle.welch_berlekamp.proofs.Cursor.{zeros-at, key-in, key-out, keys-place
 use Rattle.welch_berlekamp.proofs.State.{ones-at}
 use Rattle.reed_solomon.specs.declared.axis.Axis.{Axis}
 use Rattle.reed_solomon.specs.declared.decoder.Decoded.{Decoded}
-use Rattle.reed_solomon.specs.Axis.{Valid, Received, word, spent, radius, HoldsOn, FitsOn}
+use Rattle.reed_solomon.specs.Axis.{Valid, Received, word, spent, stripRadius, HoldsOn, FitsOn}
 use Rattle.reed_solomon.specs.Near.{missed, Near, usable, suspect, Refuted}
 use Rattle.reed_solomon.specs.Decoded.{Confirmed, Tried, hit, miss, Hoped, Candidate}
 use Rattle.reed_solomon.proofs.Near.{first-over, usable-all, usable-right, suspect-right, eqb-same}
@@ -112,7 +129,7 @@ module _ {g : Axis} {s u : List ℕ} {t : Pairs} (R : Received g s u) (H : Holds
 
   -- the second pair tells the cost
   refuted-cost : (v : List ℕ) → ((j : ℕ) → j < g .n → at v j ≡ suspect (at (t .d2)) (at (t .e2)) j) →
-      radius g ≤ spent g v u (at (replicate 16 0)) → Refuted g s u (t .entered)
+      stripRadius g ≤ spent g v u (at (replicate 16 0)) → Refuted g s u (t .entered)
   refuted-cost v e l = record {
     far = λ h near. omega (
       arith,
@@ -122,7 +139,7 @@ module _ {g : Axis} {s u : List ℕ} {t : Pairs} (R : Received g s u) (H : Holds
   }
 
   pub refuted-suspect : {v : List ℕ} → v ≡ row (suspect (at (t .d2)) (at (t .e2))) →
-      radius g ≤ spent g v u (at (replicate 16 0)) →
+      stripRadius g ≤ spent g v u (at (replicate 16 0)) →
       Refuted g s u (t .entered)
   refuted-suspect {v} e l = refuted-cost v
       (λ j o. ap (λ t. at t j) e ∙ row-at (suspect (at (t .d2)) (at (t .e2))) j (omega (arith, R .axis .most))) l
@@ -246,7 +263,7 @@ enough-all {g} {u = u} {l = l} R K = record {
 
 -- the polynomial f, measured by its rest
 module _ {g : Axis} {s u l : List ℕ} {f : Newton} (R : Received g s u) (fit : FitsOn g s l f) where
-  pub refuted-rest : radius g ≤ spent g (f .rest) u (at (replicate 16 0)) → Refuted g s u (f .entered)
+  pub refuted-rest : stripRadius g ≤ spent g (f .rest) u (at (replicate 16 0)) → Refuted g s u (f .entered)
   refuted-rest h =
       refuted-cost R (fit .holds) (f .rest) (λ j o. sym (ap (λ b. cond b 1 (at (f .rest) j)) (ne-eqb _ _ λ e. one j o e))) h
     where
@@ -255,7 +272,7 @@ module _ {g : Axis} {s u l : List ℕ} {f : Newton} (R : Received g s u) (fit : 
 
   pub found-rest : {r : Decoded} → r .found ≡ true → Coefficients (g .p) (g .k) (f .slopes) (f .nodes) (r .message) →
       r .values ≡ row (λ j. (at (f .rest) j + 1 * at s j) % g .p) → r .cost ≡ spent g (f .rest) u (at (replicate 16 0)) →
-      r .cost < radius g → Confirmed g s u r
+      r .cost < stripRadius g → Confirmed g s u r
   found-rest {r} t C e c b = record {
     found = t;
     message = C .row;

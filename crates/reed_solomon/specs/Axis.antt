@@ -5,7 +5,7 @@
 --   Received g s u   such an axis, symbols that are residues, and doubts that are at most the full one
 --   word g h         the values of a polynomial h of degree at most k at the points
 --   spent g s u v    what the values v cost
---   radius g         full (n - k)
+--   stripRadius g    full (n - k)
 --   HoldsOn g s t, FitsOn g s l f
 --                    the pairs t interpolate, and f is the polynomial through the k + 1 cells of the least keys l
 --
@@ -43,8 +43,8 @@ word g h = values (g .p - 1) (suc (g .k)) h (at (g .x))
 abbrev pub spent : Axis → (s u : List ℕ) (v : ℕ → ℕ) → ℕ
 spent g s u v = cost (g .full) (g .n) (at s) (at u) v
 
-abbrev pub radius : Axis → ℕ
-radius g = g .full * (g .n - g .k)
+abbrev pub stripRadius : Axis → ℕ
+stripRadius g = g .full * (g .n - g .k)
 
 abbrev pub HoldsOn : Axis → (s : List ℕ) (t : Pairs) → Type 0
 HoldsOn g s t = Holds (g .p) (g .n) (g .k) (g .x) s t

@@ -26,7 +26,7 @@ use Rattle.welch_berlekamp.specs.Pairs.{Pairs, pairs}
 use Rattle.reed_solomon.specs.declared.axis.Axis.{Axis}
 use Rattle.reed_solomon.specs.declared.decoder.Decoded.{Decoded}
 use Rattle.reed_solomon.specs.Strip.{Strip}
-use Rattle.reed_solomon.specs.Axis.{Received, spent, radius, HoldsOn, FitsOn}
+use Rattle.reed_solomon.specs.Axis.{Received, spent, stripRadius, HoldsOn, FitsOn}
 use Rattle.reed_solomon.specs.Near.{usable, Refuted}
 
 pub record StripDecoded (g : Axis) (s u : List ℕ) (r : Decoded) : Type 0 where
@@ -48,7 +48,7 @@ pub record Confirmed (g : Axis) (s u : List ℕ) (r : Decoded) : Type 0 where
   pub above : (i : ℕ) → g .k < i → at (r .message) i ≡ 0
   pub values : r .values ≡ row (λ j. eval (suc (g .k)) (at (r .message)) (at (g .x) j) % g .p)
   pub measured : r .cost ≡ spent g s u (at (r .values))
-  pub under : r .cost < radius g
+  pub under : r .cost < stripRadius g
 
 pub data Tried (g : Axis) (s u w : List ℕ) (r : Decoded) : Type 0 where
   hit : Confirmed g s u r → Tried g s u w r

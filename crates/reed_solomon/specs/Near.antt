@@ -16,7 +16,7 @@ use lib.Dec.{eqb}
 use Rattle.bounded.specs.Bounded.{at, sum}
 use Rattle.distance.specs.Level.{weight}
 use Rattle.reed_solomon.specs.declared.axis.Axis.{Axis}
-use Rattle.reed_solomon.specs.Axis.{word, spent, radius}
+use Rattle.reed_solomon.specs.Axis.{word, spent, stripRadius}
 
 abbrev pub missed : (n : ℕ) (w s v : ℕ → ℕ) → ℕ
 missed n w s v = sum n λ j. cond (eqb (s j) (v j)) 0 (w j)
@@ -31,8 +31,8 @@ abbrev pub suspect : (d e : ℕ → ℕ) → ℕ → ℕ
 suspect d e j = cond (eqb (e j) 0) 1 (d j)
 
 pub record Refuted (g : Axis) (s u w : List ℕ) : Type 0 where
-  pub far : (h : ℕ → ℕ) → Near (g .n) (g .k) (at w) (at s) (word g h) → radius g ≤ spent g s u (word g h)
+  pub far : (h : ℕ → ℕ) → Near (g .n) (g .k) (at w) (at s) (word g h) → stripRadius g ≤ spent g s u (word g h)
 
 pub record RefutedBelow (g : Axis) (s u : List ℕ) (t : ℕ) : Type 0 where
   pub far : (h : ℕ → ℕ) (j : ℕ) → j < g .n → at u j < t → weight (g .n) (at u j) (at s) (at u) (word g h) + g .k < g .n →
-      radius g ≤ spent g s u (word g h)
+      stripRadius g ≤ spent g s u (word g h)

@@ -10,7 +10,7 @@ ghost use lib.ListN.{length, take};
 ghost use Rattle.definitions.specs.Plan.{checkNumber};
 ghost use Rattle.definitions.specs.Code.{square};
 ghost use Rattle.definitions.specs.Calls.{readReading, readBuffer};
-ghost use Rattle.definitions.specs.Tray.{planOf, Holds};
+ghost use Rattle.definitions.specs.Tray.{planOf, HoldsFirst};
 ghost use Rattle.definitions.specs.Printed.{answerText, trayText};
 ghost use Rattle.text.specs.Put.{Put};
 
@@ -24,7 +24,7 @@ pub const TEXT: usize = 612;
 // how many bytes came. The bytes in the room decide the answer, and it is that of the whole input, however long that is.
 pub fn answer(space: &[u8; ROOM], came: usize, text: &mut [u8; TEXT]) -> usize
     ensures decided { λ r. ⌜ Put (now (text .entry)) 0 (trayText (take came (now (space .entry)))) (now (text .exit)) r ⌝ }
-    ensures whole { λ r. ⌜ ((input : List ℕ) → Holds input (now (space .entry)) came →
+    ensures whole { λ r. ⌜ ((input : List ℕ) → HoldsFirst input (now (space .entry)) came →
         trayText (take came (now (space .entry))) ≡ trayText input) ⌝ }
 {
     answer_input(first(space, came), text)

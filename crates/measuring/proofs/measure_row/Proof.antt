@@ -5,8 +5,7 @@ use native.Mathlib.Omega.{arith}
 use lib.ListN.{length}
 use Rattle.bounded.specs.Bounded.{at}
 use Rattle.bounded.proofs.Sum.{sum-more}
-use Rattle.distance.specs.Cost.{cell}
-use Rattle.distance.specs.Level.{differ}
+use Rattle.distance.specs.Cost.{cell, differ}
 use Rattle.measuring.specs.Measured.{Measured}
 use borrow.Author.Needs.{needs}
 use Rattle.measuring.proofs.measure_row.Statement.{statement}

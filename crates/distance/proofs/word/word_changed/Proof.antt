@@ -4,8 +4,7 @@ use Prim.Native.Nat.{_-_, _≤_}
 use native.Mathlib.Omega.{arith}
 use Rattle.bounded.specs.Bounded.{at}
 use Rattle.bounded.proofs.Sum.{sum-more}
-use Rattle.distance.specs.Cost.{changed}
-use Rattle.distance.specs.Level.{differ}
+use Rattle.distance.specs.Cost.{differ, changed}
 use borrow.Author.Needs.{needs}
 use Rattle.distance.proofs.word.word_changed.Statement.{statement}
 use Rattle.distance.proofs.word.word_changed.Tie as tie

@@ -1,5 +1,5 @@
--- `field::scalar::is_prime` meets its contract: no number from 2 below d divides p, and where d is past the root, none does.
--- Assumes nothing.
+-- `field::scalar::is_prime` meets its contract: no number from 2 below the divisor divides p, and where that is past
+-- the root, none does. Assumes nothing.
 use mathlib.Core.Path.{sym}
 use Prim.Native.Nat.{_-_, _≤_}
 use native.Mathlib.Omega.{arith}
@@ -10,10 +10,10 @@ use Rattle.field.proofs.scalar.is_prime.Statement.{statement}
 use Rattle.field.proofs.scalar.is_prime.Tie as tie
 
 abbrev Inv-loop : tie.InvT-loop
-Inv-loop p n d₀ d = (2 ≤ p) × (2 ≤ d) × (d ≤ 256) × Alone p d
+Inv-loop p n divisor₀ divisor = (2 ≤ p) × (2 ≤ divisor) × (divisor ≤ 256) × Alone p divisor
 
 abbrev μ-loop : tie.MeasureT-loop
-μ-loop p n d₀ d = 256 - d
+μ-loop p n divisor₀ divisor = 256 - divisor
 
 returns : tie.Need-returns Inv-loop μ-loop
 returns c = sym (not-prime _ λ r. omega (arith, r .least))
@@ -24,20 +24,21 @@ loop-holds c = (omega arith, omega arith, omega arith, λ a h l. absurd (omega a
 returns-2 : tie.Need-returns-2 Inv-loop μ-loop
 returns-2 c =
     let l = c .before .before .loop in
-    sym (not-prime _ λ r. r .alone (l .d) (omega arith) (omega (arith, mul-le-mul-left (l .d) (l .inv .1))) (omega arith))
+    let square = mul-le-mul-left (l .divisor) (l .inv .1) in
+    sym (not-prime _ λ r. r .alone (l .divisor) (omega arith) (omega (arith, square)) (omega arith))
 
 loop-again : tie.Need-loop-again Inv-loop μ-loop
 loop-again c =
-    let small = root-small (c .before .before .loop .d) (omega arith) in
+    let small = root-small (c .before .before .loop .divisor) (omega arith) in
     (omega arith, omega arith, omega arith, alone-more _ _ (c .before .before .loop .inv .3) (λ h. omega arith))
 
 returns-3 : tie.Need-returns-3 Inv-loop μ-loop
-returns-3 c = sym (root-prime _ (c .before .loop .d) (c .before .loop .inv .0) (omega arith) (c .before .loop .inv .3))
+returns-3 c = sym (root-prime _ (c .before .loop .divisor) (c .before .loop .inv .0) (omega arith) (c .before .loop .inv .3))
 
 pub is-prime-spec : {M : Type 1} → statement M
 is-prime-spec = tie.close (tie.spec Inv-loop μ-loop
     returns loop-holds
     (λ c. let b = c .loop .inv .2 in omega (arith, mul-le-mul b b))
     (λ c. search needs) returns-2 (λ c. search needs)
-    (λ c. omega (arith, root-small (c .before .before .loop .d) (omega arith)))
+    (λ c. omega (arith, root-small (c .before .before .loop .divisor) (omega arith)))
     loop-again returns-3)

@@ -5,8 +5,7 @@ use native.Mathlib.Omega.{arith}
 use lib.ListN.{length}
 use Rattle.bounded.specs.Bounded.{at}
 use Rattle.bounded.proofs.Sum.{sum-more}
-use Rattle.distance.specs.Cost.{changed}
-use Rattle.distance.specs.Level.{differ}
+use Rattle.distance.specs.Cost.{differ, changed}
 use Rattle.reading.specs.Changed.{flag}
 use borrow.Author.Needs.{needs}
 use Rattle.reading.proofs.mark.changed_in_row.Statement.{statement}
