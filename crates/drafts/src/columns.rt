@@ -1,14 +1,14 @@
 // The columns through the cells of a grid, and through its lines.
 use crate::newton;
 use distance::word;
-use grid::Grid;
 use grid::lines;
+use polynomial::Grid;
 use polynomial::bivariate::place_of_each;
 ghost use Prim.Native.Nat.{_≤_, _<_};
 ghost use Rattle.field.specs.Prime.{Inverses};
 ghost use Rattle.field.specs.Row.{Row};
 ghost use Rattle.polynomial.specs.Powers.{Rows};
-ghost use Rattle.grid.specs.Fit.{Fit};
+ghost use Rattle.polynomial.specs.Fit.{Fit};
 ghost use Rattle.drafts.specs.Redrawn.{Redrawn};
 
 // Meant: the first k places of the rows become the first k columns. The other columns stay.

@@ -23,10 +23,11 @@ use Rattle.field.specs.Row.{row, Row}
 use Rattle.field.proofs.Row.{row-at, row-of}
 use Rattle.distance.specs.Doubts.{Doubts}
 use Rattle.polynomial.specs.Powers.{Rows}
+use Rattle.polynomial.specs.declared.Grid.{Grid}
+use Rattle.polynomial.specs.Fit.{Fit}
 use Rattle.reed_solomon.specs.Strip.{Strip}
 use Rattle.reed_solomon.specs.Axis.{Valid}
-use Rattle.grid.specs.declared.Grid.{Grid}
-use Rattle.grid.specs.Fit.{Fit, lineAxis, stripAxis}
+use Rattle.grid.specs.Axes.{lineAxis, stripAxis}
 use Rattle.grid.specs.Loops.{cellAt}
 use Rattle.grid.specs.Answers.{unknown, Answer, Known, Answered}
 use Rattle.grid.proofs.Line.{line-answered, line-unanswered}

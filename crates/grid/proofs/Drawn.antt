@@ -20,9 +20,9 @@ use Rattle.field.proofs.Row.{result-row, result-cong}
 use Rattle.distance.specs.Cost.{cell, cost}
 use Rattle.polynomial.specs.Eval.{eval}
 use Rattle.polynomial.specs.Powers.{Rows}
-use Rattle.grid.specs.declared.Grid.{Grid}
+use Rattle.polynomial.specs.declared.Grid.{Grid}
+use Rattle.polynomial.specs.Fit.{Fit}
 use Rattle.grid.specs.Cost.{remaining}
-use Rattle.grid.specs.Fit.{Fit}
 use Rattle.grid.specs.Loops.{cellAt, line}
 use Rattle.grid.specs.Drawn.{Lessened, Drawn, Without}
 use Rattle.grid.proofs.Answers.{positive}

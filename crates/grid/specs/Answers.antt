@@ -21,8 +21,8 @@ use lib.ListN.{length}
 use Rattle.bounded.specs.Bounded.{at}
 use Rattle.field.specs.Row.{Row}
 use Rattle.polynomial.specs.Powers.{Rows}
+use Rattle.polynomial.specs.declared.Grid.{Grid}
 use Rattle.reed_solomon.specs.Strip.{Strip}
-use Rattle.grid.specs.declared.Grid.{Grid}
 use Rattle.grid.specs.Line.{HandsOn}
 use Rattle.grid.specs.Loops.{line}
 

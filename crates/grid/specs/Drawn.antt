@@ -20,9 +20,9 @@ use Prim.Native.Nat.{ℕ, suc, _+_, _*_, _-_, _%_, _≤_, _<_}
 use Rattle.bounded.specs.Bounded.{at}
 use Rattle.field.specs.Row.{row}
 use Rattle.polynomial.specs.Eval.{eval}
-use Rattle.polynomial.specs.Grid.{gridDistance}
+use Rattle.polynomial.specs.Distance.{gridDistance}
 use Rattle.polynomial.specs.Powers.{Rows}
-use Rattle.grid.specs.declared.Grid.{Grid}
+use Rattle.polynomial.specs.declared.Grid.{Grid}
 use Rattle.grid.specs.Line.{Subtracted}
 use Rattle.grid.specs.Cost.{remaining, lines, GridCosts}
 use Rattle.grid.specs.Rest.{Rest}

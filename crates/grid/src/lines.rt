@@ -1,6 +1,6 @@
 // The lines of a mark: each row of what is left, read as a strip over the column points.
-use crate::Grid;
 use distance::word;
+use polynomial::Grid;
 use reed_solomon::axis::Axis;
 ghost use mathlib.Core.Path.{_≡_};
 ghost use Prim.Native.Nat.{_≤_, _<_};
@@ -10,7 +10,8 @@ ghost use Rattle.field.specs.Prime.{Inverses};
 ghost use Rattle.field.specs.Row.{row, Row};
 ghost use Rattle.distance.specs.Doubts.{Doubts};
 ghost use Rattle.polynomial.specs.Powers.{Rows};
-ghost use Rattle.grid.specs.Fit.{Fit, DoubtRows};
+ghost use Rattle.polynomial.specs.Fit.{Fit};
+ghost use Rattle.grid.specs.Axes.{DoubtRows};
 ghost use Rattle.grid.specs.Answers.{Answered, KnownRows, AnsweredRows, kept};
 
 // A line's message and its cost. The line hands on the message's leading coefficient, with the cost for its doubt.

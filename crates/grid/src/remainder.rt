@@ -1,13 +1,14 @@
 // What is left of a mark's symbols: a column is subtracted from it, and it is measured.
-use crate::Grid;
 use distance::word;
+use polynomial::Grid;
 use polynomial::limit;
 ghost use mathlib.Core.Path.{_≡_};
 ghost use Prim.Native.Nat.{_*_};
 ghost use Rattle.field.specs.Row.{Row};
-ghost use Rattle.polynomial.specs.Grid.{gridDistance};
+ghost use Rattle.polynomial.specs.Distance.{gridDistance};
 ghost use Rattle.polynomial.specs.Powers.{Rows};
-ghost use Rattle.grid.specs.Fit.{Fit, DoubtRows};
+ghost use Rattle.polynomial.specs.Fit.{Fit};
+ghost use Rattle.grid.specs.Axes.{DoubtRows};
 ghost use Rattle.grid.specs.Loops.{cellAt};
 ghost use Rattle.grid.specs.Cost.{remaining};
 ghost use Rattle.grid.specs.Drawn.{Without};

@@ -1,11 +1,12 @@
 // A draft, tried: what its columns leave of the symbols, measured, decides whether it is the answer.
-use crate::Grid;
 use crate::remainder;
+use polynomial::Grid;
 use polynomial::evaluation;
 ghost use mathlib.Core.List.{List};
 ghost use Prim.Native.Nat.{ℕ, suc, _≤_};
 ghost use Rattle.polynomial.specs.Powers.{Rows, Powers};
-ghost use Rattle.grid.specs.Fit.{Fit, DoubtRows, ColumnPowers};
+ghost use Rattle.polynomial.specs.Fit.{Fit};
+ghost use Rattle.grid.specs.Axes.{DoubtRows, ColumnPowers};
 ghost use Rattle.grid.specs.Drawn.{Drawn, Completed};
 
 // Subtracts the columns of Y^0 to Y^(t - 1), the highest first. xs and ys have the powers of the points.

@@ -24,9 +24,9 @@ use Rattle.field.specs.Word.{Word}
 use Rattle.field.proofs.Row.{row-at, row-of, beyond}
 use Rattle.polynomial.specs.Eval.{eval}
 use Rattle.polynomial.specs.Record.{start, valueXY, gridValue}
-use Rattle.polynomial.specs.Grid.{gridDistance}
+use Rattle.polynomial.specs.Distance.{gridDistance}
 use Rattle.polynomial.proofs.Record.{value-strip}
-use Rattle.polynomial.proofs.Grid.{distance-square}
+use Rattle.polynomial.proofs.Distance.{distance-square}
 use Rattle.definitions.specs.Plan.{modulus, side, degree, point}
 use Rattle.definitions.specs.Code.{strip, square, cells, value, mark, IsRecord}
 use Rattle.definitions.specs.Cost.{full, radius}

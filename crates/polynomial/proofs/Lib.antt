@@ -6,7 +6,7 @@ pub mod Unique
 pub mod Record
 pub mod Points
 pub mod Coefficients
-pub mod Grid
+pub mod Distance
 pub mod Powers
 pub mod Columns
 pub mod Cells

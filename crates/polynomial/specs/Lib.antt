@@ -2,5 +2,6 @@
 pub mod Eval
 pub mod Lead
 pub mod Record
-pub mod Grid
+pub mod Distance
+pub mod Fit
 pub mod Powers

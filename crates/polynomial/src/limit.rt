@@ -2,7 +2,7 @@
 use distance::word;
 ghost use mathlib.Core.Path.{_≡_};
 ghost use Prim.Native.Nat.{_*_, _≤_, _<_};
-ghost use Rattle.polynomial.specs.Grid.{gridDistance};
+ghost use Rattle.polynomial.specs.Distance.{gridDistance};
 
 // The full doubt times the least number of cells in which two records differ, max(a, b) (min(a, b) - d).
 pub fn radius(full: u32, a: usize, b: usize, d: usize) -> u32

@@ -19,7 +19,7 @@ use Rattle.definitions.specs.Reads.{Reads}
 use Rattle.definitions.specs.Sound.{Sound}
 use Rattle.definitions.proofs.Nearest.{cost-without, reads-none}
 use Rattle.distance.proofs.Cost.{doubts-cost}
-use Rattle.polynomial.specs.Grid.{gridDistance}
+use Rattle.polynomial.specs.Distance.{gridDistance}
 use Rattle.plan.specs.declared.Plan.{Plan}
 use Rattle.plan.specs.Says.{Says}
 use Rattle.plan.proofs.Values.{mark-radius}

@@ -25,17 +25,18 @@ use Rattle.definitions.specs.Calls.{changedOf, refused, readingOf}
 use Rattle.definitions.specs.Reads.{Reads}
 use Rattle.polynomial.specs.Eval.{eval}
 use Rattle.polynomial.specs.Record.{coef, onRow}
-use Rattle.polynomial.specs.Grid.{gridDistance}
+use Rattle.polynomial.specs.Distance.{gridDistance}
 use Rattle.polynomial.specs.Powers.{Rows}
+use Rattle.polynomial.specs.declared.Grid.{Grid}
+use Rattle.polynomial.specs.Fit.{Fit}
 use Rattle.polynomial.proofs.Record.{value-rows, start-next, start-most, start-below}
-use Rattle.polynomial.proofs.Grid.{distance-square}
+use Rattle.polynomial.proofs.Distance.{distance-square}
 use Rattle.plan.specs.declared.Plan.{Plan}
 use Rattle.plan.specs.Says.{said, Says}
 use Rattle.plan.proofs.Ready.{point-at, ready}
 use Rattle.plan.proofs.Values.{mark-radius}
 use Rattle.answers.specs.Summary.{summary}
-use Rattle.grid.specs.declared.Grid.{Grid}
-use Rattle.grid.specs.Fit.{Fit, DoubtRows}
+use Rattle.grid.specs.Axes.{DoubtRows}
 use Rattle.grid.specs.Loops.{cellAt}
 use Rattle.reed_muller.specs.Mark.{LoadedGrid}
 use Rattle.reed_muller.specs.Outcome.{Outcome, under}

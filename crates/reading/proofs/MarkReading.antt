@@ -39,10 +39,10 @@ use Rattle.definitions.proofs.Nearest.{within-cost, cost-within, cost-without, 
 use Rattle.definitions.proofs.Demands.{AtMostOne}
 use Rattle.polynomial.specs.Eval.{values}
 use Rattle.polynomial.specs.Record.{coef, onRow}
-use Rattle.polynomial.specs.Grid.{gridDistance}
+use Rattle.polynomial.specs.Distance.{gridDistance}
 use Rattle.definitions.proofs.Plan.{plan-modulus, plan-apart}
 use Rattle.polynomial.proofs.Record.{value-rows, start-below, place, record-eq}
-use Rattle.polynomial.proofs.Grid.{distance-square}
+use Rattle.polynomial.proofs.Distance.{distance-square}
 use Rattle.distance.proofs.Loaded.{cell-loaded}
 use Rattle.reed_muller.specs.Degree.{gridCost, GridNear}
 use Rattle.reed_muller.specs.Mark.{grid, LoadedGrid, Decoded}

@@ -22,9 +22,9 @@ use Rattle.field.specs.Congruence.{Cong}
 use Rattle.field.proofs.Congruence.{same, ~sym, _⨾_}
 use Rattle.distance.specs.Cost.{cell, cost}
 use Rattle.polynomial.specs.Eval.{eval, values}
-use Rattle.polynomial.specs.Grid.{gridDistance}
+use Rattle.polynomial.specs.Distance.{gridDistance}
 use Rattle.polynomial.proofs.Eval.{eval-cong}
-use Rattle.polynomial.proofs.Grid.{distance-split}
+use Rattle.polynomial.proofs.Distance.{distance-split}
 use Rattle.reed_solomon.specs.Strip.{Strip}
 use Rattle.grid.specs.Line.{HandsOn, Subtracted}
 use Rattle.grid.specs.Cost.{remaining, lines, GridCosts}

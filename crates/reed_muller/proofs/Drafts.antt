@@ -16,7 +16,7 @@ use Rattle.field.specs.Congruence.{Cong}
 use Rattle.field.proofs.Congruence.{same, ~sym, _⨾_}
 use Rattle.polynomial.specs.Eval.{eval}
 use Rattle.polynomial.specs.Powers.{Rows}
-use Rattle.grid.specs.declared.Grid.{Grid}
+use Rattle.polynomial.specs.declared.Grid.{Grid}
 use Rattle.grid.specs.Cost.{lines}
 use Rattle.grid.specs.Drawn.{found, limit, Drawn, Completed}
 use Rattle.grid.proofs.Drawn.{drawn-start}

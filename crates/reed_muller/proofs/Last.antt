@@ -8,7 +8,7 @@ use mathlib.Core.Path.{_≡_, refl, sym, _∙_}
 use mathlib.Core.Bool.{true, false, false≢true}
 use Prim.Native.Nat.{ℕ, suc, _+_, _*_, _≤_, _<_}
 use Rattle.field.proofs.Congruence.{same}
-use Rattle.polynomial.specs.Grid.{gridDistance}
+use Rattle.polynomial.specs.Distance.{gridDistance}
 use Rattle.grid.specs.Cost.{remaining, GridCosts}
 use Rattle.reed_muller.specs.Degree.{GridNear}
 use Rattle.reed_muller.specs.Mark.{Decoded}

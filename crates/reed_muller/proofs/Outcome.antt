@@ -16,9 +16,9 @@ use Rattle.field.specs.Congruence.{Cong}
 use Rattle.field.proofs.Congruence.{same, _⨾_}
 use Rattle.distance.specs.Cost.{cost}
 use Rattle.polynomial.specs.Record.{coef}
+use Rattle.polynomial.specs.declared.Grid.{Grid}
+use Rattle.polynomial.specs.Fit.{Fit}
 use Rattle.polynomial.proofs.Eval.{eval-cong}
-use Rattle.grid.specs.declared.Grid.{Grid}
-use Rattle.grid.specs.Fit.{Fit}
 use Rattle.grid.specs.Cost.{lines}
 use Rattle.grid.specs.Rest.{Rest}
 use Rattle.grid.specs.Drawn.{found, limit}

@@ -30,14 +30,15 @@ use Rattle.field.proofs.Loop.{upto-put}
 use Rattle.field.proofs.Row.{row-at, result-cong}
 use Rattle.polynomial.specs.Eval.{eval}
 use Rattle.polynomial.specs.Powers.{Rows}
+use Rattle.polynomial.specs.declared.Grid.{Grid}
+use Rattle.polynomial.specs.Fit.{Fit}
 use Rattle.polynomial.proofs.Eval.{eval-cong}
 use Rattle.reed_solomon.specs.declared.decoder.Decoded as Strip
 use Rattle.reed_solomon.specs.Axis.{Received}
 use Rattle.reed_solomon.specs.Decoded.{StripDecoded}
-use Rattle.grid.specs.declared.Grid.{Grid}
 use Rattle.grid.specs.Line.{HandsOn}
 use Rattle.grid.specs.Cost.{lines}
-use Rattle.grid.specs.Fit.{Fit, DoubtRows, stripAxis}
+use Rattle.grid.specs.Axes.{DoubtRows, stripAxis}
 use Rattle.grid.specs.Loops.{line, cellAt}
 use Rattle.grid.specs.Answers.{unknown, Answer, kept, KnownRows, AnsweredRows}
 use Rattle.grid.specs.Drawn.{found, Without, Lessened, limit, left-over}

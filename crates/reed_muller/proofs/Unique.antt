@@ -15,8 +15,8 @@ use Rattle.distance.specs.Cost.{cost, changed}
 use Rattle.distance.proofs.Cost.{cost-two-words}
 use Rattle.polynomial.specs.Eval.{values, Apart}
 use Rattle.polynomial.specs.Record.{onRow}
-use Rattle.polynomial.specs.Grid.{gridDistance, gridChanged}
-use Rattle.polynomial.proofs.Grid.{grid-same-or-far}
+use Rattle.polynomial.specs.Distance.{gridDistance, gridChanged}
+use Rattle.polynomial.proofs.Distance.{grid-same-or-far}
 use Rattle.reed_muller.specs.Degree.{gridCost, GridNear}
 
 -- the costs of two polynomials add up to twice the full doubt for each cell in which they differ

@@ -16,7 +16,7 @@
 -- What this file is for: the coefficients of one power of Y form a word with one coordinate fewer; it is read, and subtracted.
 use mathlib.Core.Path.{_≡_}
 use Prim.Native.Nat.{ℕ, suc, _*_, _<_}
-use Rattle.polynomial.specs.Grid.{gridDistance}
+use Rattle.polynomial.specs.Distance.{gridDistance}
 use Rattle.grid.specs.Cost.{total, Agrees, Costs, lines}
 
 module _ (q full a b d D : ℕ) (y : ℕ → ℕ) (u : ℕ → ℕ → ℕ) (Code : (ℕ → ℕ → ℕ) → Type 0) where

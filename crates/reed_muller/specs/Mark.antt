@@ -15,7 +15,7 @@ use mathlib.Core.List.{List}
 use Prim.Native.Nat.{ℕ, suc, _+_, _*_, _≤_, _<_}
 use Rattle.bounded.specs.Bounded.{at}
 use Rattle.distance.specs.Loaded.{Loaded}
-use Rattle.polynomial.specs.Grid.{gridDistance}
+use Rattle.polynomial.specs.Distance.{gridDistance}
 use Rattle.reed_muller.specs.Degree.{gridCost, GridNear}
 
 abbrev pub grid : ℕ → List ℕ → ℕ → ℕ → ℕ

@@ -14,7 +14,7 @@ use Prim.Native.Nat.{ℕ, _-_}
 use lib.Dec.{ltb}
 use Rattle.bounded.specs.Bounded.{at}
 use Rattle.polynomial.specs.Record.{coef}
-use Rattle.grid.specs.declared.Grid.{Grid}
+use Rattle.polynomial.specs.declared.Grid.{Grid}
 use Rattle.grid.specs.Loops.{cellAt}
 use Rattle.grid.specs.Drawn.{limit}
 use Rattle.reed_muller.specs.Mark.{Decoded}

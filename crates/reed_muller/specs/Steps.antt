@@ -20,8 +20,8 @@ use Prim.Native.Nat.{ℕ, suc, _*_, _-_, _≤_, _<_}
 use Rattle.bounded.specs.Bounded.{at}
 use Rattle.field.specs.Row.{Row}
 use Rattle.polynomial.specs.Powers.{Rows}
+use Rattle.polynomial.specs.declared.Grid.{Grid}
 use Rattle.reed_solomon.specs.Strip.{Strip}
-use Rattle.grid.specs.declared.Grid.{Grid}
 use Rattle.grid.specs.Line.{HandsOn}
 use Rattle.grid.specs.Cost.{lines}
 use Rattle.grid.specs.Rest.{Rest}

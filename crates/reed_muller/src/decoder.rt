@@ -1,13 +1,14 @@
 // The decoder of marks: the solver gives a candidate, and what it costs decides whether it is the answer.
 use crate::message;
 use crate::solver;
-use grid::Grid;
 use grid::remainder;
+use polynomial::Grid;
 ghost use mathlib.Core.Path.{_≡_};
 ghost use lib.ListN.{length};
 ghost use Rattle.field.specs.Prime.{Inverses};
 ghost use Rattle.polynomial.specs.Powers.{Rows};
-ghost use Rattle.grid.specs.Fit.{Fit, DoubtRows};
+ghost use Rattle.polynomial.specs.Fit.{Fit};
+ghost use Rattle.grid.specs.Axes.{DoubtRows};
 ghost use Rattle.reed_muller.specs.Outcome.{Outcome, under};
 
 // Takes the square of the symbols, each below p, and that of the doubts by value, and returns what is left of the symbols by

@@ -1,9 +1,9 @@
 // The degree steps: one coefficient of Y at a time, from Y^d down to Y^0, is read from the lines and subtracted. Drafts go first.
 use distance::word;
-use grid::Grid;
 use grid::lines;
 use grid::remainder;
 use grid::trial;
+use polynomial::Grid;
 use polynomial::bivariate;
 use polynomial::evaluation;
 use reed_solomon::axis::Axis;
@@ -12,7 +12,8 @@ ghost use mathlib.Core.Bool.{true};
 ghost use Prim.Native.Nat.{_≤_, _<_};
 ghost use Rattle.field.specs.Prime.{Inverses};
 ghost use Rattle.polynomial.specs.Powers.{Rows};
-ghost use Rattle.grid.specs.Fit.{Fit, DoubtRows, ColumnPowers};
+ghost use Rattle.polynomial.specs.Fit.{Fit};
+ghost use Rattle.grid.specs.Axes.{DoubtRows, ColumnPowers};
 ghost use Rattle.grid.specs.Answers.{KnownRows};
 ghost use Rattle.reed_muller.specs.Steps.{Stepped, Drafted, Solved};
 

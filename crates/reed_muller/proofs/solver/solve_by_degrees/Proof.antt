@@ -7,7 +7,7 @@ use native.Mathlib.Numerals.{add-one}
 use lib.ListN.{set, getD-replicate}
 use borrow.Author.Tests.{not-true, not-false}
 use Rattle.polynomial.proofs.Powers.{equal-rows}
-use Rattle.grid.specs.Fit.{ColumnPowers}
+use Rattle.grid.specs.Axes.{ColumnPowers}
 use Rattle.grid.specs.Answers.{unknown}
 use Rattle.grid.proofs.Answers.{positive}
 use Rattle.reed_muller.specs.Steps.{Solving}

@@ -1,4 +1,4 @@
--- Polynomials in two variables on a grid of a row points x and b column points y.
+-- The distance of polynomials in two variables on a grid of a row points x and b column points y.
 --
 --   gridDistance a b d   max(a, b) (min(a, b) - d): the least number of cells in which two polynomials of total degree
 --                        d < min(a, b) differ

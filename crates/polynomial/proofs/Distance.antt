@@ -22,7 +22,7 @@ use Rattle.field.proofs.Congruence.{of-mod, to-mod, ~mul-right, cancel}
 use Rattle.distance.specs.Cost.{changed}
 use Rattle.polynomial.specs.Eval.{eval, values, Apart}
 use Rattle.polynomial.specs.Record.{column, onRow}
-use Rattle.polynomial.specs.Grid.{gridDistance, gridChanged}
+use Rattle.polynomial.specs.Distance.{gridDistance, gridChanged}
 use Rattle.polynomial.proofs.Eval.{eval-cong, same-or-far}
 
 tall : (M e r m i : ℕ) → M ≡ m + i → r ≡ e + i → e ≤ m → M * e ≤ r * m
