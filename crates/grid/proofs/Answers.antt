@@ -11,7 +11,7 @@
 -- What this file is for: after the loop over the lines each of them hands on a cell. Assumes nothing.
 use mathlib.Core.Logic.{_≢_}
 use mathlib.Core.Path.{_≡_, refl}
-use mathlib.Core.Bool.{Bool, true, false}
+use mathlib.Core.Bool.{false}
 use mathlib.Core.List.{List}
 use Prim.Native.Nat.{ℕ, suc, _*_, _-_, _≤_, _<_}
 use native.Mathlib.Omega.{arith}
@@ -25,8 +25,9 @@ use Rattle.distance.specs.Doubts.{Doubts}
 use Rattle.polynomial.specs.Powers.{Rows}
 use Rattle.polynomial.specs.declared.Grid.{Grid}
 use Rattle.polynomial.specs.Fit.{Fit}
+use Rattle.reed_solomon.specs.declared.axis.Axis.{Axis}
+use Rattle.reed_solomon.specs.Axis.{Valid, stripRadius}
 use Rattle.reed_solomon.specs.Strip.{Strip}
-use Rattle.reed_solomon.specs.Axis.{Valid}
 use Rattle.grid.specs.Axes.{lineAxis, stripAxis}
 use Rattle.grid.specs.Loops.{cellAt}
 use Rattle.grid.specs.Answers.{unknown, Answer, Known, Answered}
@@ -74,24 +75,20 @@ module _ {g : Grid} {t : ℕ} (f : Fit g) (low : t ≤ g .d) where
     full = line-full t f;
   }
 
-module _ {g : Grid} {t : ℕ} {s u : List ℕ} (f : Fit g) where
-  module _ {w : List ℕ} {v : ℕ} (du : Doubts (g .full) (g .b) (at u)) (good : Row (g .p) w) where
-    pub answered-found : {found : Bool} → found ≡ true →
-        Strip (g .p - 1) (g .full) (g .b) t (at (g .y)) (at s) (at u) found (at w) v → Answered g t s u w v
-    answered-found e S =
-        let A : Answer g t s u w v = rw e at S in
-        let small : at w t < suc (g .p - 1) = omega (arith, good .small t) in
-        record { good = good; handed = rw (mod-eq-of-lt small) at (line-answered (f .columnsApart) du A); strip = λ _. A }
+module _ {c : Axis} {s u : List ℕ} (valid : Valid c) where
+  pub answered-found : {w : List ℕ} {v : ℕ} → Doubts (c .full) (c .n) (at u) → Row (c .p) w → Answer c s u w v →
+      Answered c s u w v
+  answered-found {w} du good A =
+      let small : at w (c .k) < suc (c .p - 1) = omega (arith, good .small (c .k)) in
+      record { good = good; handed = rw (mod-eq-of-lt small) at (line-answered (valid .apart) du A); strip = λ _. A }
 
-  pub answered-kept : {w : List ℕ} {v : ℕ} → Doubts (g .full) (g .b) (at u) → v ≢ unknown → Known g t s u w v →
-      Answered g t s u w v
-  answered-kept du h K = answered-found du (K .good) refl (K .strip h)
+  pub answered-kept : {w : List ℕ} {v : ℕ} → Doubts (c .full) (c .n) (at u) → v ≢ unknown → Known c s u w v → Answered c s u w v
+  answered-kept du h K = answered-found du (K .good) (K .strip h)
 
-  pub answered-none : {w : ℕ → ℕ} {v : ℕ} {found : Bool} → found ≡ false →
-      Strip (g .p - 1) (g .full) (g .b) t (at (g .y)) (at s) (at u) found w v →
-      Answered g t s u (replicate 16 0) (g .full * (g .b - t))
-  answered-none e S = record {
-    good = row-zeros (positive f);
-    handed = line-unanswered (at (replicate 16 0) t) (rw e at S);
+  pub answered-none : {w : ℕ → ℕ} {v : ℕ} → Strip (c .p - 1) (c .full) (c .n) (c .k) (at (c .x)) (at s) (at u) false w v →
+      Answered c s u (replicate 16 0) (stripRadius c)
+  answered-none S = record {
+    good = row-zeros (omega (arith, valid .prime .least));
+    handed = line-unanswered (at (replicate 16 0) (c .k)) S;
     strip = λ l. absurd (omega arith);
   }

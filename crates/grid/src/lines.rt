@@ -7,10 +7,10 @@ ghost use Prim.Native.Nat.{_≤_, _<_};
 ghost use lib.ListN.{length};
 ghost use Rattle.bounded.specs.Bounded.{at};
 ghost use Rattle.field.specs.Prime.{Inverses};
-ghost use Rattle.field.specs.Row.{row, Row};
-ghost use Rattle.distance.specs.Doubts.{Doubts};
+ghost use Rattle.field.specs.Row.{row};
 ghost use Rattle.polynomial.specs.Powers.{Rows};
 ghost use Rattle.polynomial.specs.Fit.{Fit};
+ghost use Rattle.reed_solomon.specs.Axis.{Received};
 ghost use Rattle.grid.specs.Axes.{DoubtRows};
 ghost use Rattle.grid.specs.Answers.{Answered, KnownRows, AnsweredRows, kept};
 
@@ -23,21 +23,11 @@ pub struct Line {
 // The cost of a line whose answer is not known. No cost is as large.
 pub const UNKNOWN: u32 = 4294967295;
 
-// A line read as a strip of degree t. Where it has no answer it counts as unread, with the full doubt.
-fn read(g: Grid, inverses: &[u16; 251], t: usize, symbols: [u16; 16], doubts: [u32; 16]) -> Line
-    requires { ⌜ Fit g × (t ≤ g .d) × Row (g .p) symbols × Doubts (g .full) (g .b) (at doubts) ×
-        Inverses (g .p) (now inverses) ⌝ }
-    ensures { λ r. ⌜ Answered g t symbols doubts (r .message) (r .cost) ⌝ }
+// A line read as a strip. Where it has no answer it counts as unread, with the full doubt.
+fn read(axis: Axis, inverses: &[u16; 251], symbols: [u16; 16], doubts: [u32; 16]) -> Line
+    requires { ⌜ Received axis symbols doubts × Inverses (axis .p) (now inverses) ⌝ }
+    ensures { λ r. ⌜ Answered axis symbols doubts (r .message) (r .cost) ⌝ }
 {
-    let y = g.y;
-    let axis = Axis {
-        p: g.p,
-        m: g.m,
-        x: y,
-        n: g.b,
-        k: t,
-        full: g.full,
-    };
     let strip = reed_solomon::decoder::decode(axis, inverses, symbols, doubts);
     if strip.found {
         let w = strip.message;
@@ -48,7 +38,7 @@ fn read(g: Grid, inverses: &[u16; 251], t: usize, symbols: [u16; 16], doubts: [u
     }
     Line {
         message: [0; 16],
-        cost: word::radius(g.full, 1, g.b, t),
+        cost: word::radius(axis.full, 1, axis.n, axis.k),
     }
 }
 
@@ -67,11 +57,20 @@ pub fn answer(
     ensures { λ r. ⌜ AnsweredRows g t (now (left .entry)) (now (doubts .entry)) (now (messages .exit)) r ⌝ }
 {
     let a = g.a;
+    let y = g.y;
+    let axis = Axis {
+        p: g.p,
+        m: g.m,
+        x: y,
+        n: g.b,
+        k: t,
+        full: g.full,
+    };
     let mut costs = known;
     let mut r = 0;
     while r < a {
         if costs[r] == UNKNOWN {
-            let line = read(g, inverses, t, left[r], doubts[r]);
+            let line = read(axis, inverses, left[r], doubts[r]);
             let w = line.message;
             messages[r] = w;
             costs[r] = line.cost;

@@ -38,7 +38,7 @@ use Rattle.reed_solomon.specs.Axis.{Received}
 use Rattle.reed_solomon.specs.Decoded.{StripDecoded}
 use Rattle.grid.specs.Line.{HandsOn}
 use Rattle.grid.specs.Cost.{lines}
-use Rattle.grid.specs.Axes.{DoubtRows, stripAxis}
+use Rattle.grid.specs.Axes.{DoubtRows, lineAxis, stripAxis}
 use Rattle.grid.specs.Loops.{line, cellAt}
 use Rattle.grid.specs.Answers.{unknown, Answer, kept, KnownRows, AnsweredRows}
 use Rattle.grid.specs.Drawn.{found, Without, Lessened, limit, left-over}
@@ -67,7 +67,7 @@ module _ {g : Grid} {j : ℕ} (f : Fit g) (left u left′ ws : List (List ℕ)) 
     (carried : v′ ≡ row λ r. kept (at e r) (at z r) (at v r) (g .full * (g .b - suc j)))
     (S : (r : ℕ) → r < g .a → Lessened g (suc j) column left left′ r) where
   -- an answer whose leading coefficient was found is the answer of what is left
-  answer-kept : (r : ℕ) → r < g .a → at v′ r ≢ unknown → Answer g j (line left′ r) (line u r) (line ws r) (at v′ r)
+  answer-kept : (r : ℕ) → r < g .a → at v′ r ≢ unknown → Answer (lineAxis g j) (line left′ r) (line u r) (line ws r) (at v′ r)
   answer-kept r l h =
       let i : r < 16 = omega (arith, f .rows) in
       let same-cost : at v′ r ≡ kept (at e r) (at z r) (at v r) (g .full * (g .b - suc j)) = rw carried (row-at _ r i) in
