@@ -16,6 +16,7 @@ use lib.ListN.{length, take, drop}
 use Rattle.bounded.specs.Bounded.{at}
 use Rattle.bounded.proofs.Sum.{sum-eq, sum-append}
 use Rattle.bounded.proofs.Part.{part-at, part-length}
+use Rattle.polynomial.specs.declared.Grid.{Grid}
 use Rattle.polynomial.specs.Record.{gridValue}
 use Rattle.distance.specs.Cost.{cell, differ}
 use Rattle.definitions.specs.Plan.{side}
@@ -52,16 +53,20 @@ measured-more {f} n r s u v a b = rw (add-one r, suc-mul r n) (record {
   count = ap₂ _+_ (a .count) (b .count) ∙ sym (sum-append (r * n) n λ i. differ (s i) (v i));
 })
 
-pub strip-measured : {P s u : List ℕ} {g : Plan} {v w : ℕ → ℕ} {D k : ℕ} → Photograph strip P s u → Says P g →
-    ((i : ℕ) → i < side P → v i ≡ w i) → Measured (g .full) (length s) (at s) (at u) v D k →
+pub strip-measured : {P s u : List ℕ} {plan : Plan} {v w : ℕ → ℕ} {D k : ℕ} → Photograph strip P s u → Says P plan →
+    ((i : ℕ) → i < side P → v i ≡ w i) → Measured (plan .grid .full) (length s) (at s) (at u) v D k →
     Measured full (side P) (at s) (at u) w D k
 strip-measured photo says e m = measured-eq (λ i l. refl) (λ i l. refl) e (rw (says .fields, photo .symbols) at m)
 
-pub mark-measured : {P : List ℕ} {g : Plan} {s u : ℕ → ℕ} {D k : ℕ} → Sound P → Says P g → (F : List ℕ) →
-    Measured (g .full) (g .a * g .b) s u (gridValue (g .p) (g .d) (g .b) (at (g .x)) (at (g .y)) F) D k →
-    Measured full (cells square P) s u (value square P F) D k
-mark-measured {P} {g} S says F m =
-    measured-eq (λ i l. refl) (λ i l. refl) (λ i l. rw (says .fields) at (mark-value S says F i l)) (rw (says .fields) at m)
+module _ {P : List ℕ} {plan : Plan} (S : Sound P) (says : Says P plan) where
+  abbrev g : Grid
+  g = plan .grid
+
+  pub mark-measured : {s u : ℕ → ℕ} {D k : ℕ} (F : List ℕ) →
+      Measured (g .full) (g .a * g .b) s u (gridValue (g .p) (g .d) (g .b) (at (g .x)) (at (g .y)) F) D k →
+      Measured full (cells square P) s u (value square P F) D k
+  mark-measured F m =
+      measured-eq (λ i l. refl) (λ i l. refl) (λ i l. rw (says .fields) at (mark-value S says F i l)) (rw (says .fields) at m)
 
 pub reading-is : (C : Code) (P s u F : List ℕ) {R D k : ℕ} → R ≡ radius full C P →
     Measured full (cells C P) (at s) (at u) (value C P F) D k → summary R D k ≡ readingOf C P s u F

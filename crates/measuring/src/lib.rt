@@ -3,6 +3,7 @@ use definitions::Reading;
 use distance::word;
 use field::bytes;
 use plan::Plan;
+use polynomial::Grid;
 use polynomial::bivariate;
 use polynomial::evaluation;
 use polynomial::limit;
@@ -13,11 +14,12 @@ ghost use lib.ListN.{length};
 ghost use Rattle.bounded.specs.Bounded.{at};
 ghost use Rattle.polynomial.specs.Record.{gridValue};
 ghost use Rattle.polynomial.specs.Powers.{Rows, Powers, Columns};
+ghost use Rattle.polynomial.specs.Fit.{Fit};
 ghost use Rattle.distance.specs.Doubts.{Doubts};
 ghost use Rattle.definitions.specs.Code.{strip, square, IsRecord};
 ghost use Rattle.definitions.specs.Calls.{readingOf};
 ghost use Rattle.definitions.specs.Photograph.{Photograph};
-ghost use Rattle.plan.specs.Says.{Says, Ready};
+ghost use Rattle.plan.specs.Says.{Says};
 ghost use Rattle.measuring.specs.Measured.{Measured};
 
 // The reading of a record against a mark. Rows and columns have the same points: one table of powers serves both.
@@ -27,11 +29,12 @@ pub fn measure_mark(plan: Plan, record: &[u8], symbols: &[u8], doubts: &[u8]) ->
     ensures { λ r. ⌜ ((P : List ℕ) → Says P plan → Photograph square P (now (symbols .entry)) (now (doubts .entry)) →
         r ≡ readingOf square P (now (symbols .entry)) (now (doubts .entry)) (now («record» .entry))) ⌝ }
 {
-    let x = plan.x;
-    let powers = evaluation::powers(x, plan.d, plan.p, plan.m);
-    let columns = bivariate::columns(record, &powers, plan.d, plan.p, plan.m);
-    let tally = measure_rows(plan, &columns, &powers, symbols, doubts);
-    let radius = limit::radius(plan.full, plan.a, plan.b, plan.d);
+    let g = plan.grid;
+    let x = g.x;
+    let powers = evaluation::powers(x, g.d, g.p, g.m);
+    let columns = bivariate::columns(record, &powers, g.d, g.p, g.m);
+    let tally = measure_rows(g, &columns, &powers, symbols, doubts);
+    let radius = limit::radius(g.full, g.a, g.b, g.d);
     answers::reading(radius, tally.cost, tally.changed)
 }
 
@@ -42,11 +45,12 @@ pub fn measure_strip(plan: Plan, record: &[u8], symbols: &[u8], doubts: &[u8]) -
     ensures { λ r. ⌜ ((P : List ℕ) → Says P plan → Photograph strip P (now (symbols .entry)) (now (doubts .entry)) →
         r ≡ readingOf strip P (now (symbols .entry)) (now (doubts .entry)) (now («record» .entry))) ⌝ }
 {
-    let x = plan.x;
-    let xs = evaluation::powers(x, plan.d, plan.p, plan.m);
-    let values = evaluation::values(&xs, plan.d, bytes::row(record), plan.p, plan.m);
-    let tally = measure_row(symbols, doubts, values, plan.full);
-    let radius = word::radius(plan.full, 1, plan.a, plan.d);
+    let g = plan.grid;
+    let x = g.x;
+    let xs = evaluation::powers(x, g.d, g.p, g.m);
+    let values = evaluation::values(&xs, g.d, bytes::row(record), g.p, g.m);
+    let tally = measure_row(symbols, doubts, values, g.full);
+    let radius = word::radius(g.full, 1, g.a, g.d);
     answers::reading(radius, tally.cost, tally.changed)
 }
 
@@ -59,27 +63,27 @@ struct Tally {
 // Those of the mark's cells, row by row: at most sixteen rows, each of a cost of at most 2,097,152. X was put in for all rows at
 // once, which gave the columns.
 fn measure_rows(
-    plan: Plan,
+    g: Grid,
     columns: &[[u16; 16]; 16],
     ys: &[[u16; 16]; 16],
     symbols: &[u8],
     doubts: &[u8],
 ) -> Tally
-    requires { ⌜ Ready plan × Rows (plan .p) (now columns) × Rows (plan .p) (now ys) × (length (now symbols) ≡ plan .a * plan .b)
-        × (length (now doubts) ≡ plan .a * plan .b) × Doubts (plan .full) (plan .a * plan .b) (at (now doubts)) ⌝ }
-    ensures { λ t. ⌜ (t .cost ≤ 33554432) × ((x y F : List ℕ) → Columns (plan .p) (plan .d) x F (now (columns .entry)) →
-        Powers (plan .p) y (plan .d) (now (ys .entry)) → Measured (plan .full) (plan .a * plan .b) (at (now (symbols .entry)))
-        (at (now (doubts .entry))) (gridValue (plan .p) (plan .d) (plan .b) (at x) (at y) F) (t .cost) (t .changed)) ⌝ }
+    requires { ⌜ Fit g × Rows (g .p) (now columns) × Rows (g .p) (now ys) × (length (now symbols) ≡ g .a * g .b)
+        × (length (now doubts) ≡ g .a * g .b) × Doubts (g .full) (g .a * g .b) (at (now doubts)) ⌝ }
+    ensures { λ t. ⌜ (t .cost ≤ 33554432) × ((x y F : List ℕ) → Columns (g .p) (g .d) x F (now (columns .entry)) →
+        Powers (g .p) y (g .d) (now (ys .entry)) → Measured (g .full) (g .a * g .b) (at (now (symbols .entry)))
+        (at (now (doubts .entry))) (gridValue (g .p) (g .d) (g .b) (at x) (at y) F) (t .cost) (t .changed)) ⌝ }
 {
-    let a = plan.a;
-    let b = plan.b;
+    let a = g.a;
+    let b = g.b;
     let mut cost = 0;
     let mut changed = 0;
     for r in 0..a {
-        let values = bivariate::row_values(columns, ys, r, plan.d, plan.p, plan.m);
+        let values = bivariate::row_values(columns, ys, r, g.d, g.p, g.m);
         let at = r * b;
         let end = at + b;
-        let tally = measure_row(&symbols[at..end], &doubts[at..end], values, plan.full);
+        let tally = measure_row(&symbols[at..end], &doubts[at..end], values, g.full);
         cost += tally.cost;
         changed += tally.changed;
     }

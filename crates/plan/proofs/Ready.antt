@@ -1,4 +1,4 @@
--- A sound plan's struct is ready: its numbers fit together. Assumes nothing.
+-- A sound plan's struct is ready: the numbers of its grid fit together. Assumes nothing.
 use mathlib.Core.Path.{_≡_, _∙_}
 use mathlib.Core.List.{List}
 use Prim.Native.Nat.{ℕ, _-_, _<_}
@@ -32,18 +32,21 @@ module _ {P : List ℕ} (S : Sound P) where
 
   said-ready : (m : ℕ) → Reciprocal (modulus P) m → Ready (said P m)
   said-ready m r = record {
-    prime = S .prime;
-    reciprocal = r;
-    rows = S .most;
-    columns = S .most;
-    rowPoints = points-row S;
-    columnPoints = points-row S;
-    rowsApart = apart;
-    columnsApart = apart;
-    low = S .low;
-    narrow = S .low;
-    full = omega arith;
+    fit = record {
+      prime = S .prime;
+      reciprocal = r;
+      rows = S .most;
+      columns = S .most;
+      rowPoints = points-row S;
+      columnPoints = points-row S;
+      rowsApart = apart;
+      columnsApart = apart;
+      low = S .low;
+      narrow = S .low;
+      full = omega arith;
+    };
+    byte = omega arith;
   }
 
-  pub ready : {g : Plan} → Says P g → Ready g
+  pub ready : {plan : Plan} → Says P plan → Ready plan
   ready s = rw (s .fields) (said-ready (s .m) (s .reciprocal))

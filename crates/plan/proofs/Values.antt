@@ -1,11 +1,11 @@
--- Records of a sound plan P, by the struct g that says what P does: their values at its points are those of P's marks and strips.
+-- Records of a sound plan P, by the struct that says what P does: their values at its points are those of P's marks and strips.
 --
---   record-word     a square's record is a word of the struct's prime and degree
+--   record-word     a square's record is a word of the grid's prime and degree
 --   record-row      a strip's record, loaded as a row, is a row of residues
 --   same-points     rows and columns have the same points
 --   mark-cells      a mark has a row of cells for each row point
---   mark-value, mark-is   the values on the grid of the struct's points are the mark
---   mark-radius, strip-radius   the radius by the struct is the plan's
+--   mark-value, mark-is   the values on the grid are the mark
+--   mark-radius, strip-radius   the radius by the grid is the plan's
 --   strip-values    the values of a row that has a strip's coefficients are the strip's
 --
 -- Assumes nothing.
@@ -24,6 +24,7 @@ use Rattle.field.specs.Word.{Word}
 use Rattle.field.proofs.Row.{row-at, row-of, beyond}
 use Rattle.polynomial.specs.Eval.{eval}
 use Rattle.polynomial.specs.Record.{start, valueXY, gridValue}
+use Rattle.polynomial.specs.declared.Grid.{Grid}
 use Rattle.polynomial.specs.Distance.{gridDistance}
 use Rattle.polynomial.proofs.Record.{value-strip}
 use Rattle.polynomial.proofs.Distance.{distance-square}
@@ -35,13 +36,16 @@ use Rattle.plan.specs.declared.Plan.{Plan}
 use Rattle.plan.specs.Says.{said, Says}
 use Rattle.plan.proofs.Ready.{point-at}
 
-pub same-points : {P : List ℕ} {g : Plan} → Says P g → g .y ≡ g .x
+pub same-points : {P : List ℕ} {plan : Plan} → Says P plan → plan .grid .y ≡ plan .grid .x
 same-points says = rw (says .fields) refl
 
-pub mark-cells : {P : List ℕ} {g : Plan} → Says P g → cells square P ≡ g .a * g .b
+pub mark-cells : {P : List ℕ} {plan : Plan} → Says P plan → cells square P ≡ plan .grid .a * plan .grid .b
 mark-cells says = rw (says .fields) refl
 
-module _ {P : List ℕ} {g : Plan} (S : Sound P) (says : Says P g) where
+module _ {P : List ℕ} {plan : Plan} (S : Sound P) (says : Says P plan) where
+  abbrev g : Grid
+  g = plan .grid
+
   pub record-word : {F : List ℕ} → IsRecord square P F → Word (g .p) (start (suc (g .d))) F
   record-word f = rw (says .fields) (rw (add-one (degree P)) at f)
 
@@ -56,7 +60,7 @@ module _ {P : List ℕ} {g : Plan} (S : Sound P) (says : Says P g) where
       residue i (yes l) = f .below i l
       residue i (no l) = rw (beyond F i (omega (arith, f .size))) z
 
-  -- the value in a cell of the grid of the struct's points is the mark's
+  -- the value in a cell of the grid is the mark's
   pub mark-value : (F : List ℕ) (c : ℕ) → c < side P * side P →
       gridValue (g .p) (g .d) (g .b) (at (g .x)) (at (g .y)) F c ≡ value square P F c
   mark-value F c l = rw (says .fields)

@@ -3,6 +3,7 @@
 use definitions::FULL;
 use field::bytes;
 use field::rows::reciprocal;
+use polynomial::Grid;
 ghost use mathlib.Core.Path.{_≡_};
 ghost use Prim.Native.Nat.{_+_, _*_, _-_, _≤_, _<_};
 ghost use lib.ListN.{length};
@@ -11,21 +12,10 @@ ghost use Rattle.definitions.specs.Sound.{Sound};
 ghost use Rattle.definitions.specs.Finder.{Finding, FindingAt};
 ghost use Rattle.plan.specs.Says.{Says};
 
-// What a sound plan says. X takes the a row points x, Y the b column points y, modulo the prime p;
-// the places beyond a and b are 0.
+// What a sound plan says. Its marks are on the grid, its strips over the grid's row points; the places beyond the points are 0.
 pub struct Plan {
     pub season: u16,
-    pub p: u16,
-    // the reciprocal of p (crate `field`)
-    pub m: u16,
-    pub x: [u16; 16],
-    pub a: usize,
-    pub y: [u16; 16],
-    pub b: usize,
-    // the degree
-    pub d: usize,
-    // the doubt of a cell of which nothing is known
-    pub full: u32,
+    pub grid: Grid,
 }
 
 // The number of the first refusal, 1 to 5, that applies to the plan; 0 where it is sound. The tests are the rows of
@@ -121,8 +111,7 @@ pub fn parse(plan: &[u8]) -> Plan
     let p = plan[2] as u16;
     let n = plan[3] as usize;
     let x = bytes::row(&plan[5..21]);
-    Plan {
-        season: season_of(plan[0], plan[1]),
+    let grid = Grid {
         p,
         m: reciprocal(p),
         x,
@@ -131,6 +120,10 @@ pub fn parse(plan: &[u8]) -> Plan
         b: n,
         d: plan[4] as usize,
         full: FULL,
+    };
+    Plan {
+        season: season_of(plan[0], plan[1]),
+        grid,
     }
 }
 

@@ -29,8 +29,9 @@ use Rattle.reading.specs.Loading.{Taken}
 pub cells-most : {P : List ℕ} → Sound P → side P * side P ≤ 256
 cells-most {P} S = mul-le-mul {n₁ = side P} {m₁ = side P} {n₂ = 16} {m₂ = 16} (S .most) (S .most)
 
-pub doubts-refuse : {P s u B : List ℕ} {g : Plan} {R : ℕ} → Says P g → Taken square P s u B →
-    R ≡ g .full * gridDistance (g .a) (g .b) (g .d) → R ≤ sum (length u) (at u) → Reads square P s u B (refused 10) B
+pub doubts-refuse : {P s u B : List ℕ} {plan : Plan} {R : ℕ} → Says P plan → Taken square P s u B →
+    R ≡ plan .grid .full * gridDistance (plan .grid .a) (plan .grid .b) (plan .grid .d) → R ≤ sum (length u) (at u) →
+    Reads square P s u B (refused 10) B
 doubts-refuse {P} {s} {u} {B} says t e h = reads-none square P s u B (t .clear) λ F f. cost-without square P s u F λ l. omega (
   arith,
   mark-radius (t .sound) says e,

@@ -28,12 +28,11 @@ use Rattle.polynomial.specs.Record.{coef, onRow}
 use Rattle.polynomial.specs.Distance.{gridDistance}
 use Rattle.polynomial.specs.Powers.{Rows}
 use Rattle.polynomial.specs.declared.Grid.{Grid}
-use Rattle.polynomial.specs.Fit.{Fit}
 use Rattle.polynomial.proofs.Record.{value-rows, start-next, start-most, start-below}
 use Rattle.polynomial.proofs.Distance.{distance-square}
 use Rattle.plan.specs.declared.Plan.{Plan}
 use Rattle.plan.specs.Says.{said, Says}
-use Rattle.plan.proofs.Ready.{point-at, ready}
+use Rattle.plan.proofs.Ready.{point-at}
 use Rattle.plan.proofs.Values.{mark-radius}
 use Rattle.answers.specs.Summary.{summary}
 use Rattle.grid.specs.Axes.{DoubtRows}
@@ -46,10 +45,6 @@ use Rattle.reading.specs.Loading.{residue, gridCell, SymbolRows, DoubtLi
 use Rattle.reading.specs.Changed.{flag, changedCells}
 use Rattle.reading.proofs.Loading.{residue-below, residue-loaded}
 use Rattle.reading.proofs.Square.{cell-at, flag-differ}
-
--- the grid, as the mark decoder takes it
-abbrev pub gridOf : Plan → Grid
-gridOf g = record { p = g .p; m = g .m; x = g .x; a = g .a; y = g .y; b = g .b; d = g .d; full = g .full }
 
 -- a record has a byte at least, and at most as many as a message has numbers
 pub record-room : {P s u B : List ℕ} → Taken square P s u B → (0 < length B) × (length B ≤ 136)
@@ -106,15 +101,15 @@ module _ {P s u B : List ℕ} {left u′ : List (List ℕ)} (t : Taken square P 
 
   -- what the decoder answers, and what it leaves
   module _ {m g : ℕ} {after : List (List ℕ)} {w : List ℕ}
-      (D : Outcome (gridOf (said P m)) left u′ after (under (gridOf (said P m)) g) w g) where
-    limit-is : limit (gridOf (said P m)) ≡ radius full square P
+      (D : Outcome (said P m .grid) left u′ after (under (said P m .grid) g) w g) where
+    limit-is : limit (said P m .grid) ≡ radius full square P
     limit-is = omega (arith, ap (λ n. full * n) (distance-square (side P) (degree P)))
 
     refused-said : radius full square P ≤ g → Reads square P s u B (refused 10) B
     refused-said h = mark-none P s u B (t .clear) (point-at (t .sound)) loaded w (D .decoded)
         (le-ltb g _ (omega (arith, limit-is)))
 
-    found : g < radius full square P → under (gridOf (said P m)) g ≡ true
+    found : g < radius full square P → under (said P m .grid) g ≡ true
     found h = lt-ltb g _ (omega (arith, limit-is))
 
     -- the message fits into bytes
@@ -171,31 +166,21 @@ module _ {P s u B : List ℕ} {left u′ : List (List ℕ)} (t : Taken square P 
           (mark-found P s u B (t .clear) (point-at (t .sound)) loaded w (D .decoded) z W word-length word-at)
 
 -- the same by the struct that says what the plan does
-module _ {P s u B : List ℕ} {left u′ : List (List ℕ)} {g : Plan} (says : Says P g) (t : Taken square P s u B)
-    (es : SymbolRows (g .b) s left) (eu : DoubtLines (g .b) u u′) where
+module _ {P s u B : List ℕ} {left u′ : List (List ℕ)} {plan : Plan} (says : Says P plan) (t : Taken square P s u B)
+    (es : SymbolRows (plan .grid .b) s left) (eu : DoubtLines (plan .grid .b) u u′) where
+  abbrev g : Grid
+  g = plan .grid
+
   sides : SymbolRows (side P) s left × DoubtLines (side P) u u′
   sides = (rw (says .fields) at es, rw (says .fields) at eu)
 
-  pub mark-received : Fit (gridOf g) × Rows (g .p) left × DoubtRows (gridOf g) u′
-  mark-received = let h = ready (t .sound) says in (
-    record {
-      prime = h .prime;
-      reciprocal = h .reciprocal;
-      rows = h .rows;
-      columns = h .columns;
-      rowPoints = h .rowPoints;
-      columnPoints = h .columnPoints;
-      rowsApart = h .rowsApart;
-      columnsApart = h .columnsApart;
-      low = h .low;
-      narrow = h .narrow;
-      full = omega (arith, h .full);
-    },
+  pub mark-received : Rows (g .p) left × DoubtRows g u′
+  mark-received = (
     rw (says .fields) (symbol-rows t (sides .0)),
     rw (says .fields) λ r l c m. doubts-most t (sides .0) (sides .1) r c l m,
   )
 
-  module _ {c R : ℕ} {after : List (List ℕ)} {w : List ℕ} (D : Outcome (gridOf g) left u′ after (under (gridOf g) c) w c)
+  module _ {c R : ℕ} {after : List (List ℕ)} {w : List ℕ} (D : Outcome g left u′ after (under g c) w c)
       (h : R ≡ g .full * gridDistance (g .a) (g .b) (g .d)) where
     pub mark-refused : R ≤ c → Reads square P s u B (refused 10) B
     mark-refused l = refused-said t (sides .0) (sides .1) (rw (says .fields) at D) (omega (arith, mark-radius (t .sound) says h))

@@ -20,6 +20,7 @@ use Rattle.distance.specs.Cost.{changed}
 use Rattle.definitions.specs.Calls.{changedOf, refused, readingOf}
 use Rattle.definitions.specs.Code.{IsRecord}
 use Rattle.definitions.specs.Reads.{Reads}
+use Rattle.polynomial.specs.declared.Grid.{Grid}
 use Rattle.polynomial.specs.Eval.{eval}
 use Rattle.polynomial.proofs.Record.{value-strip}
 use Rattle.plan.specs.declared.Plan.{Plan}
@@ -37,7 +38,7 @@ use Rattle.reading.specs.Loading.{residue, Taken}
 use Rattle.reading.proofs.Loading.{residue-below, residue-loaded}
 
 -- the row points, as the strip decoder takes them
-abbrev pub axisOf : Plan → Axis
+abbrev pub axisOf : Grid → Axis
 axisOf g = record { p = g .p; m = g .m; x = g .x; n = g .a; k = g .d; full = g .full }
 
 module _ {P s u B s′ u′ : List ℕ} (t : Taken strip P s u B) (es : s′ ≡ row (λ j. residue (at s j))) (eu : u′ ≡ row (at u)) where
@@ -60,8 +61,8 @@ module _ {P s u B s′ u′ : List ℕ} (t : Taken strip P s u B) (es : s′ ≡
   symbols-length : length s′ ≡ 16
   symbols-length = rw es (length-tab 16 _)
 
-  pub strip-received : {g : Plan} → Says P g → Received (axisOf g) s′ u′
-  strip-received says = let h = ready (t .sound) says in record {
+  pub strip-received : {plan : Plan} → Says P plan → Received (axisOf (plan .grid)) s′ u′
+  strip-received says = let h = ready (t .sound) says .fit in record {
     axis = record {
       prime = h .prime;
       reciprocal = h .reciprocal;
@@ -79,7 +80,7 @@ module _ {P s u B s′ u′ : List ℕ} (t : Taken strip P s u B) (es : s′ ≡
   loaded c l = let k : c < 16 = omega (arith, t .sound .most) in
       rw (symbol-at c k, doubt-at c k) (residue-loaded (at s c) (at u c) (t .photo .erased c l))
 
-  module _ {m : ℕ} {r : Decoded} (D : StripDecoded (axisOf (said P m)) s′ u′ r) where
+  module _ {m : ℕ} {r : Decoded} (D : StripDecoded (axisOf (said P m .grid)) s′ u′ r) where
     refused-said : r .found ≡ false → Reads strip P s u B (refused 10) B
     refused-said z = strip-none P s u B (t .clear) (point-at (t .sound)) loaded (D .strip) z
 
@@ -115,7 +116,10 @@ module _ {P s u B s′ u′ : List ℕ} (t : Taken strip P s u B) (es : s′ ≡
           (strip-found P s u B (t .clear) (point-at (t .sound)) loaded (D .strip) z W word word-at)
 
   -- the same by the struct that says what the plan does
-  module _ {g : Plan} (says : Says P g) {r : Decoded} (D : StripDecoded (axisOf g) s′ u′ r) where
+  module _ {plan : Plan} (says : Says P plan) {r : Decoded} (D : StripDecoded (axisOf (plan .grid)) s′ u′ r) where
+    abbrev g : Grid
+    g = plan .grid
+
     -- a cost is a small number
     pub strip-under : r .found ≡ true → r .cost < 2147483648
     strip-under z = omega (arith, (rw (says .fields) at D) .strip .sound z .1, t .sound .most)

@@ -6,7 +6,6 @@ use distance::word;
 use field::bytes;
 use field::inverse::inverses;
 use plan::Plan;
-use polynomial::Grid;
 use polynomial::limit;
 use reed_muller::decoder::decode;
 ghost use mathlib.Core.Path.{_≡_};
@@ -78,30 +77,19 @@ fn decoded(plan: Plan, symbols: &[u8], doubts: &[u8], record: &mut [u8]) -> Read
         ⌜ ((P : List ℕ) → Says P plan → Taken square P (now (symbols .entry)) (now (doubts .entry)) (now («record» .entry)) →
         Reads square P (now (symbols .entry)) (now (doubts .entry)) (now («record» .entry)) r (now («record» .exit))) ⌝ }
 {
-    let x = plan.x;
-    let y = plan.y;
-    let g = Grid {
-        p: plan.p,
-        m: plan.m,
-        x,
-        a: plan.a,
-        y,
-        b: plan.b,
-        d: plan.d,
-        full: plan.full,
-    };
-    let u = load::doubt_rows(doubts, plan.a, plan.b);
-    let table = inverses(plan.p, plan.m);
-    let s = load::residue_rows(symbols, plan.a, plan.b);
+    let g = plan.grid;
+    let u = load::doubt_rows(doubts, g.a, g.b);
+    let table = inverses(g.p, g.m);
+    let s = load::residue_rows(symbols, g.a, g.b);
     let mut message = [0; 136];
     let mut cost = 0;
     let left = decode(g, &table, s, u, &mut message, &mut cost);
-    let radius = limit::radius(plan.full, plan.a, plan.b, plan.d);
+    let radius = limit::radius(g.full, g.a, g.b, g.d);
     if cost >= radius {
         return answers::refused(10);
     }
     bytes::store(record, &message);
-    let changed = changed_cells(symbols, plan.a, plan.b, &left);
+    let changed = changed_cells(symbols, g.a, g.b, &left);
     answers::reading(radius, cost, changed)
 }
 
@@ -113,7 +101,8 @@ pub fn read_mark(plan: Plan, symbols: &[u8], doubts: &[u8], record: &mut [u8]) -
         ⌜ ((P : List ℕ) → Says P plan → Taken square P (now (symbols .entry)) (now (doubts .entry)) (now («record» .entry)) →
         Reads square P (now (symbols .entry)) (now (doubts .entry)) (now («record» .entry)) r (now («record» .exit))) ⌝ }
 {
-    if total(doubts) >= limit::radius(plan.full, plan.a, plan.b, plan.d) {
+    let g = plan.grid;
+    if total(doubts) >= limit::radius(g.full, g.a, g.b, g.d) {
         return answers::refused(10);
     }
     decoded(plan, symbols, doubts, record)

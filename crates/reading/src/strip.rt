@@ -23,26 +23,27 @@ pub fn read_strip(plan: Plan, symbols: &[u8], doubts: &[u8], record: &mut [u8]) 
         ⌜ ((P : List ℕ) → Says P plan → Taken stripCode P (now (symbols .entry)) (now (doubts .entry)) (now («record» .entry)) →
         Reads stripCode P (now (symbols .entry)) (now (doubts .entry)) (now («record» .entry)) r (now («record» .exit))) ⌝ }
 {
-    let x = plan.x;
-    let g = Axis {
-        p: plan.p,
-        m: plan.m,
+    let g = plan.grid;
+    let x = g.x;
+    let axis = Axis {
+        p: g.p,
+        m: g.m,
         x,
-        n: plan.a,
-        k: plan.d,
-        full: plan.full,
+        n: g.a,
+        k: g.d,
+        full: g.full,
     };
     let s = load::residue_row(symbols);
     let u = bytes::wide_row(doubts);
-    let table = inverses(plan.p, plan.m);
-    let strip = decode(g, &table, s, u);
+    let table = inverses(g.p, g.m);
+    let strip = decode(axis, &table, s, u);
     if !strip.found {
         return answers::refused(10);
     }
     let message = strip.message;
     let values = strip.values;
     bytes::store(record, &message);
-    let changed = word::word_changed(plan.a, bytes::row(symbols), values);
-    let radius = word::radius(plan.full, 1, plan.a, plan.d);
+    let changed = word::word_changed(g.a, bytes::row(symbols), values);
+    let radius = word::radius(g.full, 1, g.a, g.d);
     answers::reading(radius, strip.cost, changed)
 }

@@ -28,15 +28,15 @@ pub write-at : (p : ℕ) (F B : List ℕ) {n k n′ k′ : ℕ} (i : ℕ) → n 
 unfolding writeRefusal
 write-at p F B {n} {k} i e h t = rw (← e, ← h) (first-at (writeTests p F B n k) i t)
 
-pub photo-said : (square : Bool) {P : List ℕ} {g : Plan} → Says P g → (s u F : List ℕ) →
-    photoRefusal (g .p) (g .full) s u F (cellsOf square g) (sizeOf square g)
+pub photo-said : (square : Bool) {P : List ℕ} {plan : Plan} → Says P plan → (s u F : List ℕ) →
+    photoRefusal (plan .grid .p) (plan .grid .full) s u F (cellsOf square (plan .grid)) (sizeOf square (plan .grid))
     ≡ first (photoTests (modulus P) full s u F (cells (codeOf square) P) (size (codeOf square) P))
 unfolding photoRefusal
 photo-said true says s u F = rw (says .fields) refl
 photo-said false says s u F = rw (says .fields) refl
 
-pub write-said : (square : Bool) {P : List ℕ} {g : Plan} → Says P g → (F B : List ℕ) →
-    writeRefusal (g .p) F B (cellsOf square g) (sizeOf square g)
+pub write-said : (square : Bool) {P : List ℕ} {plan : Plan} → Says P plan → (F B : List ℕ) →
+    writeRefusal (plan .grid .p) F B (cellsOf square (plan .grid)) (sizeOf square (plan .grid))
     ≡ first (writeTests (modulus P) F B (cells (codeOf square) P) (size (codeOf square) P))
 unfolding writeRefusal
 write-said true says F B = rw (says .fields) refl

@@ -3,11 +3,13 @@
 // with no way out, so that it is vectorised.
 use definitions::UNREAD;
 use plan::Plan;
+use polynomial::Grid;
 use polynomial::bivariate::start;
 ghost use mathlib.Core.Path.{_≡_};
 ghost use mathlib.Core.Bool.{not, _&&_};
 ghost use lib.Dec.{eqb, leb};
 ghost use lib.ListN.{length};
+ghost use Rattle.polynomial.specs.Fit.{Fit};
 ghost use Rattle.definitions.specs.Refusals.{first};
 ghost use Rattle.definitions.specs.Cost.{unread};
 ghost use Rattle.definitions.specs.Calls.{strange, excessive, halfRead, overflowing, photoRows, writeNumber, measureNumber};
@@ -29,16 +31,18 @@ pub fn write_number(square: bool, plan: &[u8], record: &[u8], buffer: &[u8]) -> 
 fn write_refusal(square: bool, plan: Plan, record: &[u8], buffer: &[u8]) -> u32
     requires { ⌜ Ready plan ⌝ }
     ensures { λ r. ⌜ r
-        ≡ writeRefusal (plan .p) (now («record» .entry)) (now (buffer .entry)) (cellsOf square plan) (sizeOf square plan) ⌝ }
+        ≡ writeRefusal (plan .grid .p) (now («record» .entry)) (now (buffer .entry)) (cellsOf square (plan .grid))
+        (sizeOf square (plan .grid)) ⌝ }
 {
-    let k = record_size(square, plan);
+    let g = plan.grid;
+    let k = record_size(square, g);
     if record.len() != k {
         return 6;
     }
-    if buffer.len() != cell_count(square, plan) {
+    if buffer.len() != cell_count(square, g) {
         return 6;
     }
-    if is_overflowing(plan.p as u8, record, k) {
+    if is_overflowing(g.p as u8, record, k) {
         return 9;
     }
     0
@@ -59,26 +63,27 @@ pub fn photo_number(square: bool, plan: &[u8], symbols: &[u8], doubts: &[u8], re
 // The same after the plan's own.
 fn photo_refusal(square: bool, plan: Plan, symbols: &[u8], doubts: &[u8], record: &[u8]) -> u32
     requires { ⌜ Ready plan ⌝ }
-    ensures { λ r. ⌜ r ≡ photoRefusal (plan .p) (plan .full) (now (symbols .entry)) (now (doubts .entry)) (now («record» .entry))
-        (cellsOf square plan) (sizeOf square plan) ⌝ }
+    ensures { λ r. ⌜ r ≡ photoRefusal (plan .grid .p) (plan .grid .full) (now (symbols .entry)) (now (doubts .entry))
+        (now («record» .entry)) (cellsOf square (plan .grid)) (sizeOf square (plan .grid)) ⌝ }
 {
-    let n = cell_count(square, plan);
+    let g = plan.grid;
+    let n = cell_count(square, g);
     if symbols.len() != n {
         return 6;
     }
     if doubts.len() != n {
         return 6;
     }
-    if record.len() != record_size(square, plan) {
+    if record.len() != record_size(square, g) {
         return 6;
     }
-    if is_strange(plan.p as u8, symbols, n) {
+    if is_strange(g.p as u8, symbols, n) {
         return 7;
     }
-    if is_excessive(plan.full as u8, doubts, n) {
+    if is_excessive(g.full as u8, doubts, n) {
         return 8;
     }
-    if is_half_read(plan.full as u8, symbols, doubts, n) {
+    if is_half_read(g.full as u8, symbols, doubts, n) {
         return 8;
     }
     0
@@ -100,33 +105,33 @@ pub fn measure_number(
         return number;
     }
     let said = plan::parse(plan);
-    if is_overflowing(said.p as u8, record, record.len()) {
+    if is_overflowing(said.grid.p as u8, record, record.len()) {
         return 9;
     }
     0
 }
 
-// How many coefficients a record of the plan has.
-fn record_size(square: bool, plan: Plan) -> usize
-    requires { ⌜ Ready plan ⌝ }
-    ensures { λ r. ⌜ r ≡ sizeOf square plan ⌝ }
+// How many coefficients a record on the grid has.
+fn record_size(square: bool, g: Grid) -> usize
+    requires { ⌜ Fit g ⌝ }
+    ensures { λ r. ⌜ r ≡ sizeOf square g ⌝ }
 {
-    let k = plan.d + 1;
+    let k = g.d + 1;
     if square {
         return start(k);
     }
     k
 }
 
-// How many cells a mark of the plan has.
-fn cell_count(square: bool, plan: Plan) -> usize
-    requires { ⌜ Ready plan ⌝ }
-    ensures { λ r. ⌜ r ≡ cellsOf square plan ⌝ }
+// How many cells its mark has.
+fn cell_count(square: bool, g: Grid) -> usize
+    requires { ⌜ Fit g ⌝ }
+    ensures { λ r. ⌜ r ≡ cellsOf square g ⌝ }
 {
     if square {
-        return plan.a * plan.b;
+        return g.a * g.b;
     }
-    plan.a
+    g.a
 }
 
 // Whether a symbol is p or more and not that of an unread cell.

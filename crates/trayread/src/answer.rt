@@ -59,13 +59,13 @@ fn answer_photo(input: &[u8], text: &mut [u8]) -> usize
 {
     let plan = &input[..24];
     let said = plan::parse(plan);
-    let cells = said.a * said.b;
+    let cells = said.grid.a * said.grid.b;
     let end = 24 + cells;
     if input.len() != end + cells {
         return lines::put_refused(text, 6);
     }
     let mut record = [0u8; 136];
-    let size = start(said.d + 1);
+    let size = start(said.grid.d + 1);
     answer_mark(
         said.season as u32,
         plan,

@@ -1,6 +1,7 @@
 // The mark or the strip of a record, written into a lent buffer where nothing is refused.
 use field::bytes;
 use plan::Plan;
+use polynomial::Grid;
 use polynomial::bivariate;
 use polynomial::evaluation;
 ghost use mathlib.Core.Path.{_≡_};
@@ -10,33 +11,35 @@ ghost use lib.ListN.{length};
 ghost use Rattle.bounded.specs.Bounded.{at, tab};
 ghost use Rattle.polynomial.specs.Record.{gridValue};
 ghost use Rattle.polynomial.specs.Powers.{Rows, Powers, Columns};
+ghost use Rattle.polynomial.specs.Fit.{Fit};
 ghost use Rattle.definitions.specs.Code.{strip as stripCode, square, mark as markOf};
 ghost use Rattle.definitions.specs.Sound.{Sound};
 ghost use Rattle.definitions.specs.Accepted.{Writing};
-ghost use Rattle.plan.specs.Says.{Says, Ready};
+ghost use Rattle.plan.specs.Says.{Says};
 
 // Fills the mark. Rows and columns have the same points: one table of powers serves both.
 pub fn write_mark(plan: Plan, record: &[u8], mark: &mut [u8])
     requires { ⌜ ((P : List ℕ) × Says P plan × Writing square P (now «record») (now mark)) ⌝ }
     ensures { λ _. ⌜ ((P : List ℕ) → Says P plan → Sound P → now (mark .exit) ≡ markOf square P (now («record» .entry))) ⌝ }
 {
-    let x = plan.x;
-    let powers = evaluation::powers(x, plan.d, plan.p, plan.m);
-    let columns = bivariate::columns(record, &powers, plan.d, plan.p, plan.m);
-    write_rows(plan, &columns, &powers, mark);
+    let g = plan.grid;
+    let x = g.x;
+    let powers = evaluation::powers(x, g.d, g.p, g.m);
+    let columns = bivariate::columns(record, &powers, g.d, g.p, g.m);
+    write_rows(g, &columns, &powers, mark);
 }
 
 // Its rows, one after the other, each into its own part of the mark. X was put in for all rows at once, which gave the columns.
-fn write_rows(plan: Plan, columns: &[[u16; 16]; 16], ys: &[[u16; 16]; 16], mark: &mut [u8])
-    requires { ⌜ Ready plan × Rows (plan .p) (now columns) × Rows (plan .p) (now ys) × (length (now mark) ≡ plan .a * plan .b) ⌝ }
-    ensures { λ _. ⌜ ((x y F : List ℕ) → Columns (plan .p) (plan .d) x F (now (columns .entry)) →
-        Powers (plan .p) y (plan .d) (now (ys .entry)) →
-        now (mark .exit) ≡ tab (plan .a * plan .b) (gridValue (plan .p) (plan .d) (plan .b) (at x) (at y) F)) ⌝ }
+fn write_rows(g: Grid, columns: &[[u16; 16]; 16], ys: &[[u16; 16]; 16], mark: &mut [u8])
+    requires { ⌜ Fit g × Rows (g .p) (now columns) × Rows (g .p) (now ys) × (length (now mark) ≡ g .a * g .b) ⌝ }
+    ensures { λ _. ⌜ ((x y F : List ℕ) → Columns (g .p) (g .d) x F (now (columns .entry)) →
+        Powers (g .p) y (g .d) (now (ys .entry)) →
+        now (mark .exit) ≡ tab (g .a * g .b) (gridValue (g .p) (g .d) (g .b) (at x) (at y) F)) ⌝ }
 {
-    let a = plan.a;
-    let b = plan.b;
+    let a = g.a;
+    let b = g.b;
     for r in 0..a {
-        let values = bivariate::row_values(columns, ys, r, plan.d, plan.p, plan.m);
+        let values = bivariate::row_values(columns, ys, r, g.d, g.p, g.m);
         let at = r * b;
         let end = at + b;
         bytes::store(&mut mark[at..end], &values);
@@ -49,8 +52,9 @@ pub fn write_strip(plan: Plan, record: &[u8], strip: &mut [u8])
     ensures { λ _. ⌜ ((P : List ℕ) → Says P plan → Writing stripCode P (now («record» .entry)) (now (strip .entry)) →
         now (strip .exit) ≡ markOf stripCode P (now («record» .entry))) ⌝ }
 {
-    let x = plan.x;
-    let xs = evaluation::powers(x, plan.d, plan.p, plan.m);
-    let values = evaluation::values(&xs, plan.d, bytes::row(record), plan.p, plan.m);
+    let g = plan.grid;
+    let x = g.x;
+    let xs = evaluation::powers(x, g.d, g.p, g.m);
+    let values = evaluation::values(&xs, g.d, bytes::row(record), g.p, g.m);
     bytes::store(strip, &values);
 }

@@ -12,17 +12,17 @@ use Rattle.measuring.proofs.measure_mark.Tie as tie
 columns-requires : tie.Need-columns-requires
 columns-requires c κs =
     let powers = c .before in
-    let (P, says, photo, given) = powers .before .before .before .before .before .pre in
+    let (P, says, photo, given) = powers .before .before .before .before .before .before .pre in
     let S = sound P (photo .sound) in
-    let g = ready S says in
+    let g = ready S says .fit in
     (g .reciprocal, powers .powers .ensures .0, record-word S says given, omega (arith, g .low, g .rows))
 
 measure-rows-requires : tie.Need-measure-rows-requires
 measure-rows-requires c κs =
     let columns = c .before .before in
     let powers = columns .before .before in
-    let (P, says, photo, given) = powers .before .before .before .before .before .pre in (
-      ready (sound P (photo .sound)) says,
+    let (P, says, photo, given) = powers .before .before .before .before .before .before .pre in (
+      ready (sound P (photo .sound)) says .fit,
       columns .columns .ensures .0,
       powers .powers .ensures .0,
       photo .symbols ∙ mark-cells says,
@@ -33,8 +33,8 @@ measure-rows-requires c κs =
 radius-requires : tie.Need-radius-requires
 radius-requires c κs =
     let powers = c .before .before .before .before .before in
-    let (P, says, photo, given) = powers .before .before .before .before .before .pre in
-    let g = ready (sound P (photo .sound)) says in
+    let (P, says, photo, given) = powers .before .before .before .before .before .before .pre in
+    let g = ready (sound P (photo .sound)) says .fit in
     (omega (arith, g .full), g .rows, g .columns, omega (arith, g .low), omega (arith, g .narrow))
 
 returns : tie.Need-returns
@@ -42,8 +42,8 @@ returns c = λ P says photo.
     let tally = c .before .before in
     let columns = tally .before .before .before in
     let powers = columns .before .before in
-    let given = powers .before .before .before .before .before .args in
-    let g = given .plan in
+    let given = powers .before .before .before .before .before .before .args in
+    let g = given .plan .grid in
     let S = sound P (photo .sound) in
     let made = powers .powers .ensures .1 in
     c .reading .ensures ∙ reading-is _ _ _ _ _ (mark-radius S says (c .before .radius .ensures .0))
@@ -55,8 +55,8 @@ measure-mark-spec =
     tie.close
     (tie.spec
     (λ c κs.
-    let (P, says, photo, given) = c .before .before .before .before .pre in
-    let g = ready (sound P (photo .sound)) says in
+    let (P, says, photo, given) = c .before .before .before .before .before .pre in
+    let g = ready (sound P (photo .sound)) says .fit in
     (g .reciprocal, g .rowPoints, omega (arith, g .low, g .rows)))
     columns-requires
     measure-rows-requires

@@ -31,7 +31,7 @@ measure-row-requires c κs =
     let test = c .before .before .before in
     let r = test .before .loop .r in
     let start = test .before .before .before .before in
-    let b = start .args .plan .b in
+    let b = start .args .g .b in
     let h = row-in r _ b (test .loop-test .taken) in
     let s = part-length (r * b) b (start .args .symbols .now) (omega (arith, start .pre .3, h)) in
     let u = part-length (r * b) b (start .args .doubts .now) (omega (arith, start .pre .4, h)) in (
@@ -50,7 +50,7 @@ loop-again c =
     let test = values .before in
     let l = test .before .loop in
     let start = test .before .before .before .before in
-    let g = start .args .plan in
+    let g = start .args .g in
     let t = tally .measure-row .ensures in
     let h = row-in (l .r) _ (g .b) (test .loop-test .taken) in (
       omega arith,
@@ -66,7 +66,7 @@ returns : tie.Need-returns Inv-loop μ-loop
 returns c =
     let l = c .before .loop in
     let start = c .before .before .before .before in
-    let e : l .r ≡ start .args .plan .a = omega arith in
+    let e : l .r ≡ start .args .g .a = omega arith in
     (omega (arith, l .inv .1, start .pre .0 .rows), λ x y F C P. rw e at (l .inv .3 x y F C P))
 
 pub measure-rows-spec : {M : Type 1} → statement M
@@ -80,18 +80,18 @@ measure-rows-spec =
     let b = c .before .before .before .before .pre in
     (b .0 .reciprocal, b .1, b .2, omega (arith, b .0 .rows), omega (arith, b .0 .low, b .0 .rows)))
     (λ c.
-    let b = c .before .before .before .before .before .args .plan .b in
+    let b = c .before .before .before .before .before .args .g .b in
     omega (arith, row-in _ _ b (c .before .loop-test .taken)))
     (λ c.
-    let b = c .before .before .before .before .before .args .plan .b in
-    omega (arith, row-in _ _ b (c .before .loop-test .taken)))
-    (λ c. search needs) (λ c. search needs)
-    (λ c.
-    let b = c .before .before .before .before .before .args .plan .b in
+    let b = c .before .before .before .before .before .args .g .b in
     omega (arith, row-in _ _ b (c .before .loop-test .taken)))
     (λ c. search needs) (λ c. search needs)
     (λ c.
-    let b = c .before .before .before .before .before .before .args .plan .b in
+    let b = c .before .before .before .before .before .args .g .b in
+    omega (arith, row-in _ _ b (c .before .loop-test .taken)))
+    (λ c. search needs) (λ c. search needs)
+    (λ c.
+    let b = c .before .before .before .before .before .before .args .g .b in
     omega (arith, row-in _ _ b (c .before .before .loop-test .taken)))
     measure-row-requires
     (λ c. search needs) (λ c. search needs) (λ c. search needs) (λ c. search needs)

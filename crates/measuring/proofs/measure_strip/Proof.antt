@@ -12,16 +12,16 @@ use Rattle.measuring.proofs.measure_strip.Tie as tie
 values-requires : tie.Need-values-requires
 values-requires c κs =
     let xs = c .before .before in
-    let (P, says, photo, given) = xs .before .before .before .before .before .pre in
+    let (P, says, photo, given) = xs .before .before .before .before .before .before .pre in
     let S = sound P (photo .sound) in
-    let g = ready S says in
+    let g = ready S says .fit in
     (g .reciprocal, xs .powers .ensures .0, record-row S says given (c .row .ensures), omega (arith, g .low, g .rows))
 
 measure-row-requires : tie.Need-measure-row-requires
 measure-row-requires c κs =
-    let (P, says, photo, given) = c .before .before .before .before .before .before .before .before .pre in
+    let (P, says, photo, given) = c .before .before .before .before .before .before .before .before .before .pre in
     let S = sound P (photo .sound) in
-    let g = ready S says in (
+    let g = ready S says .fit in (
       omega (arith, photo .symbols, S .most),
       photo .doubts ∙ sym (photo .symbols),
       omega (arith, g .full),
@@ -33,29 +33,29 @@ returns c = λ P says photo.
     let tally = c .before .before in
     let values = tally .before in
     let xs = values .before .before .before in
-    let given = xs .before .before .before .before .before .args in
+    let given = xs .before .before .before .before .before .before .args in
     let S = sound P (photo .sound) in
     c .reading .ensures ∙ reading-is _ _ _ _ _ (strip-radius S says (c .before .radius .ensures .0))
     (strip-measured photo says (strip-values S says (given .«record» .now) (values .before .row .ensures)
-    (values .values .ensures .1 (given .plan .x) (xs .powers .ensures .1))) (tally .measure-row .ensures .0))
+    (values .values .ensures .1 (given .plan .grid .x) (xs .powers .ensures .1))) (tally .measure-row .ensures .0))
 
 pub measure-strip-spec : {M : Type 1} → statement M
 measure-strip-spec =
     tie.close
     (tie.spec
     (λ c κs.
-    let (P, says, photo, given) = c .before .before .before .before .pre in
-    let g = ready (sound P (photo .sound)) says in
+    let (P, says, photo, given) = c .before .before .before .before .before .pre in
+    let g = ready (sound P (photo .sound)) says .fit in
     (g .reciprocal, g .rowPoints, omega (arith, g .low, g .rows)))
     (λ c κs.
-    let (P, says, photo, given) = c .before .before .before .before .before .before .pre in
+    let (P, says, photo, given) = c .before .before .before .before .before .before .before .pre in
     let S = sound P (photo .sound) in
     omega (arith, given .size, S .low, S .most))
     values-requires
     measure-row-requires
     (λ c κs.
-    let (P, says, photo, given) = c .before .before .before .before .before .before .before .before .before .pre in
-    let g = ready (sound P (photo .sound)) says in
+    let (P, says, photo, given) = c .before .before .before .before .before .before .before .before .before .before .pre in
+    let g = ready (sound P (photo .sound)) says .fit in
     (omega (arith, g .full), omega arith, g .rows, omega (arith, g .low)))
     (λ c κs. (c .radius .ensures .1, omega (arith, c .before .measure-row .ensures .1)))
     returns)

@@ -7,12 +7,11 @@ use Rattle.plan.proofs.parse.Tie as tie
 
 returns : tie.Need-returns
 returns c =
-    let inverse = c .before in
-    let season = inverse .before in
-    let points = season .before .before .before in
+    let inverse = c .before .before .before .before in
+    let points = inverse .before in
     let P = points .before .before .before .before .before .args .plan .now in record {
       m = inverse .reciprocal .result;
-      fields = rw (season .season-of .ensures, points-loaded P (points .row .ensures)) refl;
+      fields = rw (c .season-of .ensures, points-loaded P (points .row .ensures)) refl;
       reciprocal = inverse .reciprocal .ensures;
     }
 
@@ -21,6 +20,6 @@ parse-spec =
     tie.close
     (tie.spec
     (λ c. search needs) (λ c. search needs) (λ c. search needs) (λ c. search needs) (λ c. search needs) (λ c. search needs)
-    (λ c. search needs) (λ c κs. search needs) (λ c. search needs) (λ c. search needs) (λ c κs. search needs)
-    (λ c κs. search needs) (λ c. search needs) (λ c. search needs)
+    (λ c. search needs) (λ c κs. search needs) (λ c κs. search needs) (λ c. search needs) (λ c. search needs)
+    (λ c. search needs) (λ c. search needs) (λ c κs. search needs)
     returns)

@@ -43,7 +43,7 @@ loop-again c =
     let values = part .before in
     let l = values .before .before .loop in
     let start = values .before .before .before .before in
-    let g = start .args .plan in
+    let g = start .args .g in
     let last = stored .store .ensures
     ∙ ap (λ k. tab k (at (values .row-values .result))) (sym (part .store-arg .given .1) ∙ add-sub-cancel-left _ _) in (
       omega arith,
@@ -57,7 +57,7 @@ loop-again c =
 returns : tie.Need-returns Inv-loop μ-loop
 returns c =
     let start = c .before .before .before in
-    let e : c .before .loop .r ≡ start .args .plan .a = omega arith in
+    let e : c .before .loop .r ≡ start .args .g .a = omega arith in
     λ x y F C P. rw e at (c .before .loop .inv .2 x y F C P) ∙ tab-whole _ _ _ (start .pre .3)
 
 pub write-rows-spec : {M : Type 1} → statement M
@@ -72,14 +72,14 @@ write-rows-spec =
     (b .0 .reciprocal, b .1, b .2, omega (arith, b .0 .rows), omega (arith, b .0 .low, b .0 .rows)))
     (λ c.
     let start = c .before .before .before .before in
-    omega (arith, row-in _ _ (start .args .plan .b) (c .before .loop-test .taken)))
+    omega (arith, row-in _ _ (start .args .g .b) (c .before .loop-test .taken)))
     (λ c.
     let start = c .before .before .before .before in
-    omega (arith, row-in _ _ (start .args .plan .b) (c .before .loop-test .taken)))
+    omega (arith, row-in _ _ (start .args .g .b) (c .before .loop-test .taken)))
     (λ c. search needs) (λ c. search needs)
     (λ c.
     let start = c .before .before .before .before in
-    omega (arith, row-in _ _ (start .args .plan .b) (c .before .loop-test .taken)))
+    omega (arith, row-in _ _ (start .args .g .b) (c .before .loop-test .taken)))
     (λ c. search needs)
     store-requires
     (λ c. search needs) (λ c. search needs)

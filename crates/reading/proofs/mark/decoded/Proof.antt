@@ -14,15 +14,15 @@ decode-requires c κs =
     let symbols = c .before .before .before in
     let table = symbols .before in
     let doubts = table .before in
-    let (P, says, t) = doubts .before .before .before .before .before .before .pre in
+    let (P, says, t) = doubts .before .before .before .before .before .pre in
     let h = mark-received says t (symbols .residue-rows .ensures) (doubts .doubt-rows .ensures) in
-    (h .0, h .1, h .2, table .inverses .ensures, refl)
+    (ready (t .sound) says .fit, h .0, h .1, table .inverses .ensures, refl)
 
 radius-requires : tie.Need-radius-requires
 radius-requires c κs =
     let doubts = c .before .before .before .before .before .before in
-    let (P, says, t) = doubts .before .before .before .before .before .before .pre in
-    let g = ready (t .sound) says in
+    let (P, says, t) = doubts .before .before .before .before .before .pre in
+    let g = ready (t .sound) says .fit in
     (omega (arith, g .full), g .rows, g .columns, omega (arith, g .low), omega (arith, g .narrow))
 
 refuses : tie.Need-returns
@@ -39,7 +39,7 @@ store-requires c κs =
     let decoded = radius .before in
     let symbols = decoded .before .before .before .before in
     let doubts = symbols .before .before in
-    let (P, says, t) = doubts .before .before .before .before .before .before .pre in (
+    let (P, says, t) = doubts .before .before .before .before .before .pre in (
       omega (arith, record-room t .1, decoded .decode .ensures .1),
       message-small says t (symbols .residue-rows .ensures) (doubts .doubt-rows .ensures) (decoded .decode .ensures .0)
           (radius .radius .ensures .0) (omega (arith, c .before .before .if1 .left)),
@@ -49,8 +49,8 @@ changed-cells-requires : tie.Need-changed-cells-requires
 changed-cells-requires c κs =
     let decoded = c .before .before .before .before .before .before .before .before in
     let doubts = decoded .before .before .before .before .before .before in
-    let (P, says, t) = doubts .before .before .before .before .before .before .pre in
-    let g = ready (t .sound) says in
+    let (P, says, t) = doubts .before .before .before .before .before .pre in
+    let g = ready (t .sound) says .fit in
     (g .rows, g .columns, t .photo .symbols ∙ mark-cells says)
 
 returns-2 : tie.Need-returns-2
@@ -70,16 +70,16 @@ decoded-spec =
     tie.close
     (tie.spec
     (λ c κs.
-    let (P, says, t) = c .before .before .before .before .before .pre in
-    let g = ready (t .sound) says in
+    let (P, says, t) = c .before .before .before .before .pre in
+    let g = ready (t .sound) says .fit in
     (g .rows, g .columns, t .photo .doubts ∙ mark-cells says))
     (λ c κs.
-    let (P, says, t) = c .before .before .before .before .before .before .pre in
-    let g = ready (t .sound) says in
+    let (P, says, t) = c .before .before .before .before .before .pre in
+    let g = ready (t .sound) says .fit in
     (g .prime, g .reciprocal .most, g .reciprocal))
     (λ c κs.
-    let (P, says, t) = c .before .before .before .before .before .before .before .pre in
-    let g = ready (t .sound) says in
+    let (P, says, t) = c .before .before .before .before .before .before .pre in
+    let g = ready (t .sound) says .fit in
     (g .rows, g .columns, t .photo .symbols ∙ mark-cells says))
     decode-requires
     radius-requires

@@ -8,8 +8,8 @@ use Rattle.reading.proofs.mark.read_mark.Tie as tie
 
 radius-requires : tie.Need-radius-requires
 radius-requires c κs =
-    let (P, says, t) = c .before .before .before .before .pre in
-    let g = ready (t .sound) says in
+    let (P, says, t) = c .before .before .before .before .before .pre in
+    let g = ready (t .sound) says .fit in
     (omega (arith, g .full), g .rows, g .columns, omega (arith, g .low), omega (arith, g .narrow))
 
 returns : tie.Need-returns
@@ -25,10 +25,10 @@ pub read-mark-spec : {M : Type 1} → statement M
 read-mark-spec =
     tie.close
     (tie.spec
-    (λ c κs. let (P, says, t) = c .before .before .before .pre in omega (arith, cells-most (t .sound), t .photo .doubts))
+    (λ c κs. let (P, says, t) = c .before .before .before .before .pre in omega (arith, cells-most (t .sound), t .photo .doubts))
     radius-requires
     (λ c κs. search needs)
     returns
-    (λ c κs. c .before .before .before .before .before .before .before .pre)
+    (λ c κs. c .before .before .before .before .before .before .before .before .pre)
     (λ c. search needs)
     returns-2)

@@ -13,7 +13,7 @@ decode-requires c κs =
     let table = c .before in
     let doubts = table .before in
     let symbols = doubts .before in
-    let (P, says, t) = symbols .before .before .before .before .before .pre in
+    let (P, says, t) = symbols .before .before .before .before .before .before .pre in
     (strip-received t (symbols .residue-row .ensures) (doubts .wide-row .ensures) says, table .inverses .ensures)
 
 refuses : tie.Need-returns
@@ -28,8 +28,8 @@ store-requires : tie.Need-store-requires
 store-requires c κs =
     let decoded = c .before .before .before .before .before .before in
     let symbols = decoded .before .before .before .before in
-    let (P, says, t) = symbols .before .before .before .before .before .pre in
-    let g = ready (t .sound) says in (
+    let (P, says, t) = symbols .before .before .before .before .before .before .pre in
+    let g = ready (t .sound) says .fit in (
       omega (arith, t .room, t .sound .low, t .sound .most, decoded .decode .ensures .small .size),
       λ j _. omega (arith, decoded .decode .ensures .small .small j, g .reciprocal .most),
     )
@@ -39,8 +39,8 @@ radius-requires c κs =
     let stored = c .before .before .before .before in
     let decoded = stored .before .before .before .before .before .before .before in
     let symbols = decoded .before .before .before .before in
-    let (P, says, t) = symbols .before .before .before .before .before .pre in
-    let g = ready (t .sound) says in
+    let (P, says, t) = symbols .before .before .before .before .before .before .pre in
+    let g = ready (t .sound) says .fit in
     (omega (arith, g .full), omega arith, g .rows, omega (arith, g .low))
 
 reading-requires : tie.Need-reading-requires
@@ -50,7 +50,7 @@ reading-requires c κs =
     let decoded = test .before .before in
     let doubts = decoded .before .before .before in
     let symbols = doubts .before in
-    let (P, says, t) = symbols .before .before .before .before .before .pre in (
+    let (P, says, t) = symbols .before .before .before .before .before .before .pre in (
       c .radius .ensures .1,
       strip-under t (symbols .residue-row .ensures) (doubts .wide-row .ensures) says (decoded .decode .ensures)
           (negated _ (test .if1 .left)),
@@ -73,11 +73,11 @@ pub read-strip-spec : {M : Type 1} → statement M
 read-strip-spec =
     tie.close
     (tie.spec
-    (λ c κs. let (P, says, t) = c .before .before .before .before .pre in omega (arith, t .photo .symbols, t .sound .most))
-    (λ c κs. let (P, says, t) = c .before .before .before .before .before .pre in omega (arith, t .photo .doubts, t .sound .most))
+    (λ c κs. let (P, says, t) = c .before .before .before .before .before .pre in omega (arith, t .photo .symbols, t .sound .most))
+    (λ c κs. let (P, says, t) = c .before .before .before .before .before .before .pre in omega (arith, t .photo .doubts, t .sound .most))
     (λ c κs.
-    let (P, says, t) = c .before .before .before .before .before .before .pre in
-    let g = ready (t .sound) says in
+    let (P, says, t) = c .before .before .before .before .before .before .before .pre in
+    let g = ready (t .sound) says .fit in
     (g .prime, g .reciprocal .most, g .reciprocal))
     decode-requires
     (λ c κs. search needs)
@@ -87,13 +87,13 @@ read-strip-spec =
     (λ c κs.
     let stored = c .before .before in
     let decoded = stored .before .before .before .before .before .before .before in
-    let (P, says, t) = decoded .before .before .before .before .before .before .before .before .before .pre in
+    let (P, says, t) = decoded .before .before .before .before .before .before .before .before .before .before .pre in
     omega (arith, t .photo .symbols, t .sound .most))
     (λ c κs.
     let stored = c .before .before .before in
     let decoded = stored .before .before .before .before .before .before .before in
-    let (P, says, t) = decoded .before .before .before .before .before .before .before .before .before .pre in
-    ready (t .sound) says .rows)
+    let (P, says, t) = decoded .before .before .before .before .before .before .before .before .before .before .pre in
+    ready (t .sound) says .fit .rows)
     radius-requires
     reading-requires
     (λ c. search needs)

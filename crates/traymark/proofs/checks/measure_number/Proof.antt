@@ -38,7 +38,7 @@ measure-number-spec =
     (λ c κs. sound _ (accepted-photo _ _ _ _ _ (sym (c .before .photo-number .ensures) ∙ c .if1 .left) .sound))
     (λ c. let test = c .before .before in
     let S = sound _ (accepted-photo _ _ _ _ _ (sym (test .before .photo-number .ensures) ∙ test .if1 .left) .sound) in
-    omega (arith, ready S (c .before .parse .ensures) .reciprocal .most))
+    omega (arith, ready S (c .before .parse .ensures) .fit .reciprocal .most))
     (λ c κs. search needs)
     returns-2
     returns-3)

@@ -10,6 +10,8 @@ use lib.Seq.{take-all}
 use borrow.Author.Needs.{needs}
 use Rattle.definitions.specs.Plan.{season, degree}
 use Rattle.definitions.specs.Code.{square, size, cells}
+use Rattle.polynomial.specs.declared.Grid.{Grid}
+use Rattle.polynomial.specs.Fit.{Fit}
 use Rattle.polynomial.specs.Record.{start}
 use Rattle.definitions.specs.Sound.{Sound}
 use Rattle.definitions.specs.Tray.{planOf, bufferOf, trayReading, trayRecord}
@@ -17,7 +19,7 @@ use Rattle.definitions.specs.Printed.{trayText}
 use Rattle.definitions.proofs.Sound.{sound}
 use Rattle.definitions.proofs.Tray.{count-text}
 use Rattle.plan.specs.declared.Plan.{Plan}
-use Rattle.plan.specs.Says.{Says, Ready}
+use Rattle.plan.specs.Says.{Says}
 use Rattle.plan.proofs.Ready.{ready}
 use Rattle.plan.proofs.Values.{mark-cells}
 use Rattle.polynomial.proofs.Record.{start-next, start-most}
@@ -49,9 +51,12 @@ module _ (s : tie.Start) where
   cut n e = rw e (zeros (size square (planOf input)) 136 size-most)
 
   -- what the plan's struct says
-  module _ {g : Plan} (says : Says (planOf input) g) where
-    fits : Ready g
-    fits = ready plan says
+  module _ {said : Plan} (says : Says (planOf input) said) where
+    abbrev g : Grid
+    g = said .grid
+
+    fits : Fit g
+    fits = ready plan says .fit
 
     cells-most : g .a * g .b ≤ 256
     cells-most = mul-le-mul (fits .rows) (fits .columns)
@@ -59,7 +64,7 @@ module _ (s : tie.Start) where
     size-is : {n : ℕ} → n ≡ start (g .d + 1) → n ≡ size square (planOf input)
     size-is e = rw (says .fields) at e
 
-    season-is : g .season ≡ season (planOf input)
+    season-is : said .season ≡ season (planOf input)
     season-is = rw (says .fields) refl
 
 returns : tie.Need-returns
