@@ -57,7 +57,8 @@ answer-spec =
     let (_, rows, both) = l .inv in
     let h : l .r < 16 = omega (arith, f .rows) in
     let K = both .todo (l .r) (omega arith) (turn .loop-test .taken) in
+    let doubts = du _ (turn .loop-test .taken) in
     ⊎-elim (λ w. rw (w .5, w .6) (omega arith, upto-put _ h (w .3 .ensures .good) rows, both-step _ _ h (w .3 .ensures) both))
-    (λ w. rw (w .1, w .2) (omega arith, rows, both-pass (answered-kept (line-valid f low) (du _ (turn .loop-test .taken)) (w .0 .left) K) both))
+    (λ w. rw (w .1, w .2) (omega arith, rows, both-pass (answered-kept (line-valid f low) doubts (w .0 .left) K) both))
     (c .if1 .came))
     returns)
