@@ -7,8 +7,7 @@
 --                       row r of what is left, less the column's value there times Y^t
 --   Drawn g k s u left columns
 --                       the columns of Y^k and higher are subtracted, whatever they are
---   limit g, left-over g u left
---                       the radius of the grid, and what is left, measured
+--   left-over g u left  what is left, measured
 --   Completed g t u columns left left′ cost
 --                       under the radius: what all columns leave costs so much, if those of Y^t and higher were subtracted; else
 --                       what is left is as it was
@@ -20,9 +19,9 @@ use Prim.Native.Nat.{ℕ, suc, _+_, _*_, _-_, _%_, _≤_, _<_}
 use Rattle.bounded.specs.Bounded.{at}
 use Rattle.field.specs.Row.{row}
 use Rattle.polynomial.specs.Eval.{eval}
-use Rattle.polynomial.specs.Distance.{gridDistance}
 use Rattle.polynomial.specs.Powers.{Rows}
 use Rattle.polynomial.specs.declared.Grid.{Grid}
+use Rattle.polynomial.specs.Fit.{gridRadius}
 use Rattle.grid.specs.Line.{Subtracted}
 use Rattle.grid.specs.Cost.{remaining, lines, GridCosts}
 use Rattle.grid.specs.Rest.{Rest}
@@ -47,13 +46,10 @@ pub record Drawn (g : Grid) (k : ℕ) (s u left columns : List (List ℕ)) : Typ
   pub rest : Rest (g .p - 1) (g .a) (g .b) (g .d) (at (g .y)) k (cellAt s) (cellAt left)
       (lines (g .d) (at (g .x)) (found columns))
 
-abbrev pub limit : Grid → ℕ
-limit g = g .full * gridDistance (g .a) (g .b) (g .d)
-
 abbrev pub left-over : Grid → (u left : List (List ℕ)) → ℕ
 left-over g u left = remaining (g .full) (g .a) (g .b) (cellAt u) (cellAt left)
 
 pub record Completed (g : Grid) (t : ℕ) (u columns left left′ : List (List ℕ)) (cost : ℕ) : Type 0 where
-  pub under : cost < limit g → (cost ≡ left-over g u left′) ×
+  pub under : cost < gridRadius g → (cost ≡ left-over g u left′) ×
       ((s : List (List ℕ)) → Drawn g t s u left columns → Drawn g 0 s u left′ columns)
-  pub over : limit g ≤ cost → left′ ≡ left
+  pub over : gridRadius g ≤ cost → left′ ≡ left

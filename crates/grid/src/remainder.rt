@@ -1,11 +1,8 @@
 // What is left of a mark's symbols: a column is subtracted from it, and it is measured.
 use distance::word;
 use polynomial::Grid;
-use polynomial::limit;
 ghost use mathlib.Core.Path.{_≡_};
-ghost use Prim.Native.Nat.{_*_};
 ghost use Rattle.field.specs.Row.{Row};
-ghost use Rattle.polynomial.specs.Distance.{gridDistance};
 ghost use Rattle.polynomial.specs.Powers.{Rows};
 ghost use Rattle.polynomial.specs.Fit.{Fit};
 ghost use Rattle.grid.specs.Axes.{DoubtRows};
@@ -43,12 +40,4 @@ pub fn measure(g: Grid, left: &[[u16; 16]; 16], doubts: &[[u32; 16]; 16]) -> u32
         r += 1;
     }
     sum
-}
-
-// The full doubt times the least number of cells in which two records differ, max(a, b) (min(a, b) - d).
-pub fn radius(g: Grid) -> u32
-    requires { ⌜ Fit g ⌝ }
-    ensures { λ r. ⌜ r ≡ g .full * gridDistance (g .a) (g .b) (g .d) ⌝ }
-{
-    limit::radius(g.full, g.a, g.b, g.d)
 }

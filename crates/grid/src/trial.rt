@@ -2,6 +2,7 @@
 use crate::remainder;
 use polynomial::Grid;
 use polynomial::evaluation;
+use polynomial::limit;
 ghost use mathlib.Core.List.{List};
 ghost use Prim.Native.Nat.{ℕ, suc, _≤_};
 ghost use Rattle.polynomial.specs.Powers.{Rows, Powers};
@@ -50,7 +51,7 @@ pub fn complete(
     let before = *left;
     subtract_below(g, &xs, &ys, t, columns, left);
     let cost = remainder::measure(g, left, doubts);
-    if cost >= remainder::radius(g) {
+    if cost >= limit::radius(g) {
         *left = before;
     }
     cost

@@ -34,7 +34,7 @@ pub fn measure_mark(plan: Plan, record: &[u8], symbols: &[u8], doubts: &[u8]) ->
     let powers = evaluation::powers(x, g.d, g.p, g.m);
     let columns = bivariate::columns(record, &powers, g.d, g.p, g.m);
     let tally = measure_rows(g, &columns, &powers, symbols, doubts);
-    let radius = limit::radius(g.full, g.a, g.b, g.d);
+    let radius = limit::radius(g);
     answers::reading(radius, tally.cost, tally.changed)
 }
 

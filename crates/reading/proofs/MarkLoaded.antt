@@ -28,6 +28,7 @@ use Rattle.polynomial.specs.Record.{coef, onRow}
 use Rattle.polynomial.specs.Distance.{gridDistance}
 use Rattle.polynomial.specs.Powers.{Rows}
 use Rattle.polynomial.specs.declared.Grid.{Grid}
+use Rattle.polynomial.specs.Fit.{gridRadius}
 use Rattle.polynomial.proofs.Record.{value-rows, start-next, start-most, start-below}
 use Rattle.polynomial.proofs.Distance.{distance-square}
 use Rattle.plan.specs.declared.Plan.{Plan}
@@ -39,7 +40,6 @@ use Rattle.grid.specs.Axes.{DoubtRows}
 use Rattle.grid.specs.Loops.{cellAt}
 use Rattle.reed_muller.specs.Mark.{LoadedGrid}
 use Rattle.reed_muller.specs.Outcome.{Outcome, under}
-use Rattle.grid.specs.Drawn.{limit}
 use Rattle.reading.proofs.MarkReading.{mark-none, mark-record, mark-cost, mark-found}
 use Rattle.reading.specs.Loading.{residue, gridCell, SymbolRows, DoubtLines, Taken}
 use Rattle.reading.specs.Changed.{flag, changedCells}
@@ -102,7 +102,7 @@ module _ {P s u B : List ℕ} {left u′ : List (List ℕ)} (t : Taken square P 
   -- what the decoder answers, and what it leaves
   module _ {m g : ℕ} {after : List (List ℕ)} {w : List ℕ}
       (D : Outcome (said P m .grid) left u′ after (under (said P m .grid) g) w g) where
-    limit-is : limit (said P m .grid) ≡ radius full square P
+    limit-is : gridRadius (said P m .grid) ≡ radius full square P
     limit-is = omega (arith, ap (λ n. full * n) (distance-square (side P) (degree P)))
 
     refused-said : radius full square P ≤ g → Reads square P s u B (refused 10) B

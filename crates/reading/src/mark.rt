@@ -84,7 +84,7 @@ fn decoded(plan: Plan, symbols: &[u8], doubts: &[u8], record: &mut [u8]) -> Read
     let mut message = [0; 136];
     let mut cost = 0;
     let left = decode(g, &table, s, u, &mut message, &mut cost);
-    let radius = limit::radius(g.full, g.a, g.b, g.d);
+    let radius = limit::radius(g);
     if cost >= radius {
         return answers::refused(10);
     }
@@ -102,7 +102,7 @@ pub fn read_mark(plan: Plan, symbols: &[u8], doubts: &[u8], record: &mut [u8]) -
         Reads square P (now (symbols .entry)) (now (doubts .entry)) (now («record» .entry)) r (now («record» .exit))) ⌝ }
 {
     let g = plan.grid;
-    if total(doubts) >= limit::radius(g.full, g.a, g.b, g.d) {
+    if total(doubts) >= limit::radius(g) {
         return answers::refused(10);
     }
     decoded(plan, symbols, doubts, record)

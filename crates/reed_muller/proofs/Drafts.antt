@@ -17,8 +17,9 @@ use Rattle.field.proofs.Congruence.{same, ~sym, _⨾_}
 use Rattle.polynomial.specs.Eval.{eval}
 use Rattle.polynomial.specs.Powers.{Rows}
 use Rattle.polynomial.specs.declared.Grid.{Grid}
+use Rattle.polynomial.specs.Fit.{gridRadius}
 use Rattle.grid.specs.Cost.{lines}
-use Rattle.grid.specs.Drawn.{found, limit, Drawn, Completed}
+use Rattle.grid.specs.Drawn.{found, Drawn, Completed}
 use Rattle.grid.proofs.Drawn.{drawn-start}
 use Rattle.drafts.specs.Redrawn.{Redrawn}
 use Rattle.reed_muller.specs.Steps.{Solving, Solved, Drafted}
@@ -50,7 +51,7 @@ solving-redrawn {g} {k} {columns} {columns′} S R = record {
 -- a draft under the radius
 pub drawn-solved : {g : Grid} {t cost : ℕ} {s u left left′ columns : List (List ℕ)} → Drawn g t s u left columns →
     Completed g t u columns left left′ cost →
-    cost < limit g → Solved g s u left′ columns cost
+    cost < gridRadius g → Solved g s u left′ columns cost
 drawn-solved {s} D C l = record { under = λ _. let (e, f) = C .under l in (e, f s D); over = λ h. absurd (omega arith) }
 
 -- a draft of all columns

@@ -17,11 +17,11 @@ use Rattle.field.proofs.Congruence.{same, _⨾_}
 use Rattle.distance.specs.Cost.{cost}
 use Rattle.polynomial.specs.Record.{coef}
 use Rattle.polynomial.specs.declared.Grid.{Grid}
-use Rattle.polynomial.specs.Fit.{Fit}
+use Rattle.polynomial.specs.Fit.{Fit, gridRadius}
 use Rattle.polynomial.proofs.Eval.{eval-cong}
 use Rattle.grid.specs.Cost.{lines}
 use Rattle.grid.specs.Rest.{Rest}
-use Rattle.grid.specs.Drawn.{found, limit}
+use Rattle.grid.specs.Drawn.{found}
 use Rattle.reed_muller.specs.Groups.{Flat}
 use Rattle.reed_muller.specs.Rest.{Remains}
 use Rattle.reed_muller.specs.Outcome.{Outcome, under}
@@ -41,12 +41,12 @@ module _ {q a b d : ℕ} {y : ℕ → ℕ} {s : ℕ → ℕ → ℕ} where
 
 module _ {g : Grid} {s u left columns : List (List ℕ)} {cost : ℕ} (S : Solved g s u left columns cost) where
   -- the cost is not under the radius
-  pub outcome-none : {message : List ℕ} → limit g ≤ cost → Outcome g s u left (under g cost) message cost
+  pub outcome-none : {message : List ℕ} → gridRadius g ≤ cost → Outcome g s u left (under g cost) message cost
   outcome-none {message} h = rw (le-ltb _ _ h)
       (record { decoded = decoded-none (coef message) (S .over h); remains = λ y. absurd (false≢true y) })
 
   -- it is: the flat record of the columns is the answer
-  pub outcome-found : {message : List ℕ} → Fit g → Flat columns (g .d + 1) message → cost < limit g →
+  pub outcome-found : {message : List ℕ} → Fit g → Flat columns (g .d + 1) message → cost < gridRadius g →
       Outcome g s u left (under g cost) message cost
   outcome-found {message} f flat h =
       let (e, D) = S .under h in rw (lt-ltb _ _ h) (record {

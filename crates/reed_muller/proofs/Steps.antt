@@ -31,7 +31,7 @@ use Rattle.field.proofs.Row.{row-at, result-cong}
 use Rattle.polynomial.specs.Eval.{eval}
 use Rattle.polynomial.specs.Powers.{Rows}
 use Rattle.polynomial.specs.declared.Grid.{Grid}
-use Rattle.polynomial.specs.Fit.{Fit}
+use Rattle.polynomial.specs.Fit.{Fit, gridRadius}
 use Rattle.polynomial.proofs.Eval.{eval-cong}
 use Rattle.reed_solomon.specs.declared.decoder.Decoded as Strip
 use Rattle.reed_solomon.specs.Axis.{Received}
@@ -41,7 +41,7 @@ use Rattle.grid.specs.Cost.{lines}
 use Rattle.grid.specs.Axes.{DoubtRows, lineAxis, stripAxis}
 use Rattle.grid.specs.Loops.{line, cellAt}
 use Rattle.grid.specs.Answers.{unknown, Answer, kept, KnownRows, AnsweredRows}
-use Rattle.grid.specs.Drawn.{found, Without, Lessened, limit, left-over}
+use Rattle.grid.specs.Drawn.{found, Without, Lessened, left-over}
 use Rattle.grid.proofs.Answers.{positive, column-row, strip-valid}
 use Rattle.grid.proofs.Line.{answer-carried}
 use Rattle.grid.proofs.Drawn.{without-subtracted}
@@ -163,7 +163,7 @@ module _ {g : Grid} {k t : ℕ} (f : Fit g) (e : k ≡ suc t) (td : t ≤ g .d) 
   low = omega (arith, f .low, f .narrow)
 
   -- a step without an answer: no record is under the radius
-  pub solving-none : ok ≡ false → (last : List (List ℕ)) → Solved g s u last columns (limit g)
+  pub solving-none : ok ≡ false → (last : List (List ℕ)) → Solved g s u last columns (gridRadius g)
   solving-none z last = record {
     under = λ l. absurd (omega arith);
     over = λ _. grid-none (at (g .x)) (found columns) low td (S .steps) (T .handed) (T .strip) z;

@@ -15,13 +15,13 @@ use lib.Dec.{ltb}
 use Rattle.bounded.specs.Bounded.{at}
 use Rattle.polynomial.specs.Record.{coef}
 use Rattle.polynomial.specs.declared.Grid.{Grid}
+use Rattle.polynomial.specs.Fit.{gridRadius}
 use Rattle.grid.specs.Loops.{cellAt}
-use Rattle.grid.specs.Drawn.{limit}
 use Rattle.reed_muller.specs.Mark.{Decoded}
 use Rattle.reed_muller.specs.Rest.{Remains}
 
 abbrev pub under : Grid → ℕ → Bool
-under g cost = ltb cost (limit g)
+under g cost = ltb cost (gridRadius g)
 
 pub record Outcome (g : Grid) (s u left : List (List ℕ)) (found : Bool) (message : List ℕ) (cost : ℕ) : Type 0 where
   pub decoded : Decoded (g .p - 1) (g .full) (g .a) (g .b) (g .d) (at (g .x)) (at (g .y)) (cellAt s) (cellAt u) found

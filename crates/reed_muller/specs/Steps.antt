@@ -21,13 +21,14 @@ use Rattle.bounded.specs.Bounded.{at}
 use Rattle.field.specs.Row.{Row}
 use Rattle.polynomial.specs.Powers.{Rows}
 use Rattle.polynomial.specs.declared.Grid.{Grid}
+use Rattle.polynomial.specs.Fit.{gridRadius}
 use Rattle.reed_solomon.specs.Strip.{Strip}
 use Rattle.grid.specs.Line.{HandsOn}
 use Rattle.grid.specs.Cost.{lines}
 use Rattle.grid.specs.Rest.{Rest}
 use Rattle.grid.specs.Loops.{cellAt}
 use Rattle.grid.specs.Answers.{KnownRows}
-use Rattle.grid.specs.Drawn.{found, Lessened, limit, left-over, Drawn}
+use Rattle.grid.specs.Drawn.{found, Lessened, left-over, Drawn}
 use Rattle.reed_muller.specs.Degree.{GridNear, GridLeft}
 
 pub record Stepped (g : Grid) (t : ℕ) (left u left′ ws : List (List ℕ)) (ok : Bool) (column vs : List ℕ) : Type 0 where
@@ -53,11 +54,11 @@ pub record Solving (g : Grid) (k : ℕ) (s u left columns ws : List (List ℕ)) 
   pub known : (j : ℕ) → k ≡ suc j → KnownRows g j left u ws vs
 
 pub record Solved (g : Grid) (s u left columns : List (List ℕ)) (cost : ℕ) : Type 0 where
-  pub under : cost < limit g → (cost ≡ left-over g u left) × Drawn g 0 s u left columns
-  pub over : limit g ≤ cost → (h : ℕ → ℕ → ℕ) → GridNear (g .p - 1) (g .full) (g .a) (g .b) (g .d) (at (g .x)) (at (g .y))
+  pub under : cost < gridRadius g → (cost ≡ left-over g u left) × Drawn g 0 s u left columns
+  pub over : gridRadius g ≤ cost → (h : ℕ → ℕ → ℕ) → GridNear (g .p - 1) (g .full) (g .a) (g .b) (g .d) (at (g .x)) (at (g .y))
       (cellAt u) (cellAt s) h → ⊥
 
 pub record Drafted (g : Grid) (s u left columns : List (List ℕ)) (cost : ℕ) : Type 0 where
   pub coefficients : Rows (g .p) columns
-  pub under : cost < limit g → Solved g s u left columns cost
-  pub over : limit g ≤ cost → left ≡ s
+  pub under : cost < gridRadius g → Solved g s u left columns cost
+  pub over : gridRadius g ≤ cost → left ≡ s

@@ -1,8 +1,8 @@
 // The decoder of marks: the solver gives a candidate, and what it costs decides whether it is the answer.
 use crate::message;
 use crate::solver;
-use grid::remainder;
 use polynomial::Grid;
+use polynomial::limit;
 ghost use mathlib.Core.Path.{_≡_};
 ghost use lib.ListN.{length};
 ghost use Rattle.field.specs.Prime.{Inverses};
@@ -31,7 +31,7 @@ pub fn decode(
     let mut columns = [[0u16; 16]; 16];
     let solved = solver::solve(g, inverses, &mut left, &doubts, &mut columns);
     *cost = solved;
-    if solved >= remainder::radius(g) {
+    if solved >= limit::radius(g) {
         return left;
     }
     message::flatten(message, &columns, g.d);

@@ -6,6 +6,7 @@ use grid::trial;
 use polynomial::Grid;
 use polynomial::bivariate;
 use polynomial::evaluation;
+use polynomial::limit;
 use reed_solomon::axis::Axis;
 ghost use mathlib.Core.Path.{_≡_};
 ghost use mathlib.Core.Bool.{true};
@@ -99,7 +100,7 @@ fn solve_by_degrees(
         Rows (g .p) (now columns) ⌝ }
     ensures { λ r. ⌜ Solved g (now (left .entry)) (now (doubts .entry)) (now (left .exit)) (now (columns .exit)) r ⌝ }
 {
-    let radius = remainder::radius(g);
+    let radius = limit::radius(g);
     let mut ys = [[0u16; 16]; 16];
     let mut messages = [[0u16; 16]; 16];
     let mut known = [lines::UNKNOWN; 16];
@@ -141,7 +142,7 @@ fn try_cells(
     ensures { λ r. ⌜ Drafted g (now (left .entry)) (now (doubts .entry)) (now (left .exit)) (now (columns .exit)) r ⌝ }
 {
     if !drafts::columns::from_cells(g, inverses, left, columns) {
-        return remainder::radius(g);
+        return limit::radius(g);
     }
     trial::complete(g, g.d + 1, columns, left, doubts)
 }
@@ -160,7 +161,7 @@ pub fn solve(
     ensures { λ r. ⌜ Solved g (now (left .entry)) (now (doubts .entry)) (now (left .exit)) (now (columns .exit)) r ⌝ }
 {
     let cost = try_cells(g, inverses, left, doubts, columns);
-    if cost < remainder::radius(g) {
+    if cost < limit::radius(g) {
         return cost;
     }
     solve_by_degrees(g, inverses, left, doubts, columns)

@@ -7,13 +7,13 @@ use Rattle.grid.proofs.trial.complete.Statement.{statement}
 use Rattle.grid.proofs.trial.complete.Tie as tie
 
 returns : tie.Need-returns
-returns c = record { under = λ l. absurd (omega (arith, c .if1 .taken, c .before .radius .ensures)); over = λ _. refl }
+returns c = record { under = λ l. absurd (omega (arith, c .if1 .taken, c .before .radius .ensures .0)); over = λ _. refl }
 
 returns-2 : tie.Need-returns-2
 returns-2 c =
     let measured = c .before .before in record {
       under = λ _. (measured .measure .ensures, λ s D. measured .before .before .subtract-below .ensures s _ D);
-      over = λ h. absurd (omega (arith, c .if1 .left, c .before .radius .ensures));
+      over = λ h. absurd (omega (arith, c .if1 .left, c .before .radius .ensures .0));
     }
 
 pub complete-spec : {M : Type 1} → statement M

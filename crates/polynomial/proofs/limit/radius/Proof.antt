@@ -8,14 +8,14 @@ use Rattle.polynomial.proofs.limit.radius.Tie as tie
 
 returns : tie.Need-returns
 returns c =
-    let g = c .before .before .args in
+    let g = c .before .before .before .args .g in
     let long : max (g .a) (g .b) ≡ g .b = omega arith in
     let short : min (g .a) (g .b) ≡ g .a = omega arith in
     rw (long, short) (omega (arith, c .radius .ensures .0), c .radius .ensures .1)
 
 returns-2 : tie.Need-returns-2
 returns-2 c =
-    let g = c .before .before .args in
+    let g = c .before .before .before .args .g in
     let long : max (g .a) (g .b) ≡ g .a = omega arith in
     let short : min (g .a) (g .b) ≡ g .b = omega arith in
     rw (long, short) (omega (arith, c .radius2 .ensures .0), c .radius2 .ensures .1)

@@ -11,7 +11,7 @@ returns : tie.Need-returns
 returns c =
     let radius = c .before in
     let solved = radius .before in (
-      outcome-none (solved .solve .ensures) (omega (arith, c .if1 .taken, radius .radius .ensures)),
+      outcome-none (solved .solve .ensures) (omega (arith, c .if1 .taken, radius .radius .ensures .0)),
       solved .before .before .before .before .pre .4,
     )
 
@@ -21,7 +21,7 @@ returns-2 c =
     let radius = test .before in
     let solved = radius .before in (
       outcome-found (solved .solve .ensures) (solved .before .before .before .before .pre .0) (c .flatten .ensures)
-          (omega (arith, test .if1 .left, radius .radius .ensures)),
+          (omega (arith, test .if1 .left, radius .radius .ensures .0)),
       c .flatten .ensures .size,
     )
 

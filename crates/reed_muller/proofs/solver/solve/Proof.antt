@@ -9,7 +9,7 @@ use Rattle.reed_muller.proofs.solver.solve.Tie as tie
 returns : tie.Need-returns
 returns c =
     let compared = c .before in
-    compared .before .try-cells .ensures .under (omega (arith, c .if1 .taken, compared .radius .ensures))
+    compared .before .try-cells .ensures .under (omega (arith, c .if1 .taken, compared .radius .ensures .0))
 
 -- the draft is over the radius: all symbols are left
 all : (c : tie.Else1) →
@@ -17,7 +17,7 @@ all : (c : tie.Else1) →
     tried .try-cells .last .1 .1 .0 ≡ tried .before .before .before .args .left .now
 all c =
     let compared = c .before in
-    compared .before .try-cells .ensures .over (omega (arith, c .if1 .left, compared .radius .ensures))
+    compared .before .try-cells .ensures .over (omega (arith, c .if1 .left, compared .radius .ensures .0))
 
 returns-2 : tie.Need-returns-2
 returns-2 c = rw (all (c .before .before .before)) at (c .solve-by-degrees .ensures)

@@ -58,14 +58,14 @@ made c = c .before .before .step .ensures .1 (not-false _ (c .if1 .left))
 returns : tie.Need-returns Inv-loop μ-loop
 returns c =
     let s = c .before .before in
-    rw (head s .before .before .radius .ensures)
+    rw (head s .before .before .radius .ensures .0)
     (solving-none (start s .pre .0) (next s) (low s) (head s .loop .inv .1) (s .step .ensures .0) (not-true _ (c .if1 .taken)) _)
 
 returns-2 : tie.Need-returns-2 Inv-loop μ-loop
 returns-2 c =
     let drafted = c .before .before .before .before .before in
     let step = drafted .before .before .before .before .before .before in
-    let radius = head (step .before .before) .before .before .radius .ensures in
+    let radius = head (step .before .before) .before .before .radius .ensures .0 in
     drawn-solved (solving-drawn (solving-redrawn (found step) (drafted .from-lines .ensures))) (c .before .complete .ensures)
     (omega (arith, c .if4 .taken, radius))
 
@@ -119,7 +119,7 @@ solve-by-degrees-spec =
     (λ c.
     let drafted = c .before .before .before .before .before in
     let step = drafted .before .before .before .before .before .before in
-    let radius = head (step .before .before) .before .before .radius .ensures in
+    let radius = head (step .before .before) .before .before .radius .ensures .0 in
     let over = c .before .complete .ensures .over (omega (arith, c .if4 .left, radius)) in
     let S = solving-redrawn (found step) (drafted .from-lines .ensures) in
     (omega (arith, low (step .before .before)), rw over S, λ _. made step))

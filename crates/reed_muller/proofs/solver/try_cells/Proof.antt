@@ -9,7 +9,7 @@ use Rattle.reed_muller.proofs.solver.try_cells.Tie as tie
 returns : tie.Need-returns
 returns c = record {
   coefficients = c .before .before .from-cells .ensures;
-  under = λ l. absurd (omega (arith, c .radius .ensures));
+  under = λ l. absurd (omega (arith, c .radius .ensures .0));
   over = λ _. refl;
 }
 
