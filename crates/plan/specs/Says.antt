@@ -3,7 +3,7 @@
 --   said P m     the plan P as a struct; m stands for the reciprocal of its prime
 --   Says P g     the struct g says what the plan P does
 --   Ready g      the numbers of g fit together: p is prime and m its reciprocal; at most sixteen points each way, residues, all
---                apart; d is below both sides; the full doubt is a byte's
+--                apart; d is below both sides; the full doubt is a byte's, and not the highest
 --
 -- What this file is for: the contract of `parse`; and what the functions that take the struct rest on.
 use mathlib.Core.Path.{_≡_}
@@ -46,4 +46,4 @@ pub record Ready (g : Plan) : Type 0 where
   pub columnsApart : Apart (g .p - 1) (g .b) (at (g .y))
   pub low : g .d < g .a
   pub narrow : g .d < g .b
-  pub full : g .full < 256
+  pub full : g .full < 255
