@@ -4,9 +4,10 @@
 --   any-some, some-any    it is true exactly where some one is true
 --   any-start, any-more   none of 0 is true; one more that is false leaves it false
 --   any-next              one more, whatever it answers
+--   any-eq                tests that answer the same
 --
 -- What this file is for: a loop that looks for a true answer stops at the first, and else has seen them all. Assumes nothing.
-use mathlib.Core.Path.{_≡_, refl, sym, _∙_}
+use mathlib.Core.Path.{_≡_, refl, sym, ap₂, _∙_}
 use mathlib.Core.Bool.{Bool, true, false, _||_, true≢false, false≢true}
 use Prim.Native.Nat.{ℕ, zero, suc, _+_, _<_}
 use native.Mathlib.Numerals.{add-one}
@@ -57,3 +58,9 @@ any-more n f e h = rw (add-one n, e) h
 pub any-next : (n : ℕ) (f : ℕ → Bool) {a b : Bool} → a ≡ any n f → b ≡ f n → a || b ≡ any (n + 1) f
 unfolding any
 any-next n f e h = rw (add-one n, e, h)
+
+-- tests that answer the same
+pub any-eq : (n : ℕ) {f g : ℕ → Bool} → ((i : ℕ) → i < n → f i ≡ g i) → any n f ≡ any n g
+unfolding any
+any-eq zero h = refl
+any-eq (suc n) h = ap₂ _||_ (any-eq n λ i l. h i (omega arith)) (h n (omega arith))

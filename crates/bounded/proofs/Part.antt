@@ -2,23 +2,30 @@
 --
 --   part-at       byte i of the part is byte a + i of the list
 --   part-length   the part has n bytes where the list reaches that far
+--   part-any      a test of the part's bytes is one of n bytes of the list
 --   row-in        row r of a rows of n bytes ends within them
 --
 -- What this file is for: what a callee says of the part is said of the list. Assumes nothing.
-use mathlib.Core.Path.{_≡_, _∙_}
+use mathlib.Core.Path.{_≡_, ap, _∙_}
+use mathlib.Core.Bool.{Bool}
 use mathlib.Core.List.{List}
 use Prim.Native.Nat.{ℕ, _+_, _*_, _-_, _≤_, _<_}
 use native.Mathlib.Omega.{arith}
 use native.Mathlib.Nat.{suc-mul, add-sub-cancel-left, mul-le-mul-right}
 use lib.ListN.{length, take, drop, length-drop}
 use lib.Seq.{getD-take, getD-drop, length-take-le}
-use Rattle.bounded.specs.Bounded.{at}
+use Rattle.bounded.specs.Bounded.{at, any}
+use Rattle.bounded.proofs.Any.{any-eq}
 
 pub part-at : (a n : ℕ) (s : List ℕ) (i : ℕ) → i < n → at (take (a + n - a) (drop a s)) i ≡ at s (a + i)
 part-at a n s i l = rw (add-sub-cancel-left a n) (getD-take n (drop a s) i 0 l ∙ getD-drop a s i 0)
 
 pub part-length : (a n : ℕ) (s : List ℕ) → a + n ≤ length s → length (take (a + n - a) (drop a s)) ≡ n
 part-length a n s h = rw (add-sub-cancel-left a n) (length-take-le n (drop a s) (omega (arith, length-drop a s)))
+
+pub part-any : (a n : ℕ) (s : List ℕ) (f : ℕ → Bool) → a + n ≤ length s →
+    any (length (take (a + n - a) (drop a s))) (λ i. f (at (take (a + n - a) (drop a s)) i)) ≡ any n λ i. f (at s (a + i))
+part-any a n s f h = rw (part-length a n s h) (any-eq n λ i l. ap f (part-at a n s i l))
 
 -- row r of a rows of n bytes
 pub row-in : (r a n : ℕ) → r < a → r * n + n ≤ a * n

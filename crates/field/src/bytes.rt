@@ -1,9 +1,10 @@
-// Lent bytes as rows of numbers, and numbers as bytes.
+// Lent bytes as rows of numbers, numbers as bytes, and a test of bytes.
 ghost use mathlib.Core.Path.{_≡_};
 ghost use Prim.Native.Nat.{ℕ, _≤_, _<_};
 ghost use lib.ListN.{length};
 ghost use Rattle.bounded.specs.Bounded.{at, tab};
 ghost use Rattle.field.specs.Row.{row as rowOf};
+ghost use Rattle.field.specs.Word.{reached};
 
 // At most sixteen bytes as a row, 0 beyond their end.
 pub fn row(bytes: &[u8]) -> [u16; 16]
@@ -37,4 +38,15 @@ pub fn store(part: &mut [u8], numbers: &[u16])
     for j in 0..part.len() {
         part[j] = numbers[j] as u8;
     }
+}
+
+// Whether one of the bytes is `bound` or more. All of them are looked at, with no way out of the loop, so that it is vectorised.
+pub fn reaches(bytes: &[u8], bound: u8) -> bool
+    ensures { λ r. ⌜ r ≡ reached bound (now (bytes .entry)) ⌝ }
+{
+    let mut found = false;
+    for i in 0..bytes.len() {
+        found = found | (bound <= bytes[i]);
+    }
+    found
 }

@@ -2,7 +2,7 @@
 --
 --   said P m      the plan P as a struct; m stands for the reciprocal of its prime
 --   Says P plan   the struct says what the plan P does
---   Ready plan    the numbers of its grid fit together, and the full doubt is a byte's
+--   Ready plan    the numbers of its grid fit together, and the full doubt is a byte's, and not the highest
 --
 -- What this file is for: the contract of `parse`; and what the functions that take the struct rest on.
 use mathlib.Core.Path.{_≡_}
@@ -36,4 +36,4 @@ pub record Says (P : List ℕ) (plan : Plan) : Type 0 where
 
 pub record Ready (plan : Plan) : Type 0 where
   pub fit : Fit (plan .grid)
-  pub byte : plan .grid .full < 256
+  pub byte : plan .grid .full < 255

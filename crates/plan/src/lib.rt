@@ -7,7 +7,7 @@ use polynomial::Grid;
 ghost use mathlib.Core.Path.{_≡_};
 ghost use Prim.Native.Nat.{_+_, _*_, _-_, _≤_, _<_};
 ghost use lib.ListN.{length};
-ghost use Rattle.definitions.specs.Plan.{filled, large, unordered, checkNumber, side};
+ghost use Rattle.definitions.specs.Plan.{unordered, checkNumber, side};
 ghost use Rattle.definitions.specs.Sound.{Sound};
 ghost use Rattle.definitions.specs.Finder.{Finding, FindingAt};
 ghost use Rattle.plan.specs.Says.{Says};
@@ -26,7 +26,7 @@ pub fn check(plan: &[u8]) -> u32
     if plan.len() != 24 {
         return 1;
     }
-    if is_filled(plan, 21, 3) {
+    if bytes::reaches(&plan[21..24], 1) {
         return 1;
     }
     let p = plan[2];
@@ -49,44 +49,17 @@ pub fn check(plan: &[u8]) -> u32
     if n <= plan[4] {
         return 4;
     }
-    if is_large(plan) {
+    let side = n as usize;
+    if bytes::reaches(&plan[5..5 + side], p) {
         return 5;
     }
     if is_unordered(plan) {
         return 5;
     }
-    let m = n as usize;
-    if is_filled(plan, 5 + m, 16 - m) {
+    if bytes::reaches(&plan[5 + side..21], 1) {
         return 5;
     }
     0
-}
-
-// Whether one of the n bytes from byte a on is not 0.
-fn is_filled(plan: &[u8], a: usize, n: usize) -> bool
-    requires { ⌜ a + n ≤ length (now plan) ⌝ }
-    ensures { λ r. ⌜ r ≡ filled (now (plan .entry)) a n ⌝ }
-{
-    for i in 0..n {
-        if 0 < plan[a + i] {
-            return true;
-        }
-    }
-    false
-}
-
-// Whether one of the points is p or more.
-fn is_large(plan: &[u8]) -> bool
-    requires { ⌜ (length (now plan) ≡ 24) × (side (now plan) ≤ 16) ⌝ }
-    ensures { λ r. ⌜ r ≡ large (now (plan .entry)) (side (now (plan .entry))) ⌝ }
-{
-    let n = plan[3] as usize;
-    for i in 0..n {
-        if plan[2] <= plan[5 + i] {
-            return true;
-        }
-    }
-    false
 }
 
 // Whether one of the points is not above the one before it.
@@ -95,12 +68,11 @@ fn is_unordered(plan: &[u8]) -> bool
     ensures { λ r. ⌜ r ≡ unordered (now (plan .entry)) (side (now (plan .entry)) - 1) ⌝ }
 {
     let n = plan[3] as usize - 1;
+    let mut found = false;
     for i in 0..n {
-        if plan[5 + (i + 1)] <= plan[5 + i] {
-            return true;
-        }
+        found = found | (plan[5 + (i + 1)] <= plan[5 + i]);
     }
-    false
+    found
 }
 
 // What a sound plan says. Rows and columns have the same points.

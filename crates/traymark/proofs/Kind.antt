@@ -1,19 +1,23 @@
--- The checks that marks and strips share.
+-- Marks and strips, and the checks that they share.
 --
---   photo-at, write-at       the number of the test at which a check stops
---   photo-said, write-said   the checks by the struct that says what a plan does are those by the plan itself
+--   photo-at, write-at               the number of the test at which a check stops
+--   photo-said, write-said           the checks by the struct that says what a plan does are those by the plan itself
+--   doubts-reached, record-reached   what `field::bytes::reaches` answered of doubts and of a record is the answer to their tests
 --
--- What this file is for: the checks name the kind by a bool and the plan by its struct. Assumes nothing.
+-- What this file is for: the checks give the definitions' numbers. Assumes nothing.
 use mathlib.Core.Path.{_≡_, refl}
 use mathlib.Core.Bool.{Bool, true, false}
 use mathlib.Core.List.{List}
-use Prim.Native.Nat.{ℕ}
+use Prim.Native.Nat.{ℕ, _+_}
+use native.Mathlib.Numerals.{add-one}
+use lib.ListN.{length}
+use Rattle.field.specs.Word.{reached}
 use Rattle.definitions.specs.Refusals.{first}
 use Rattle.definitions.specs.Plan.{modulus}
 use Rattle.definitions.specs.Code.{size, cells}
 use Rattle.definitions.specs.Cost.{full}
-use Rattle.definitions.specs.Calls.{photoTests, writeTests}
-use Rattle.definitions.proofs.Refusals.{Stops, numberAt, first-at}
+use Rattle.definitions.specs.Calls.{excessive, overflowing, photoTests, writeTests}
+use Rattle.definitions.proofs.Refusals.{Stops, numberAt, first-at, answered}
 use Rattle.plan.specs.declared.Plan.{Plan}
 use Rattle.plan.specs.Says.{Says}
 use Rattle.traymark.specs.Kind.{codeOf, sizeOf, cellsOf, photoRefusal, writeRefusal}
@@ -41,3 +45,10 @@ pub write-said : (square : Bool) {P : List ℕ} {plan : Plan} → Says P plan �
 unfolding writeRefusal
 write-said true says F B = rw (says .fields) refl
 write-said false says F B = rw (says .fields) refl
+
+pub doubts-reached : {r t : Bool} {n : ℕ} (f : ℕ) (u : List ℕ) → length u ≡ n → r ≡ reached (f + 1) u → r ≡ t →
+    excessive f u n ≡ t
+doubts-reached f u l e = answered (rw (add-one f, l) at e)
+
+pub record-reached : {r t : Bool} {k : ℕ} (p : ℕ) (F : List ℕ) → length F ≡ k → r ≡ reached p F → r ≡ t → overflowing p F k ≡ t
+record-reached p F l e = answered (rw l at e)

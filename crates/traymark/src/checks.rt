@@ -2,6 +2,7 @@
 // 01's table "What is returned", in its order. Any bytes of any length get an answer. A loop over cells looks at all of them,
 // with no way out, so that it is vectorised.
 use definitions::UNREAD;
+use field::bytes;
 use plan::Plan;
 use polynomial::Grid;
 use polynomial::bivariate::start;
@@ -12,7 +13,7 @@ ghost use lib.ListN.{length};
 ghost use Rattle.polynomial.specs.Fit.{Fit};
 ghost use Rattle.definitions.specs.Refusals.{first};
 ghost use Rattle.definitions.specs.Cost.{unread};
-ghost use Rattle.definitions.specs.Calls.{strange, excessive, halfRead, overflowing, photoRows, writeNumber, measureNumber};
+ghost use Rattle.definitions.specs.Calls.{strange, halfRead, photoRows, writeNumber, measureNumber};
 ghost use Rattle.plan.specs.Says.{Ready};
 ghost use Rattle.traymark.specs.Kind.{codeOf, sizeOf, cellsOf, photoRefusal, writeRefusal};
 
@@ -35,14 +36,13 @@ fn write_refusal(square: bool, plan: Plan, record: &[u8], buffer: &[u8]) -> u32
         (sizeOf square (plan .grid)) ⌝ }
 {
     let g = plan.grid;
-    let k = record_size(square, g);
-    if record.len() != k {
+    if record.len() != record_size(square, g) {
         return 6;
     }
     if buffer.len() != cell_count(square, g) {
         return 6;
     }
-    if is_overflowing(g.p as u8, record, k) {
+    if bytes::reaches(record, g.p as u8) {
         return 9;
     }
     0
@@ -80,7 +80,7 @@ fn photo_refusal(square: bool, plan: Plan, symbols: &[u8], doubts: &[u8], record
     if is_strange(g.p as u8, symbols, n) {
         return 7;
     }
-    if is_excessive(g.full as u8, doubts, n) {
+    if bytes::reaches(doubts, g.full as u8 + 1) {
         return 8;
     }
     if is_half_read(g.full as u8, symbols, doubts, n) {
@@ -105,7 +105,7 @@ pub fn measure_number(
         return number;
     }
     let said = plan::parse(plan);
-    if is_overflowing(said.grid.p as u8, record, record.len()) {
+    if bytes::reaches(record, said.grid.p as u8) {
         return 9;
     }
     0
@@ -156,18 +156,6 @@ fn is_strange(p: u8, symbols: &[u8], n: usize) -> bool
     found
 }
 
-// Whether one of the n doubts is above the full doubt.
-fn is_excessive(full: u8, doubts: &[u8], n: usize) -> bool
-    requires { ⌜ length (now doubts) ≡ n ⌝ }
-    ensures { λ r. ⌜ r ≡ excessive full (now (doubts .entry)) n ⌝ }
-{
-    let mut found = false;
-    for c in 0..n {
-        found = found | (full < doubts[c]);
-    }
-    found
-}
-
 // Whether a cell is unread and its doubt not the full doubt.
 fn is_half_read_cell(full: u8, symbol: u8, doubt: u8) -> bool
     ensures { λ r. ⌜ r ≡ (eqb symbol unread && not (eqb doubt full)) ⌝ }
@@ -186,18 +174,6 @@ fn is_half_read(full: u8, symbols: &[u8], doubts: &[u8], n: usize) -> bool
     let mut found = false;
     for c in 0..n {
         found = found | is_half_read_cell(full, symbols[c], doubts[c]);
-    }
-    found
-}
-
-// Whether one of the n coefficients is p or more.
-fn is_overflowing(p: u8, record: &[u8], n: usize) -> bool
-    requires { ⌜ length (now «record») ≡ n ⌝ }
-    ensures { λ r. ⌜ r ≡ overflowing p (now («record» .entry)) n ⌝ }
-{
-    let mut found = false;
-    for k in 0..n {
-        found = found | (p <= record[k]);
     }
     found
 }

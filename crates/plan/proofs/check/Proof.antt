@@ -4,11 +4,14 @@ use borrow.Author.Tests.{lt-ltb, le-ltb, le-leb, lt-leb, eq-eqb, ne-eqb}
 use Rattle.definitions.specs.Plan.{planRows}
 use Rattle.definitions.proofs.Refusals.{equal, unequal, answered, answered-not}
 use Rattle.definitions.proofs.Sound.{check-at}
+use Rattle.plan.proofs.Reached.{spare-reached, points-reached, unused-reached}
 use borrow.Author.Needs.{needs}
 use Rattle.plan.proofs.check.Statement.{statement}
 use Rattle.plan.proofs.check.Tie as tie
 
-ruleset tests = (answered, answered-not, equal, unequal, lt-ltb, le-ltb, le-leb, lt-leb, ne-eqb, eq-eqb)
+ruleset parts = (spare-reached, points-reached, unused-reached)
+
+ruleset tests = (parts, answered, answered-not, equal, unequal, lt-ltb, le-ltb, le-leb, lt-leb, ne-eqb, eq-eqb)
 
 returns : tie.Need-returns
 unfolding planRows
@@ -52,31 +55,18 @@ returns-10 c = check-at _ 9 (search tests depth 16)
 
 returns-11 : tie.Need-returns-11
 unfolding planRows
-returns-11 c = check-at _ 10 (search tests depth 16)
+returns-11 c = check-at _ 10 (search tests, (search tests, (search tests, (search tests, search tests depth 16))))
 
 returns-12 : tie.Need-returns-12
 unfolding planRows
-returns-12 c =
-    check-at _ 11 (
-      search tests,
-      (
-        search tests,
-        (
-          search tests,
-          (
-            search tests,
-            (search tests, (search tests, (search tests, (search tests, (search tests, (search tests, (search tests, tt))))))),
-          ),
-        ),
-      ),
-    )
+returns-12 c = check-at _ 11 (search tests, (search tests, (search tests, (search tests, (search tests, search tests depth 16)))))
 
 pub check-spec : {M : Type 1} → statement M
 check-spec =
     tie.close
     (tie.spec
     returns
-    (λ c κs. search needs)
+    (λ c. search needs) (λ c. search needs) (λ c. search needs) (λ c κs. search needs)
     returns-2
     (λ c. search needs)
     (λ c. omega (arith, c .shared-slice-known2 .given 2))
@@ -89,10 +79,10 @@ check-spec =
     returns-7
     (λ c. search needs)
     returns-8
-    (λ c κs. search needs)
+    (λ c. search needs) (λ c. search needs) (λ c. search needs) (λ c. search needs) (λ c. search needs) (λ c κs. search needs)
     returns-9
     (λ c κs. search needs)
     returns-10
-    (λ c. search needs) (λ c. search needs) (λ c. search needs) (λ c κs. search needs)
+    (λ c. search needs) (λ c. search needs) (λ c. search needs) (λ c. search needs) (λ c κs. search needs)
     returns-11
     returns-12)

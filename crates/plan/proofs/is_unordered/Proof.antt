@@ -1,34 +1,27 @@
--- `plan::is_unordered` meets its contract: of the first i steps from point to point each rises. Assumes nothing.
-use mathlib.Core.Path.{_≡_, sym}
-use mathlib.Core.Bool.{false}
+-- `plan::is_unordered` meets its contract: what is found is whether one of the first i steps from point to point does not rise.
+-- Assumes nothing.
+use mathlib.Core.Path.{_≡_, refl, sym}
 use Prim.Native.Nat.{_-_, _≤_}
 use native.Mathlib.Omega.{arith}
-use borrow.Author.Tests.{le-leb, lt-leb}
-use Rattle.bounded.proofs.Any.{some-any, any-more, any-start}
+use Rattle.bounded.proofs.Any.{any-start, any-next}
 use Rattle.definitions.specs.Plan.{side, unordered}
 use borrow.Author.Needs.{needs}
 use Rattle.plan.proofs.is_unordered.Statement.{statement}
 use Rattle.plan.proofs.is_unordered.Tie as tie
 
 abbrev Inv-loop : tie.InvT-loop
-Inv-loop plan n i₀ i = (i ≤ n) × (unordered plan i ≡ false)
+Inv-loop plan n found₀ i₀ found i = (i ≤ n) × (found ≡ unordered plan i)
 
 abbrev μ-loop : tie.MeasureT-loop
-μ-loop plan n i₀ i = n - i
-
-loop-holds : tie.Need-loop-holds Inv-loop μ-loop
-loop-holds c = (search needs, any-start _)
-
-returns : tie.Need-returns Inv-loop μ-loop
-returns c = sym (some-any _ _ (c .before .before .before .before .loop .i) (search needs) (le-leb _ _ (c .if1 .taken)))
+μ-loop plan n found₀ i₀ found i = n - i
 
 loop-again : tie.Need-loop-again Inv-loop μ-loop
-loop-again c = (search needs, any-more _ _ (c .before .before .before .before .loop .inv .1) (lt-leb _ _ (c .if1 .left)))
+loop-again c = (omega arith, any-next _ _ (c .before .before .before .loop .inv .1) refl)
 
-returns-2 : tie.Need-returns-2 Inv-loop μ-loop
-returns-2 c =
+returns : tie.Need-returns Inv-loop μ-loop
+returns c =
     let e : c .before .loop .i ≡ side (c .before .before .before .args .plan .now) - 1 = omega arith in
-    sym (rw e at (c .before .loop .inv .1))
+    rw e at (c .before .loop .inv .1)
 
 pub is-unordered-spec : {M : Type 1} → statement M
 is-unordered-spec =
@@ -37,9 +30,8 @@ is-unordered-spec =
     Inv-loop
     μ-loop
     (λ c. search needs) (λ c. search needs) (λ c. search needs)
-    loop-holds
+    (λ c. (omega arith, sym (any-start _)))
     (λ c. search needs) (λ c. search needs) (λ c. search needs) (λ c. search needs) (λ c. search needs)
-    returns
     (λ c. search needs) (λ c. search needs)
     loop-again
-    returns-2)
+    returns)

@@ -15,9 +15,6 @@ Inv-loop full symbols doubts n found₀ c₀ found c = (c ≤ n) × (found ≡ h
 abbrev μ-loop : tie.MeasureT-loop
 μ-loop full symbols doubts n found₀ c₀ found c = n - c
 
-loop-holds : tie.Need-loop-holds Inv-loop μ-loop
-loop-holds c = (omega arith, sym (any-start _))
-
 loop-again : tie.Need-loop-again Inv-loop μ-loop
 loop-again c = (omega arith, any-next _ _ (c .before .before .before .before .loop .inv .1) (c .is-half-read-cell .ensures))
 
@@ -32,7 +29,7 @@ is-half-read-spec =
     (tie.spec
     Inv-loop
     μ-loop
-    loop-holds
+    (λ c. (omega arith, sym (any-start _)))
     (λ c. search needs) (λ c. search needs) (λ c κs. search needs) (λ c. search needs) (λ c. search needs)
     loop-again
     returns)

@@ -15,9 +15,6 @@ Inv-loop p symbols n found₀ c₀ found c = (c ≤ n) × (found ≡ strange p s
 abbrev μ-loop : tie.MeasureT-loop
 μ-loop p symbols n found₀ c₀ found c = n - c
 
-loop-holds : tie.Need-loop-holds Inv-loop μ-loop
-loop-holds c = (omega arith, sym (any-start _))
-
 loop-again : tie.Need-loop-again Inv-loop μ-loop
 loop-again c = (omega arith, any-next _ _ (c .before .before .before .loop .inv .1) (c .is-strange-symbol .ensures))
 
@@ -30,7 +27,7 @@ is-strange-spec =
     (tie.spec
     Inv-loop
     μ-loop
-    loop-holds
+    (λ c. (omega arith, sym (any-start _)))
     (λ c. search needs) (λ c κs. search needs) (λ c. search needs) (λ c. search needs)
     loop-again
     returns)

@@ -19,7 +19,7 @@ returns-2 c =
     let test = parsed .before in
     let number = test .before .photo-number .ensures in
     measure-at _ _ _ _ _ 0 number (test .if1 .left) (accepted-buffer _ _ _ _ _ (sym number ∙ test .if1 .left))
-    (answered (rw (parsed .parse .ensures .fields) at (c .before .is-overflowing .ensures)) (c .if2 .taken))
+    (answered (rw (parsed .parse .ensures .fields) at (c .before .reaches .ensures)) (c .if2 .taken))
 
 returns-3 : tie.Need-returns-3
 returns-3 c =
@@ -27,7 +27,7 @@ returns-3 c =
     let test = parsed .before in
     let number = test .before .photo-number .ensures in
     measure-at _ _ _ _ _ 1 number (test .if1 .left) (accepted-buffer _ _ _ _ _ (sym number ∙ test .if1 .left))
-    (answered (rw (parsed .parse .ensures .fields) at (c .before .is-overflowing .ensures)) (c .if2 .left), tt)
+    (answered (rw (parsed .parse .ensures .fields) at (c .before .reaches .ensures)) (c .if2 .left), tt)
 
 pub measure-number-spec : {M : Type 1} → statement M
 measure-number-spec =

@@ -2,12 +2,12 @@
 -- Assumes nothing.
 use mathlib.Core.Path.{refl}
 use Rattle.definitions.proofs.Refusals.{equal, unequal, answered}
-use Rattle.traymark.proofs.Kind.{photo-at}
+use Rattle.traymark.proofs.Kind.{photo-at, doubts-reached}
 use borrow.Author.Needs.{needs}
 use Rattle.traymark.proofs.checks.photo_refusal.Statement.{statement}
 use Rattle.traymark.proofs.checks.photo_refusal.Tie as tie
 
-ruleset tests = (answered, equal, unequal)
+ruleset tests = (doubts-reached, answered, equal, unequal)
 
 returns : tie.Need-returns
 returns c = photo-at _ _ _ _ _ 0 (c .before .cell-count .ensures) refl (search tests depth 16)
@@ -53,7 +53,7 @@ photo-refusal-spec =
     returns-3
     (λ c. search needs) (λ c κs. search needs)
     returns-4
-    (λ c. search needs) (λ c κs. search needs)
+    (λ c. search needs) (λ c. search needs) (λ c κs. search needs)
     returns-5
     (λ c. search needs) (λ c κs. search needs)
     returns-6

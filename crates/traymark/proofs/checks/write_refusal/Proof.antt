@@ -1,13 +1,13 @@
 -- `traymark::checks::write_refusal` meets its contract: at each return the tests before it failed, and its own holds.
 -- Assumes nothing.
 use mathlib.Core.Path.{refl}
-use Rattle.definitions.proofs.Refusals.{equal, unequal, answered}
-use Rattle.traymark.proofs.Kind.{write-at}
+use Rattle.definitions.proofs.Refusals.{equal, unequal}
+use Rattle.traymark.proofs.Kind.{write-at, record-reached}
 use borrow.Author.Needs.{needs}
 use Rattle.traymark.proofs.checks.write_refusal.Statement.{statement}
 use Rattle.traymark.proofs.checks.write_refusal.Tie as tie
 
-ruleset tests = (answered, equal, unequal)
+ruleset tests = (record-reached, equal, unequal)
 
 returns : tie.Need-returns
 returns c = write-at _ _ _ 0 refl (c .before .record-size .ensures) (search tests depth 16)
