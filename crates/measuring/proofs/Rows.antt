@@ -6,7 +6,7 @@
 --   strip-measured, mark-measured   what was measured by the plan's struct
 --   reading-is       the reading that it comes to
 --
--- Assumes nothing.
+-- What this file is for: rows are measured one by one, and the answer is of the whole mark. Assumes nothing.
 use mathlib.Core.Path.{_≡_, refl, sym, ap₂, _∙_}
 use mathlib.Core.List.{List}
 use Prim.Native.Nat.{ℕ, _+_, _*_, _-_, _≤_, _<_}

@@ -1,4 +1,10 @@
--- A sound plan's struct is ready: the numbers of its grid fit together. Assumes nothing.
+-- A sound plan's struct is ready.
+--
+--   points-loaded   bytes 5 to 20, loaded, are the row of the points
+--   point-at        a point of that row is the plan's
+--   ready           the numbers of the struct's grid fit together
+--
+-- What this file is for: what is above takes the struct, and rests on these facts alone. Assumes nothing.
 use mathlib.Core.Path.{_≡_, _∙_}
 use mathlib.Core.List.{List}
 use Prim.Native.Nat.{ℕ, _-_, _<_}

@@ -8,7 +8,7 @@
 --   mark-radius, strip-radius   the radius by the grid is the plan's
 --   strip-values    the values of a row that has a strip's coefficients are the strip's
 --
--- Assumes nothing.
+-- What this file is for: writing and measuring work on the struct, and answer of the plan. Assumes nothing.
 use mathlib.Core.Path.{_≡_, refl, ap, ap₂, _∙_}
 use mathlib.Core.List.{List}
 use Prim.Native.Nat.{ℕ, suc, _+_, _*_, _-_, _/_, _%_, _^_, _<_}

@@ -1,4 +1,13 @@
--- A mark that is loaded, decoded and stored is the reading that document 01 defines. Assumes nothing.
+-- A sound plan's mark that is loaded, decoded and stored.
+--
+--   record-room     a record has a byte at least, and at most as many as a message has numbers
+--   symbol-rows     loaded symbols are rows of residues
+--   mark-received   what is loaded is what the mark decoder takes
+--   mark-refused    its outcome over the radius is refusal 10
+--   message-small   under the radius the numbers of its message are bytes
+--   mark-reading    and the message, stored, is the reading of the one record within the radius
+--
+-- What this file is for: reading a mark is the reading that document 01 defines. Assumes nothing.
 use mathlib.Core.Path.{_≡_, refl, sym, ap, _∙_}
 use mathlib.Core.Logic.{_⊎_, inl}
 use mathlib.Core.Bool.{true, cond}

@@ -1,4 +1,12 @@
--- A strip that is loaded, decoded and stored is the reading that document 01 defines. Assumes nothing.
+-- A sound plan's strip that is loaded, decoded and stored.
+--
+--   axisOf           the row points, as the strip decoder takes them
+--   strip-received   what is loaded is what the strip decoder takes
+--   strip-under      a cost that it found is a small number
+--   strip-refused    no answer is refusal 10
+--   strip-reading    an answer, stored, is the reading of the one record within the radius
+--
+-- What this file is for: reading a strip is the reading that document 01 defines. Assumes nothing.
 use mathlib.Core.Path.{_≡_, sym, ap, ap₂, _∙_}
 use mathlib.Core.Logic.{_⊎_, inl}
 use mathlib.Core.Bool.{true, false, cond}

@@ -34,8 +34,7 @@ radius-requires : tie.Need-radius-requires
 radius-requires c κs =
     let powers = c .before .before .before .before .before in
     let (P, says, photo, given) = powers .before .before .before .before .before .before .pre in
-    let g = ready (sound P (photo .sound)) says .fit in
-    (omega (arith, g .full), g .rows, g .columns, omega (arith, g .low), omega (arith, g .narrow))
+    ready (sound P (photo .sound)) says .fit
 
 returns : tie.Need-returns
 returns c = λ P says photo.

@@ -9,17 +9,22 @@ use borrow.Author.Needs.{needs}
 use Rattle.measuring.proofs.measure_strip.Statement.{statement}
 use Rattle.measuring.proofs.measure_strip.Tie as tie
 
+-- the powers are made
+module _ (c : tie.After-powers) where
+  abbrev start : tie.Start
+  start = c .before .before .before .before .before .before
+
 values-requires : tie.Need-values-requires
 values-requires c κs =
     let xs = c .before .before in
-    let (P, says, photo, given) = xs .before .before .before .before .before .before .pre in
+    let (P, says, photo, given) = start xs .pre in
     let S = sound P (photo .sound) in
     let g = ready S says .fit in
     (g .reciprocal, xs .powers .ensures .0, record-row S says given (c .row .ensures), omega (arith, g .low, g .rows))
 
 measure-row-requires : tie.Need-measure-row-requires
 measure-row-requires c κs =
-    let (P, says, photo, given) = c .before .before .before .before .before .before .before .before .before .pre in
+    let (P, says, photo, given) = start (c .before .before .before) .pre in
     let S = sound P (photo .sound) in
     let g = ready S says .fit in (
       omega (arith, photo .symbols, S .most),
@@ -33,7 +38,7 @@ returns c = λ P says photo.
     let tally = c .before .before in
     let values = tally .before in
     let xs = values .before .before .before in
-    let given = xs .before .before .before .before .before .before .args in
+    let given = start xs .args in
     let S = sound P (photo .sound) in
     c .reading .ensures ∙ reading-is _ _ _ _ _ (strip-radius S says (c .before .radius .ensures .0))
     (strip-measured photo says (strip-values S says (given .«record» .now) (values .before .row .ensures)
@@ -48,13 +53,13 @@ measure-strip-spec =
     let g = ready (sound P (photo .sound)) says .fit in
     (g .reciprocal, g .rowPoints, omega (arith, g .low, g .rows)))
     (λ c κs.
-    let (P, says, photo, given) = c .before .before .before .before .before .before .before .pre in
+    let (P, says, photo, given) = start (c .before) .pre in
     let S = sound P (photo .sound) in
     omega (arith, given .size, S .low, S .most))
     values-requires
     measure-row-requires
     (λ c κs.
-    let (P, says, photo, given) = c .before .before .before .before .before .before .before .before .before .before .pre in
+    let (P, says, photo, given) = start (c .before .before .before .before) .pre in
     let g = ready (sound P (photo .sound)) says .fit in
     (omega (arith, g .full), omega arith, g .rows, omega (arith, g .low)))
     (λ c κs. (c .radius .ensures .1, omega (arith, c .before .measure-row .ensures .1)))

@@ -22,8 +22,7 @@ radius-requires : tie.Need-radius-requires
 radius-requires c κs =
     let doubts = c .before .before .before .before .before .before in
     let (P, says, t) = doubts .before .before .before .before .before .pre in
-    let g = ready (t .sound) says .fit in
-    (omega (arith, g .full), g .rows, g .columns, omega (arith, g .low), omega (arith, g .narrow))
+    ready (t .sound) says .fit
 
 refuses : tie.Need-returns
 refuses c = λ P says t.

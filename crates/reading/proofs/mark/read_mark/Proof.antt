@@ -9,8 +9,7 @@ use Rattle.reading.proofs.mark.read_mark.Tie as tie
 radius-requires : tie.Need-radius-requires
 radius-requires c κs =
     let (P, says, t) = c .before .before .before .before .before .pre in
-    let g = ready (t .sound) says .fit in
-    (omega (arith, g .full), g .rows, g .columns, omega (arith, g .low), omega (arith, g .narrow))
+    ready (t .sound) says .fit
 
 returns : tie.Need-returns
 returns c = λ P says t.

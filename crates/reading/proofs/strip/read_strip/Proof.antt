@@ -8,38 +8,51 @@ use borrow.Author.Needs.{needs}
 use Rattle.reading.proofs.strip.read_strip.Statement.{statement}
 use Rattle.reading.proofs.strip.read_strip.Tie as tie
 
+-- symbols and doubts are loaded
+module _ (c : tie.After-wide-row) where
+  abbrev symbols : tie.After-residue-row
+  symbols = c .before
+
+  abbrev start : tie.Start
+  start = symbols .before .before .before .before .before .before
+
+-- the strip is decoded
+module _ (c : tie.After-decode) where
+  abbrev doubts : tie.After-wide-row
+  doubts = c .before .before .before
+
+-- its record is stored
+module _ (c : tie.After-store) where
+  abbrev decoded : tie.After-decode
+  decoded = c .before .before .before .before .before .before .before
+
 decode-requires : tie.Need-decode-requires
 decode-requires c κs =
     let table = c .before in
-    let doubts = table .before in
-    let symbols = doubts .before in
-    let (P, says, t) = symbols .before .before .before .before .before .before .pre in
-    (strip-received t (symbols .residue-row .ensures) (doubts .wide-row .ensures) says, table .inverses .ensures)
+    let loaded = table .before in
+    let (P, says, t) = start loaded .pre in
+    (strip-received t (symbols loaded .residue-row .ensures) (loaded .wide-row .ensures) says, table .inverses .ensures)
 
 refuses : tie.Need-returns
 refuses c = λ P says t.
-    let decoded = c .before .before .before in
-    let doubts = decoded .before .before .before in
+    let read = c .before .before .before in
+    let loaded = doubts read in
     rw (c .refused .ensures)
-    (strip-refused t (doubts .before .residue-row .ensures) (doubts .wide-row .ensures) says (decoded .decode .ensures)
+    (strip-refused t (symbols loaded .residue-row .ensures) (loaded .wide-row .ensures) says (read .decode .ensures)
     (negated _ (c .before .if1 .taken)))
 
 store-requires : tie.Need-store-requires
 store-requires c κs =
-    let decoded = c .before .before .before .before .before .before in
-    let symbols = decoded .before .before .before .before in
-    let (P, says, t) = symbols .before .before .before .before .before .before .pre in
+    let read = c .before .before .before .before .before .before in
+    let (P, says, t) = start (doubts read) .pre in
     let g = ready (t .sound) says .fit in (
-      omega (arith, t .room, t .sound .low, t .sound .most, decoded .decode .ensures .small .size),
-      λ j _. omega (arith, decoded .decode .ensures .small .small j, g .reciprocal .most),
+      omega (arith, t .room, t .sound .low, t .sound .most, read .decode .ensures .small .size),
+      λ j _. omega (arith, read .decode .ensures .small .small j, g .reciprocal .most),
     )
 
 radius-requires : tie.Need-radius-requires
 radius-requires c κs =
-    let stored = c .before .before .before .before in
-    let decoded = stored .before .before .before .before .before .before .before in
-    let symbols = decoded .before .before .before .before in
-    let (P, says, t) = symbols .before .before .before .before .before .before .pre in
+    let (P, says, t) = start (doubts (decoded (c .before .before .before .before))) .pre in
     let g = ready (t .sound) says .fit in
     (omega (arith, g .full), omega arith, g .rows, omega (arith, g .low))
 
@@ -47,12 +60,11 @@ reading-requires : tie.Need-reading-requires
 reading-requires c κs =
     let stored = c .before .before .before .before .before in
     let test = stored .before .before .before .before .before in
-    let decoded = test .before .before in
-    let doubts = decoded .before .before .before in
-    let symbols = doubts .before in
-    let (P, says, t) = symbols .before .before .before .before .before .before .pre in (
+    let read = decoded stored in
+    let loaded = doubts read in
+    let (P, says, t) = start loaded .pre in (
       c .radius .ensures .1,
-      strip-under t (symbols .residue-row .ensures) (doubts .wide-row .ensures) says (decoded .decode .ensures)
+      strip-under t (symbols loaded .residue-row .ensures) (loaded .wide-row .ensures) says (read .decode .ensures)
           (negated _ (test .if1 .left)),
     )
 
@@ -62,10 +74,10 @@ returns-2 c = λ P says t.
     let seen = changed .before in
     let stored = seen .before .before .before in
     let test = stored .before .before .before .before .before in
-    let decoded = test .before .before in
-    let doubts = decoded .before .before .before in
+    let read = decoded stored in
+    let loaded = doubts read in
     rw (c .reading .ensures)
-    (strip-reading t (doubts .before .residue-row .ensures) (doubts .wide-row .ensures) says (decoded .decode .ensures)
+    (strip-reading t (symbols loaded .residue-row .ensures) (loaded .wide-row .ensures) says (read .decode .ensures)
     (negated _ (test .if1 .left)) (stored .store .ensures) (seen .row .ensures) (changed .word-changed .ensures .0)
     (c .before .radius .ensures .0))
 
@@ -73,10 +85,14 @@ pub read-strip-spec : {M : Type 1} → statement M
 read-strip-spec =
     tie.close
     (tie.spec
-    (λ c κs. let (P, says, t) = c .before .before .before .before .before .pre in omega (arith, t .photo .symbols, t .sound .most))
-    (λ c κs. let (P, says, t) = c .before .before .before .before .before .before .pre in omega (arith, t .photo .doubts, t .sound .most))
     (λ c κs.
-    let (P, says, t) = c .before .before .before .before .before .before .before .pre in
+    let (P, says, t) = c .before .before .before .before .before .pre in
+    omega (arith, t .photo .symbols, t .sound .most))
+    (λ c κs.
+    let (P, says, t) = c .before .before .before .before .before .before .pre in
+    omega (arith, t .photo .doubts, t .sound .most))
+    (λ c κs.
+    let (P, says, t) = start c .pre in
     let g = ready (t .sound) says .fit in
     (g .prime, g .reciprocal .most, g .reciprocal))
     decode-requires
@@ -85,14 +101,10 @@ read-strip-spec =
     (λ c. search needs)
     store-requires
     (λ c κs.
-    let stored = c .before .before in
-    let decoded = stored .before .before .before .before .before .before .before in
-    let (P, says, t) = decoded .before .before .before .before .before .before .before .before .before .before .pre in
+    let (P, says, t) = start (doubts (decoded (c .before .before))) .pre in
     omega (arith, t .photo .symbols, t .sound .most))
     (λ c κs.
-    let stored = c .before .before .before in
-    let decoded = stored .before .before .before .before .before .before .before in
-    let (P, says, t) = decoded .before .before .before .before .before .before .before .before .before .before .pre in
+    let (P, says, t) = start (doubts (decoded (c .before .before .before))) .pre in
     ready (t .sound) says .fit .rows)
     radius-requires
     reading-requires
