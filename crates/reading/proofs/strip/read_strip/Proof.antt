@@ -73,8 +73,12 @@ pub read-strip-spec : {M : Type 1} → statement M
 read-strip-spec =
     tie.close
     (tie.spec
-    (λ c κs. let (P, says, t) = c .before .before .before .before .before .pre in omega (arith, t .photo .symbols, t .sound .most))
-    (λ c κs. let (P, says, t) = c .before .before .before .before .before .before .pre in omega (arith, t .photo .doubts, t .sound .most))
+    (λ c κs.
+    let (P, says, t) = c .before .before .before .before .before .pre in
+    omega (arith, t .photo .symbols, t .sound .most))
+    (λ c κs.
+    let (P, says, t) = c .before .before .before .before .before .before .pre in
+    omega (arith, t .photo .doubts, t .sound .most))
     (λ c κs.
     let (P, says, t) = c .before .before .before .before .before .before .before .pre in
     let g = ready (t .sound) says .fit in
