@@ -16,7 +16,6 @@ use lib.ListN.{length, take, drop}
 use Rattle.bounded.specs.Bounded.{at}
 use Rattle.bounded.proofs.Sum.{sum-eq, sum-append}
 use Rattle.bounded.proofs.Part.{part-at, part-length}
-use Rattle.polynomial.specs.declared.Grid.{Grid}
 use Rattle.polynomial.specs.Record.{gridValue}
 use Rattle.distance.specs.Cost.{cell, differ}
 use Rattle.definitions.specs.Plan.{side}
@@ -58,15 +57,12 @@ pub strip-measured : {P s u : List ℕ} {plan : Plan} {v w : ℕ → ℕ} {D k :
     Measured full (side P) (at s) (at u) w D k
 strip-measured photo says e m = measured-eq (λ i l. refl) (λ i l. refl) e (rw (says .fields, photo .symbols) at m)
 
-module _ {P : List ℕ} {plan : Plan} (S : Sound P) (says : Says P plan) where
-  abbrev g : Grid
-  g = plan .grid
-
-  pub mark-measured : {s u : ℕ → ℕ} {D k : ℕ} (F : List ℕ) →
-      Measured (g .full) (g .a * g .b) s u (gridValue (g .p) (g .d) (g .b) (at (g .x)) (at (g .y)) F) D k →
-      Measured full (cells square P) s u (value square P F) D k
-  mark-measured F m =
-      measured-eq (λ i l. refl) (λ i l. refl) (λ i l. rw (says .fields) at (mark-value S says F i l)) (rw (says .fields) at m)
+pub mark-measured : {P : List ℕ} {plan : Plan} {s u : ℕ → ℕ} {D k : ℕ} → Sound P → Says P plan → (F : List ℕ) →
+    Measured (plan .grid .full) (plan .grid .a * plan .grid .b) s u
+    (gridValue (plan .grid .p) (plan .grid .d) (plan .grid .b) (at (plan .grid .x)) (at (plan .grid .y)) F) D k →
+    Measured full (cells square P) s u (value square P F) D k
+mark-measured S says F m =
+    measured-eq (λ i l. refl) (λ i l. refl) (λ i l. rw (says .fields) at (mark-value S says F i l)) (rw (says .fields) at m)
 
 pub reading-is : (C : Code) (P s u F : List ℕ) {R D k : ℕ} → R ≡ radius full C P →
     Measured full (cells C P) (at s) (at u) (value C P F) D k → summary R D k ≡ readingOf C P s u F

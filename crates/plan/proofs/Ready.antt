@@ -13,7 +13,7 @@ use lib.ListN.{take, drop}
 use Rattle.bounded.specs.Bounded.{at}
 use Rattle.bounded.proofs.Tab.{tab-eq}
 use Rattle.bounded.proofs.Part.{part-at}
-use Rattle.field.specs.Row.{row, Row, Reciprocal}
+use Rattle.field.specs.Row.{row, Reciprocal}
 use Rattle.field.proofs.Row.{row-at}
 use Rattle.polynomial.specs.Eval.{Apart}
 use Rattle.definitions.specs.Plan.{modulus, side, point}

@@ -33,7 +33,7 @@ use Rattle.definitions.specs.Code.{strip, square, cells, value, mark, IsRecord}
 use Rattle.definitions.specs.Cost.{full, radius}
 use Rattle.definitions.specs.Sound.{Sound}
 use Rattle.plan.specs.declared.Plan.{Plan}
-use Rattle.plan.specs.Says.{said, Says}
+use Rattle.plan.specs.Says.{Says}
 use Rattle.plan.proofs.Ready.{point-at}
 
 pub same-points : {P : List ℕ} {plan : Plan} → Says P plan → plan .grid .y ≡ plan .grid .x

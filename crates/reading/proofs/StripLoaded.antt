@@ -125,9 +125,6 @@ module _ {P s u B s′ u′ : List ℕ} (t : Taken strip P s u B) (es : s′ ≡
 
   -- the same by the struct that says what the plan does
   module _ {plan : Plan} (says : Says P plan) {r : Decoded} (D : StripDecoded (axisOf (plan .grid)) s′ u′ r) where
-    abbrev g : Grid
-    g = plan .grid
-
     -- a cost is a small number
     pub strip-under : r .found ≡ true → r .cost < 2147483648
     strip-under z = omega (arith, (rw (says .fields) at D) .strip .sound z .1, t .sound .most)
@@ -136,7 +133,7 @@ module _ {P s u B s′ u′ : List ℕ} (t : Taken strip P s u B) (es : s′ ≡
     strip-refused z = refused-said (rw (says .fields) at D) z
 
     pub strip-reading : {W seen : List ℕ} {n R : ℕ} → r .found ≡ true → W ≡ tab (length B) (at (r .message)) → seen ≡ row (at s) →
-        n ≡ changed (g .a) (at seen) (at (r .values)) → R ≡ g .full * 1 * (g .a - g .d) →
+        n ≡ changed (plan .grid .a) (at seen) (at (r .values)) → R ≡ plan .grid .full * 1 * (plan .grid .a - plan .grid .d) →
         Reads strip P s u B (summary R (r .cost) n) W
     strip-reading z stored i e h =
         rw (strip-radius (t .sound) says h) (reading-said (rw (says .fields) at D) z stored i (rw (says .fields) at e))

@@ -8,7 +8,6 @@ use field::inverse::inverses;
 use plan::Plan;
 use reed_solomon::axis::Axis;
 use reed_solomon::decoder::decode;
-ghost use mathlib.Core.Path.{_≡_};
 ghost use mathlib.Core.List.{List};
 ghost use Prim.Native.Nat.{ℕ};
 ghost use Rattle.definitions.specs.Code.{strip as stripCode};

@@ -1,11 +1,10 @@
 -- `measuring::measure_mark` meets its contract: the plan's points are put in for X and for Y. Assumes nothing.
-use mathlib.Core.Path.{sym, _∙_}
+use mathlib.Core.Path.{_∙_}
 use native.Mathlib.Omega.{arith}
 use Rattle.definitions.proofs.Sound.{sound}
 use Rattle.plan.proofs.Ready.{ready}
 use Rattle.plan.proofs.Values.{record-word, same-points, mark-cells, mark-radius}
 use Rattle.measuring.proofs.Rows.{mark-measured, reading-is}
-use borrow.Author.Needs.{needs}
 use Rattle.measuring.proofs.measure_mark.Statement.{statement}
 use Rattle.measuring.proofs.measure_mark.Tie as tie
 

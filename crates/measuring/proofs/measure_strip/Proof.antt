@@ -5,7 +5,6 @@ use Rattle.definitions.proofs.Sound.{sound}
 use Rattle.plan.proofs.Ready.{ready}
 use Rattle.plan.proofs.Values.{record-row, strip-values, strip-radius}
 use Rattle.measuring.proofs.Rows.{strip-measured, reading-is}
-use borrow.Author.Needs.{needs}
 use Rattle.measuring.proofs.measure_strip.Statement.{statement}
 use Rattle.measuring.proofs.measure_strip.Tie as tie
 

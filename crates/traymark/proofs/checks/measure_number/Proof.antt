@@ -1,5 +1,5 @@
 -- `traymark::checks::measure_number` meets its contract: a photograph's refusals come first. Assumes nothing.
-use mathlib.Core.Path.{refl, sym, _∙_}
+use mathlib.Core.Path.{sym, _∙_}
 use native.Mathlib.Omega.{arith}
 use Rattle.definitions.proofs.Refusals.{answered}
 use Rattle.definitions.proofs.Sound.{sound}
