@@ -1,7 +1,6 @@
 -- `drafts::newton::quotient` meets its contract: remainders are a row. Assumes nothing.
 use native.Mathlib.Omega.{arith}
 use Rattle.field.proofs.Row.{result-row}
-use borrow.Author.Needs.{needs}
 use Rattle.drafts.proofs.newton.quotient.Statement.{statement}
 use Rattle.drafts.proofs.newton.quotient.Tie as tie
 

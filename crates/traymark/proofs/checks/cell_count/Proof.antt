@@ -1,7 +1,6 @@
 -- `traymark::checks::cell_count` meets its contract: for marks and for strips. Assumes nothing.
 use native.Mathlib.Omega.{arith}
 use native.Mathlib.Nat.{mul-le-mul}
-use borrow.Author.Needs.{needs}
 use Rattle.traymark.proofs.checks.cell_count.Statement.{statement}
 use Rattle.traymark.proofs.checks.cell_count.Tie as tie
 

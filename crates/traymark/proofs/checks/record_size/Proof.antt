@@ -1,6 +1,5 @@
 -- `traymark::checks::record_size` meets its contract: for marks and for strips. Assumes nothing.
 use native.Mathlib.Omega.{arith}
-use borrow.Author.Needs.{needs}
 use Rattle.traymark.proofs.checks.record_size.Statement.{statement}
 use Rattle.traymark.proofs.checks.record_size.Tie as tie
 
