@@ -1,7 +1,7 @@
 -- Demand 3 follows where at most one record is within the radius.
 --
 --   AtMostOne C P s u   at most one record of the plan is within the radius
---   nearest             then reading is the nearest record's, with all that demand 3 says
+--   nearest-one         then reading is the nearest record's, with all that demand 3 says
 --
 -- What this file is for: what is left to show is the distance of the codes. Assumes nothing.
 use mathlib.Core.Path.{_≡_, refl, sym, ap, _∙_}
@@ -66,8 +66,8 @@ module _ (C : Code) (P s u B : List ℕ) (photo : Photograph C P s u) (buffer : 
     | no m ↦ omega arith
   ]
 
-  pub nearest : Nearest C P s u B
-  nearest = record {
+  pub nearest-one : Nearest C P s u B
+  nearest-one = record {
     alone = λ F G r q n l. elim (decLt (costOf C P s u G) (radius full C P)) [
       | yes m ↦ absurd (n (one F G r q (near F l) (near G m)))
       | no m ↦ omega arith

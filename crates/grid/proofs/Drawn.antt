@@ -41,8 +41,8 @@ added-again {p} {l′} {l} {v} {w} {e} {f} h pos c d g =
     whole : suc (p - 1) ≡ p
     whole = omega arith
 
-modulus : {g : Grid} → Fit g → suc (g .p - 1) ≡ g .p
-modulus f = omega (arith, f .prime .least)
+grid-modulus : {g : Grid} → Fit g → suc (g .p - 1) ≡ g .p
+grid-modulus f = omega (arith, f .prime .least)
 
 -- the column's value times the power of the column point is subtracted
 module _ {g : Grid} (t : ℕ) (f : Fit g) (left left′ : List (List ℕ)) (column : List ℕ) {z w : List ℕ} (sq : Rows (g .p) left)
@@ -51,8 +51,8 @@ module _ {g : Grid} (t : ℕ) (f : Fit g) (left left′ : List (List ℕ)) (colu
   pub without-subtracted : (r : ℕ) → r < g .a → Lessened g t column left left′ r
   without-subtracted r l =
       let h : r < 16 = omega (arith, f .rows) in record {
-        before = λ c m. rw (modulus f) (sq .done r h .small c);
-        after = λ c m. rw (modulus f) (W .rows .done r h .small c);
+        before = λ c m. rw (grid-modulus f) (sq .done r h .small c);
+        after = λ c m. rw (grid-modulus f) (W .rows .done r h .small c);
         term = λ c m.
             let k : c < 16 = omega (arith, f .columns) in
             added-again (omega (arith, result-row _ (positive f) values .small r)) (positive f)

@@ -1,7 +1,8 @@
 -- From the mark decoder's contract to the reading of a sound plan's mark.
 --
 --   flat-cost     the cost over a flat photograph, row by row
---   record-word   coefficients below p make a record
+--   coefficients-record
+--                 coefficients below p make a record
 --   only-square   at most one record is within the radius
 --   mark-none     no answer is refusal 10
 --   mark-record, mark-cost, mark-found
@@ -96,9 +97,9 @@ module _ {P : List ℕ} (S : Sound P) where
   record-one F G f g e = record-eq (degree P) F G low (word F f) (word G g) e
 
   -- coefficients below p make a record
-  pub record-word : (F : List ℕ) → length F ≡ size square P → ((t i : ℕ) → i + t ≤ degree P → coef F i t < suc (modulus P - 1)) →
-      IsRecord square P F
-  record-word F e h = record {
+  pub coefficients-record : (F : List ℕ) → length F ≡ size square P →
+      ((t i : ℕ) → i + t ≤ degree P → coef F i t < suc (modulus P - 1)) → IsRecord square P F
+  coefficients-record F e h = record {
     size = e;
     below = λ m l. let (i, t, k, z) = place (degree P) m low (rw add-one at l) in rw z (rw (plan-modulus S) at (h t i k));
   }
@@ -153,7 +154,7 @@ module _ (P s u B : List ℕ) (clear : first (photoRows square P s u B) ≡ 0) {
         (start-below (i + t) (degree P + 1) t (omega arith) (omega (arith, low S)) (omega arith))
 
     pub mark-record : IsRecord square P W
-    mark-record = record-word S W len λ t i l. rw (coefficients t i l) (D .below z t i l)
+    mark-record = coefficients-record S W len λ t i l. rw (coefficients t i l) (D .below z t i l)
 
     pub mark-cost : g ≡ costOf square P s u W
     mark-cost = D .sound z .0 ∙ sym (cost-of W (coef m) coefficients)

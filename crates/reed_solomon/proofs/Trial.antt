@@ -1,6 +1,6 @@
 -- A trial misses no polynomial.
 --
---   modulus             the prime of an axis as the successor that the laws of congruence want
+--   axis-modulus        the prime of an axis as the successor that the laws of congruence want
 --   usable-bits, usable-sum
 --                       the row of usable cells: zeros and ones, and their number
 --   holds-few           no more cells have entered than there are
@@ -55,8 +55,8 @@ use Rattle.reed_solomon.specs.Near.{missed, Near, usable, suspect, Refut
 use Rattle.reed_solomon.specs.Decoded.{Confirmed, Tried, hit, miss, Hoped, Candidate}
 use Rattle.reed_solomon.proofs.Near.{first-over, usable-all, usable-right, suspect-right, eqb-same}
 
-pub modulus : {g : Axis} → Valid g → suc (g .p - 1) ≡ g .p
-modulus v = omega (arith, v .prime .least)
+pub axis-modulus : {g : Axis} → Valid g → suc (g .p - 1) ≡ g .p
+axis-modulus v = omega (arith, v .prime .least)
 
 usable-bit : (b : Bool) (w : ℕ) → w ≤ 1 → cond b 0 w ≤ 1
 usable-bit true w l = omega arith
@@ -92,7 +92,7 @@ pub cost-values : {g : Axis} → Valid g → (s u w : List ℕ) {v : List ℕ} �
 cost-values {g} valid s u w e = sum-eq (g .n) λ j l.
     ap (cell (g .full) (at s j) (at u j))
     (ap (λ t. at t j) e ∙ row-at (λ j. value j % g .p) j (omega (arith, valid .most))
-    ∙ ap (λ t. value j % t) (sym (modulus valid)))
+    ∙ ap (λ t. value j % t) (sym (axis-modulus valid)))
   where
     value : ℕ → ℕ
     value j = eval (suc (g .k)) (at w) (at (g .x) j)
@@ -107,7 +107,7 @@ module _ {g : Axis} {s u : List ℕ} {t : Pairs} (R : Received g s u) (H : Holds
   free = usable (at (t .entered)) (at (t .e2))
 
   prime : Prime (suc (g .p - 1))
-  prime = rw (modulus (R .axis)) (R .axis .prime)
+  prime = rw (axis-modulus (R .axis)) (R .axis .prime)
 
   word-lead : (h : ℕ → ℕ) → Lead (g .p - 1) (g .n) (at (g .x)) (g .k) (h (g .k)) (word g h)
   word-lead h = lead-eq (same refl) (λ j _. remainder (eval (suc (g .k)) h (at (g .x) j))) (eval-lead (g .k) h)
@@ -115,7 +115,7 @@ module _ {g : Axis} {s u : List ℕ} {t : Pairs} (R : Received g s u) (H : Holds
   small : (h : ℕ → ℕ) (j : ℕ) → j < g .n → (at s j < suc (g .p - 1)) × (word g h j < suc (g .p - 1)) ×
       (at (t .e2) j < suc (g .p - 1)) × (at (t .d2) j < suc (g .p - 1))
   small h j _ =
-      let e = modulus (R .axis) in (
+      let e = axis-modulus (R .axis) in (
         rw e (R .symbols .small j),
         mod-lt (eval (suc (g .k)) h (at (g .x) j)) (omega arith),
         rw e (H .shaped .e2 .small j),
@@ -292,6 +292,7 @@ module _ {g : Axis} {s u l : List ℕ} {f : Newton} (R : Received g s u) (fit : 
       right j o = eqb-same (at (f .rest) j) (at (replicate 16 0) j) (at s j) (at (r .values) j)
           (λ z. sym (value j o ∙ ap (λ t. (t + 1 * at s j) % g .p) (z ∙ zeros-at 16 j) ∙ ap (λ t. t % g .p) (omega arith)
           ∙ mod-eq-of-lt (R .symbols .small j)))
-          (λ z. below-eq (rw (modulus (R .axis)) (fit .whole .rest .small j)) (rw (modulus (R .axis), zeros-at 16 j) pos)
+          (λ z. below-eq (rw (axis-modulus (R .axis)) (fit .whole .rest .small j))
+          (rw (axis-modulus (R .axis), zeros-at 16 j) pos)
           (cancel (same {a = at s j} refl) (same (omega arith) ⨾ ~sym (mod-cong pos (at (f .rest) j + 1 * at s j))
           ⨾ same {b = at (replicate 16 0) j + at s j} (omega (arith, value j o, z, zeros-at 16 j)))))

@@ -29,7 +29,7 @@ use Rattle.definitions.specs.Demands.{RefusalsKeep, Written, RoundTrip, Weighed
 use Rattle.definitions.specs.Demands.{UnreadCosts, MarkMargins, LowestGiven, Measures}
 use Rattle.definitions.proofs.Refusals.{first-lowest, first-absent}
 use Rattle.definitions.proofs.Sound.{sound, checked}
-use Rattle.definitions.proofs.Demands.{nearest}
+use Rattle.definitions.proofs.Demands.{nearest-one}
 use Rattle.definitions.proofs.Accepted.{accepted-writing, accepted-measuring, accepted-reading, measuring-accepted}
 use Rattle.definitions.proofs.Own.{own-photo, own-reading, own-read}
 use Rattle.definitions.proofs.Published.{photo-weighed}
@@ -56,8 +56,8 @@ demand-1 = record {
 -- where a record costs under the limit, every other record of the plan costs the limit or more; the reading is the one under the
 -- limit with its cost; it is refusal 10 exactly when no record costs under the limit.
 pub demand-3 : (C : Code) (P s u B : List ℕ) → Photograph C P s u → length B ≡ size C P → Nearest C P s u B
-demand-3 strip P s u B h l = nearest strip P s u B h l (only-strip P s u h)
-demand-3 square P s u B h l = nearest square P s u B h l (only-square P s u h)
+demand-3 strip P s u B h l = nearest-one strip P s u B h l (only-strip P s u h)
+demand-3 square P s u B h l = nearest-one square P s u B h l (only-square P s u h)
 
 -- Demand 2, writing: for every plan, record and buffer that the writer accepts, each cell of the buffer afterwards has the value,
 -- modulo p, of the record's polynomial at its row and column points; for a strip, at its point.
