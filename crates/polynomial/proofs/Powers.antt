@@ -3,7 +3,7 @@
 --   equal-rows                  rows that have one number everywhere
 --   powers-less                 the powers up to a degree serve a lower one
 --   powers-start, powers-first, powers-step   the first row is all ones, and each is the one before times the points
---   terms m w i j               the first i terms at point j, by the rows m and the coefficients w, not reduced
+--   terms rows w i j            the first i terms at point j, by the rows and the coefficients w, not reduced
 --   terms-none, terms-more      none, and one term more, as a loop makes them
 --   terms-row, term-fits        the sums are small, and one term more can be added
 --   terms-values                reduced, they are the polynomial's values
@@ -16,14 +16,15 @@ use Prim.Native.Nat.{ℕ, zero, suc, _+_, _*_, _-_, _%_, _^_, _≤_, _<_}
 use native.Mathlib.Numerals.{add-one}
 use native.Mathlib.Omega.{arith}
 use native.Mathlib.Nat.{le-of-lt, mod-eq-of-lt, pow-zero, pow-suc}
-use lib.ListN.{getD, replicate, getD-replicate}
+use lib.ListN.{getD, set, replicate, getD-replicate}
 use Rattle.bounded.specs.Bounded.{at, sum}
 use Rattle.bounded.proofs.Sum.{sum-le, sum-const, sum-more}
 use Rattle.bounded.proofs.Tab.{length-tab, tab-is, tab-eq}
 use Rattle.field.specs.Congruence.{Cong}
+use Rattle.field.specs.Loop.{Upto}
 use Rattle.field.specs.Row.{row, Row}
 use Rattle.field.proofs.Congruence.{same, _⨾_, ~add, ~mul, ~mul-right, cong-mod}
-use Rattle.field.proofs.Loop.{upto-less}
+use Rattle.field.proofs.Loop.{upto-step, upto-less}
 use Rattle.field.proofs.Reciprocal.{product-fits}
 use Rattle.field.proofs.Row.{row-at, row-of, result-cong}
 use Rattle.polynomial.specs.Eval.{eval}
@@ -37,61 +38,61 @@ equal-rows v h = record {
       (row-of (omega arith) refl λ j k. rw (getD-replicate {A = ℕ} 16 j v 0 k) h);
 }
 
-pub powers-less : (p : ℕ) (x : List ℕ) {d k : ℕ} {m : List (List ℕ)} → k ≤ d → Powers p x d m → Powers p x k m
+pub powers-less : (p : ℕ) (x : List ℕ) {d k : ℕ} {rows : List (List ℕ)} → k ≤ d → Powers p x d rows → Powers p x k rows
 powers-less p x h P = upto-less (omega arith) P
 
 pub powers-start : {p : ℕ} (x : List ℕ) → 1 < p → replicate 16 1 ≡ row (λ j. at x j ^ 0 % p)
 powers-start {p} x h = tab-is 16 _ (replicate 16 1) refl λ j l.
     getD-replicate 16 j 1 0 l ∙ sym (ap (λ v. v % p) (pow-zero (at x j)) ∙ mod-eq-of-lt h)
 
-pub powers-first : {p : ℕ} (x : List ℕ) → 1 < p → Powers p x 0 (replicate 16 (replicate {A = ℕ} 16 1))
-powers-first x h = record {
-  size = refl;
-  done = λ t l. let e : t ≡ 0 = omega arith in rw e (powers-start x h);
-}
+pub powers-first : {p : ℕ} (x : List ℕ) {rows : List (List ℕ)} → 1 < p → Rows p rows → Powers p x 0 (set rows 0 (replicate 16 1))
+powers-first {p} x {rows} h R = upto-step {l = rows} (replicate 16 1) (omega arith) (powers-start x h) none
+  where
+    none : Upto 16 [] (λ t l. l ≡ row λ j. at x j ^ t % p) rows 0
+    none = record { size = R .size; done = λ t l. absurd (omega arith) }
 
 pub powers-step : {p : ℕ} (t : ℕ) (x : List ℕ) {v l : List ℕ} → 0 < p → v ≡ row (λ j. at x j ^ t % p) →
     l ≡ row (λ j. at v j * at x j % p) → l ≡ row (λ j. at x j ^ (t + 1) % p)
 powers-step t x z e f = f ∙ rw (add-one t)
     (tab-eq 16 λ j k. cong-mod z (~mul-right (at x j) (result-cong _ z e j k) ⨾ same (sym (pow-suc (at x j) t))))
 
--- the first i terms of the values at point j, by the rows m and the coefficients w, not reduced
-abbrev pub terms : (m : List (List ℕ)) (w : ℕ → ℕ) (i j : ℕ) → ℕ
-terms m w i j = sum i λ t. w t * at (getD m t []) j
+-- the first i terms of the values at point j, by the rows and the coefficients w, not reduced
+abbrev pub terms : (rows : List (List ℕ)) (w : ℕ → ℕ) (i j : ℕ) → ℕ
+terms rows w i j = sum i λ t. w t * at (getD rows t []) j
 
 -- the sums at all points as a loop makes them: none, and one term more
-pub terms-none : (m : List (List ℕ)) (w : ℕ → ℕ) → replicate 16 0 ≡ row (terms m w 0)
-terms-none m w = tab-is 16 _ (replicate 16 0) refl λ j k. getD-replicate 16 j 0 0 k
+pub terms-none : (rows : List (List ℕ)) (w : ℕ → ℕ) → replicate 16 0 ≡ row (terms rows w 0)
+terms-none rows w = tab-is 16 _ (replicate 16 0) refl λ j k. getD-replicate 16 j 0 0 k
 
-pub terms-more : (m : List (List ℕ)) (w : ℕ → ℕ) (i : ℕ) {s l : List ℕ} → s ≡ row (terms m w i) →
-    l ≡ row (λ j. at s j + w i * at (getD m i []) j) → l ≡ row (terms m w (i + 1))
-terms-more m w i e f = f ∙ rw e
-    (tab-eq 16 λ j k. omega (arith, row-at (terms m w i) j k, sum-more i (λ t. w t * at (getD m t []) j)))
+pub terms-more : (rows : List (List ℕ)) (w : ℕ → ℕ) (i : ℕ) {s l : List ℕ} → s ≡ row (terms rows w i) →
+    l ≡ row (λ j. at s j + w i * at (getD rows i []) j) → l ≡ row (terms rows w (i + 1))
+terms-more rows w i e f = f ∙ rw e
+    (tab-eq 16 λ j k. omega (arith, row-at (terms rows w i) j k, sum-more i (λ t. w t * at (getD rows t []) j)))
 
 -- each term is a product of two residues, so that the sums are small, and one term more can be added
-module _ {p : ℕ} {m : List (List ℕ)} {w : ℕ → ℕ} (h : p ≤ 251) (R : Rows p m) (W : (t : ℕ) → t < 16 → w t < p) where
-  terms-most : (i j : ℕ) → i ≤ 16 → terms m w i j ≤ i * 62750
+module _ {p : ℕ} {rows : List (List ℕ)} {w : ℕ → ℕ} (h : p ≤ 251) (R : Rows p rows) (W : (t : ℕ) → t < 16 → w t < p) where
+  terms-most : (i j : ℕ) → i ≤ 16 → terms rows w i j ≤ i * 62750
   terms-most i j l = omega (arith, sum-le i {g = λ t. 62750} each, sum-const i 62750)
     where
-      each : (t : ℕ) → t < i → w t * at (getD m t []) j ≤ 62750
+      each : (t : ℕ) → t < i → w t * at (getD rows t []) j ≤ 62750
       each t k = let s : t < 16 = omega arith in product-fits h (le-of-lt (W t s)) (R .done t s .small j)
 
-  pub terms-row : (i : ℕ) {s : List ℕ} → i ≤ 16 → s ≡ row (terms m w i) → Row 16777216 s
+  pub terms-row : (i : ℕ) {s : List ℕ} → i ≤ 16 → s ≡ row (terms rows w i) → Row 16777216 s
   terms-row i l e = rw e
-      (row-of (omega arith) (length-tab 16 (terms m w i)) λ j k. rw (row-at (terms m w i) j k) (omega (arith, terms-most i j l)))
+      (row-of (omega arith) (length-tab 16 (terms rows w i)) λ j k. rw (row-at (terms rows w i) j k) (omega (arith, terms-most i j l)))
 
-  pub term-fits : (i : ℕ) {s : List ℕ} → i < 16 → s ≡ row (terms m w i) → Row 16777216 s × (w i < 256) × Row 256 (getD m i [])
+  pub term-fits : (i : ℕ) {s : List ℕ} → i < 16 → s ≡ row (terms rows w i) → Row 16777216 s × (w i < 256) × Row 256 (getD rows i [])
   term-fits i l e =
       let r = R .done i l in
       (terms-row i (omega arith) e, omega (arith, W i l), record { size = r .size; small = λ j. omega (arith, r .small j) })
 
-module _ {p d : ℕ} {m : List (List ℕ)} (w : ℕ → ℕ) (x : List ℕ) (z : 0 < p) (P : Powers p x d m) where
-  terms-cong : (i j : ℕ) → i ≤ suc d → j < 16 → Cong (p - 1) (terms m w i j) (eval i w (at x j))
+module _ {p d : ℕ} {rows : List (List ℕ)} (w : ℕ → ℕ) (x : List ℕ) (z : 0 < p) (P : Powers p x d rows) where
+  terms-cong : (i j : ℕ) → i ≤ suc d → j < 16 → Cong (p - 1) (terms rows w i j) (eval i w (at x j))
   terms-cong zero j h k = same refl
   terms-cong (suc i) j h k = ~add (terms-cong i j (omega arith) k) (~mul (w i) (result-cong _ z (P .done i (omega arith)) j k))
 
   -- reduced, they are the values
-  pub terms-values : {s l : List ℕ} → s ≡ row (terms m w (suc d)) → l ≡ row (λ j. at s j % p) →
+  pub terms-values : {s l : List ℕ} → s ≡ row (terms rows w (suc d)) → l ≡ row (λ j. at s j % p) →
       l ≡ row (λ j. eval (suc d) w (at x j) % p)
   terms-values e f = f
-      ∙ rw e (tab-eq 16 λ j k. cong-mod z (same (row-at (terms m w (suc d)) j k) ⨾ terms-cong (suc d) j (omega arith) k))
+      ∙ rw e (tab-eq 16 λ j k. cong-mod z (same (row-at (terms rows w (suc d)) j k) ⨾ terms-cong (suc d) j (omega arith) k))
