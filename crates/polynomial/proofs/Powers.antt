@@ -16,15 +16,14 @@ use Prim.Native.Nat.{ℕ, zero, suc, _+_, _*_, _-_, _%_, _^_, _≤_, _<_}
 use native.Mathlib.Numerals.{add-one}
 use native.Mathlib.Omega.{arith}
 use native.Mathlib.Nat.{le-of-lt, mod-eq-of-lt, pow-zero, pow-suc}
-use lib.ListN.{getD, set, replicate, getD-replicate}
+use lib.ListN.{getD, replicate, getD-replicate}
 use Rattle.bounded.specs.Bounded.{at, sum}
 use Rattle.bounded.proofs.Sum.{sum-le, sum-const, sum-more}
 use Rattle.bounded.proofs.Tab.{length-tab, tab-is, tab-eq}
 use Rattle.field.specs.Congruence.{Cong}
-use Rattle.field.specs.Loop.{Upto}
 use Rattle.field.specs.Row.{row, Row}
 use Rattle.field.proofs.Congruence.{same, _⨾_, ~add, ~mul, ~mul-right, cong-mod}
-use Rattle.field.proofs.Loop.{upto-step, upto-less}
+use Rattle.field.proofs.Loop.{upto-less}
 use Rattle.field.proofs.Reciprocal.{product-fits}
 use Rattle.field.proofs.Row.{row-at, row-of, result-cong}
 use Rattle.polynomial.specs.Eval.{eval}
@@ -45,11 +44,11 @@ pub powers-start : {p : ℕ} (x : List ℕ) → 1 < p → replicate 16 1 ≡ row
 powers-start {p} x h = tab-is 16 _ (replicate 16 1) refl λ j l.
     getD-replicate 16 j 1 0 l ∙ sym (ap (λ v. v % p) (pow-zero (at x j)) ∙ mod-eq-of-lt h)
 
-pub powers-first : {p : ℕ} (x : List ℕ) {rows : List (List ℕ)} → 1 < p → Rows p rows → Powers p x 0 (set rows 0 (replicate 16 1))
-powers-first {p} x {rows} h R = upto-step {l = rows} (replicate 16 1) (omega arith) (powers-start x h) none
-  where
-    none : Upto 16 [] (λ t l. l ≡ row λ j. at x j ^ t % p) rows 0
-    none = record { size = R .size; done = λ t l. absurd (omega arith) }
+pub powers-first : {p : ℕ} (x : List ℕ) → 1 < p → Powers p x 0 (replicate 16 (replicate {A = ℕ} 16 1))
+powers-first x h = record {
+  size = refl;
+  done = λ t l. let e : t ≡ 0 = omega arith in rw e (powers-start x h);
+}
 
 pub powers-step : {p : ℕ} (t : ℕ) (x : List ℕ) {v l : List ℕ} → 0 < p → v ≡ row (λ j. at x j ^ t % p) →
     l ≡ row (λ j. at v j * at x j % p) → l ≡ row (λ j. at x j ^ (t + 1) % p)
@@ -79,9 +78,11 @@ module _ {p : ℕ} {rows : List (List ℕ)} {w : ℕ → ℕ} (h : p ≤ 251) (R
 
   pub terms-row : (i : ℕ) {s : List ℕ} → i ≤ 16 → s ≡ row (terms rows w i) → Row 16777216 s
   terms-row i l e = rw e
-      (row-of (omega arith) (length-tab 16 (terms rows w i)) λ j k. rw (row-at (terms rows w i) j k) (omega (arith, terms-most i j l)))
+      (row-of (omega arith) (length-tab 16 (terms rows w i)) λ j k.
+      rw (row-at (terms rows w i) j k) (omega (arith, terms-most i j l)))
 
-  pub term-fits : (i : ℕ) {s : List ℕ} → i < 16 → s ≡ row (terms rows w i) → Row 16777216 s × (w i < 256) × Row 256 (getD rows i [])
+  pub term-fits : (i : ℕ) {s : List ℕ} → i < 16 → s ≡ row (terms rows w i) →
+      Row 16777216 s × (w i < 256) × Row 256 (getD rows i [])
   term-fits i l e =
       let r = R .done i l in
       (terms-row i (omega arith) e, omega (arith, W i l), record { size = r .size; small = λ j. omega (arith, r .small j) })

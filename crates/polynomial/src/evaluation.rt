@@ -8,13 +8,13 @@ ghost use Rattle.field.specs.Row.{row, Row, Reciprocal};
 ghost use Rattle.polynomial.specs.Eval.{eval};
 ghost use Rattle.polynomial.specs.Powers.{Rows, Powers};
 
-// Row t becomes the powers t of the points x, t from 0 to d; the other rows stay.
-pub fn fill_powers(rows: &mut [[u16; 16]; 16], x: [u16; 16], d: usize, p: u16, m: u16)
-    requires { ⌜ Reciprocal p m × Row p x × (d < 16) × Rows p (now rows) ⌝ }
-    ensures { λ _. ⌜ Rows p (now (rows .exit)) × Powers p x d (now (rows .exit)) ⌝ }
+// Row t has the powers t of the points x, t from 0 to d.
+pub fn powers(x: [u16; 16], d: usize, p: u16, m: u16) -> [[u16; 16]; 16]
+    requires { ⌜ Reciprocal p m × Row p x × (d < 16) ⌝ }
+    ensures { λ r. ⌜ Rows p r × Powers p x d r ⌝ }
 {
     let mut power = [1; 16];
-    rows[0] = power;
+    let mut rows = [power; 16];
     let mut t = 0;
     while t < d {
         let next = field::rows::multiply(power, x, p, m);
@@ -22,15 +22,6 @@ pub fn fill_powers(rows: &mut [[u16; 16]; 16], x: [u16; 16], d: usize, p: u16, m
         rows[t] = next;
         power = next;
     }
-}
-
-// Such rows, those above d being all ones.
-pub fn powers(x: [u16; 16], d: usize, p: u16, m: u16) -> [[u16; 16]; 16]
-    requires { ⌜ Reciprocal p m × Row p x × (d < 16) ⌝ }
-    ensures { λ r. ⌜ Rows p r × Powers p x d r ⌝ }
-{
-    let mut rows = [[1u16; 16]; 16];
-    fill_powers(&mut rows, x, d, p, m);
     rows
 }
 

@@ -70,8 +70,9 @@ passed-zeros = record {
   todo = λ j _ l. getD-replicate {A = List ℕ} 16 j (replicate 16 0) [] l;
 }
 
-pub passed-rest : {T : ℕ → List ℕ → Type 0} {m : List (List ℕ)} {n : ℕ} → Passed 16 [] (λ r l. l ≡ replicate 16 0) T m n →
-    ((r : ℕ) → n ≤ r → T r (replicate 16 0)) → Upto 16 [] T m 16
+pub passed-rest : {T : ℕ → List ℕ → Type 0} {rows : List (List ℕ)} {n : ℕ} →
+    Passed 16 [] (λ r l. l ≡ replicate 16 0) T rows n →
+    ((r : ℕ) → n ≤ r → T r (replicate 16 0)) → Upto 16 [] T rows 16
 passed-rest {T} {n} P zeros = record {
   size = P .size;
   done = λ j l. elim (decLt j n) [ yes k ↦ P .done j k | no k ↦ let h : n ≤ j = omega arith in rw (P .todo j h l) (zeros j h) ];

@@ -1,7 +1,6 @@
 -- The degree steps of the decoder, on a grid g: symbols s, doubts u, what is left of the symbols, and columns, whose row t has
 -- the coefficients found before Y^t, by rising power of X.
 --
---   Begun g t ys        rows of residues, which from the first step on, that of degree d, are the powers of the column points
 --   Stepped g t left u left′ ws ok column vs
 --                       one step: the strip of what the lines hand on was read and gave the column of Y^t, or no answer; where it
 --                       did, its values are subtracted, and the messages ws and costs vs are what is known of the lines for the
@@ -20,7 +19,7 @@ use mathlib.Core.List.{List}
 use Prim.Native.Nat.{ℕ, suc, _*_, _-_, _≤_, _<_}
 use Rattle.bounded.specs.Bounded.{at}
 use Rattle.field.specs.Row.{Row}
-use Rattle.polynomial.specs.Powers.{Rows, Powers}
+use Rattle.polynomial.specs.Powers.{Rows}
 use Rattle.polynomial.specs.declared.Grid.{Grid}
 use Rattle.polynomial.specs.Fit.{gridRadius}
 use Rattle.reed_solomon.specs.Strip.{Strip}
@@ -31,10 +30,6 @@ use Rattle.grid.specs.Loops.{cellAt}
 use Rattle.grid.specs.Answers.{KnownRows}
 use Rattle.grid.specs.Drawn.{found, Lessened, left-over, Drawn}
 use Rattle.reed_muller.specs.Degree.{GridNear, GridLeft}
-
-pub record Begun (g : Grid) (t : ℕ) (ys : List (List ℕ)) : Type 0 where
-  pub rows : Rows (g .p) ys
-  pub powers : t < g .d → Powers (g .p) (g .y) (g .d) ys
 
 pub record Stepped (g : Grid) (t : ℕ) (left u left′ ws : List (List ℕ)) (ok : Bool) (column vs : List ℕ) : Type 0 where
   pub e : List ℕ

@@ -16,7 +16,7 @@ ghost use Rattle.polynomial.specs.Powers.{Rows};
 ghost use Rattle.polynomial.specs.Fit.{Fit};
 ghost use Rattle.grid.specs.Axes.{DoubtRows, ColumnPowers};
 ghost use Rattle.grid.specs.Answers.{KnownRows};
-ghost use Rattle.reed_muller.specs.Steps.{Begun, Stepped, Drafted, Solved};
+ghost use Rattle.reed_muller.specs.Steps.{Stepped, Drafted, Solved};
 
 // What a step gives: the coefficients of Y^t by rising power of X, and the costs of the lines whose answers are kept.
 pub struct Column {
@@ -28,12 +28,13 @@ pub struct Column {
 // The powers of the column points, made at the first step that has an answer, which is that of degree d: a mark without one ends
 // before.
 fn make_powers(g: Grid, t: usize, ys: &mut [[u16; 16]; 16])
-    requires { ⌜ Fit g × (t ≤ g .d) × Begun g t (now ys) ⌝ }
+    requires { ⌜ Fit g × (t ≤ g .d) × (t < g .d → ColumnPowers g (now ys)) ⌝ }
     ensures { λ _. ⌜ ColumnPowers g (now (ys .exit)) ⌝ }
 {
     if t == g.d {
         let y = g.y;
-        evaluation::fill_powers(ys, y, g.d, g.p, g.m);
+        let powers = evaluation::powers(y, g.d, g.p, g.m);
+        *ys = powers;
     }
 }
 
@@ -49,7 +50,7 @@ fn step(
     left: &mut [[u16; 16]; 16],
     doubts: &[[u32; 16]; 16],
 ) -> Column
-    requires { ⌜ Fit g × Inverses (g .p) (now inverses) × Begun g t (now ys) × (t ≤ g .d) ×
+    requires { ⌜ Fit g × Inverses (g .p) (now inverses) × (t < g .d → ColumnPowers g (now ys)) × (t ≤ g .d) ×
         Rows (g .p) (now left) × DoubtRows g (now doubts) × KnownRows g t (now left) (now doubts) (now messages) known ⌝ }
     ensures { λ r. ⌜ Stepped g t (now (left .entry)) (now (doubts .entry)) (now (left .exit)) (now (messages .exit))
         (r .found) (r .message) (r .known) × (r .found ≡ true → ColumnPowers g (now (ys .exit))) ⌝ }

@@ -10,4 +10,4 @@ make-powers-spec =
     (tie.spec
     (λ c κs. search needs)
     (λ c. search needs)
-    (λ c. let B = c .before .before .pre .2 in record { rows = B .rows; powers = B .powers (omega arith) }))
+    (λ c. c .before .before .pre .2 (omega arith)))

@@ -6,7 +6,6 @@ use native.Mathlib.Omega.{arith}
 use native.Mathlib.Numerals.{add-one}
 use lib.ListN.{set, getD-replicate}
 use borrow.Author.Tests.{not-true, not-false}
-use Rattle.polynomial.specs.Powers.{Rows}
 use Rattle.polynomial.proofs.Powers.{equal-rows}
 use Rattle.grid.specs.Axes.{ColumnPowers}
 use Rattle.grid.specs.Answers.{unknown}
@@ -20,7 +19,7 @@ use Rattle.reed_muller.proofs.solver.solve_by_degrees.Tie as tie
 
 abbrev Inv-loop : tie.InvT-loop
 Inv-loop g inverses left₀ doubts columns₀ radius ys₀ messages₀ known₀ untried₀ t₀ left columns ys messages known untried t =
-    (t ≤ g .d + 1) × Solving g t left₀ doubts left columns messages known × Rows (g .p) ys × (t ≤ g .d → ColumnPowers g ys)
+    (t ≤ g .d + 1) × Solving g t left₀ doubts left columns messages known × (t ≤ g .d → ColumnPowers g ys)
 
 abbrev μ-loop : tie.MeasureT-loop
 μ-loop g inverses left₀ doubts columns₀ radius ys₀ messages₀ known₀ untried₀ t₀ left columns ys messages known untried t = t
@@ -86,16 +85,16 @@ solve-by-degrees-spec =
     let start = c .before .before in
     let (f, _, sq, _, columns) = start .pre in
     let S = solving-start f sq columns (equal-rows 0 (positive f)) refl (λ r l. getD-replicate 16 r unknown 0 l) in
-    (omega arith, rw (add-one (start .args .g .d)) S, equal-rows 0 (positive f), λ l. absurd (omega arith)))
+    (omega arith, rw (add-one (start .args .g .d)) S, λ l. absurd (omega arith)))
     (λ c. search needs)
     (λ c κs.
     let turn = c .before .before .before in
     let head = turn .before in
     let (f, I, _, du, _) = head .before .before .before .pre in
-    let (high, S, R, P) = head .loop .inv in (
+    let (high, S, P) = head .loop .inv in (
       f,
       I,
-      record { rows = R; powers = λ l. P (omega (arith, turn .loop-test .taken)) .powers },
+      λ l. P (omega (arith, turn .loop-test .taken)),
       omega (arith, high, turn .loop-test .taken),
       S .rows,
       du,
@@ -123,14 +122,14 @@ solve-by-degrees-spec =
     let radius = head (step .before .before) .before .before .radius .ensures .0 in
     let over = c .before .complete .ensures .over (omega (arith, c .if4 .left, radius)) in
     let S = solving-redrawn (found step) (drafted .from-lines .ensures) in
-    (omega (arith, low (step .before .before)), rw over S, made step .rows, λ _. made step))
+    (omega (arith, low (step .before .before)), rw over S, λ _. made step))
     (λ c. search needs)
     (λ c.
     let drafted = c .before in
     let step = drafted .before .before .before .before .before .before in
     let S = solving-redrawn (found step) (drafted .from-lines .ensures) in
-    (omega (arith, low (step .before .before)), S, made step .rows, λ _. made step))
+    (omega (arith, low (step .before .before)), S, λ _. made step))
     (λ c. search needs)
-    (λ c. let step = c .before .before .before in (omega (arith, low (step .before .before)), found step, made step .rows, λ _. made step))
+    (λ c. let step = c .before .before .before in (omega (arith, low (step .before .before)), found step, λ _. made step))
     (λ c κs. search needs)
     returns-3)
