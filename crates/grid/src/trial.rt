@@ -33,23 +33,23 @@ fn subtract_below(
 }
 
 // The cost of what the columns leave, those from Y^t on being subtracted already. Where it is under the radius the others are
-// subtracted; else `left` stays as it was.
+// subtracted; else `left` stays as it was. ys has the powers of the column points.
 pub fn complete(
     g: Grid,
+    ys: &[[u16; 16]; 16],
     t: usize,
     columns: &[[u16; 16]; 16],
     left: &mut [[u16; 16]; 16],
     doubts: &[[u32; 16]; 16],
 ) -> u32
-    requires { ⌜ Fit g × (t ≤ suc (g .d)) × Rows (g .p) (now columns) × Rows (g .p) (now left) × DoubtRows g (now doubts) ⌝ }
+    requires { ⌜ Fit g × ColumnPowers g (now ys) × (t ≤ suc (g .d)) × Rows (g .p) (now columns) × Rows (g .p) (now left) ×
+        DoubtRows g (now doubts) ⌝ }
     ensures { λ r. ⌜ Completed g t (now (doubts .entry)) (now (columns .entry)) (now (left .entry)) (now (left .exit)) r ⌝ }
 {
     let x = g.x;
-    let y = g.y;
     let xs = evaluation::powers(x, g.d, g.p, g.m);
-    let ys = evaluation::powers(y, g.d, g.p, g.m);
     let before = *left;
-    subtract_below(g, &xs, &ys, t, columns, left);
+    subtract_below(g, &xs, ys, t, columns, left);
     let cost = remainder::measure(g, left, doubts);
     if cost >= limit::radius(g) {
         *left = before;

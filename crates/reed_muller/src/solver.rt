@@ -118,7 +118,7 @@ fn solve_by_degrees(
         if untried {
             if drafts::columns::from_lines(g, inverses, t, &messages, known, columns) {
                 untried = false;
-                let cost = trial::complete(g, t, columns, left, doubts);
+                let cost = trial::complete(g, &ys, t, columns, left, doubts);
                 if cost < radius {
                     return cost;
                 }
@@ -144,7 +144,9 @@ fn try_cells(
     if !drafts::columns::from_cells(g, inverses, left, columns) {
         return limit::radius(g);
     }
-    trial::complete(g, g.d + 1, columns, left, doubts)
+    let y = g.y;
+    let ys = evaluation::powers(y, g.d, g.p, g.m);
+    trial::complete(g, &ys, g.d + 1, columns, left, doubts)
 }
 
 // The record under the radius, if there is one: its coefficients of Y^t in row t of the columns, what it leaves of the symbols in

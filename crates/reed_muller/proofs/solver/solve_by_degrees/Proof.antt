@@ -63,7 +63,7 @@ returns c =
 
 returns-2 : tie.Need-returns-2 Inv-loop μ-loop
 returns-2 c =
-    let drafted = c .before .before .before .before .before in
+    let drafted = c .before .before .before .before .before .before in
     let step = drafted .before .before .before .before .before .before in
     let radius = head (step .before .before) .before .before .radius .ensures .0 in
     drawn-solved (solving-drawn (solving-redrawn (found step) (drafted .from-lines .ensures))) (c .before .complete .ensures)
@@ -109,15 +109,15 @@ solve-by-degrees-spec =
     let b = start s .pre in
     (b .0, b .1, low s, s .step .ensures .0 .lines, found step .coefficients))
     (λ c κs.
-    let drafted = c .before .before .before in
+    let drafted = c .before .before .before .before in
     let step = drafted .before .before .before .before .before .before in
     let s = step .before .before in
     let b = start s .pre in
-    (b .0, omega (arith, low s), drafted .from-lines .ensures .rows, found step .rows, b .3))
+    (b .0, made step, omega (arith, low s), drafted .from-lines .ensures .rows, found step .rows, b .3))
     returns-2
     (λ c. search needs)
     (λ c.
-    let drafted = c .before .before .before .before .before in
+    let drafted = c .before .before .before .before .before .before in
     let step = drafted .before .before .before .before .before .before in
     let radius = head (step .before .before) .before .before .radius .ensures .0 in
     let over = c .before .complete .ensures .over (omega (arith, c .if4 .left, radius)) in

@@ -15,7 +15,8 @@ returns c = record {
 
 returns-2 : tie.Need-returns-2
 returns-2 c =
-    let drawn = c .before .before .before .before .before in
+    let made = c .before .before .before .before .before in
+    let drawn = made .before .before .before in
     drawn-drafted (drawn .before .before .before .pre .2) (drawn .from-cells .ensures) (c .complete .ensures)
 
 pub try-cells-spec : {M : Type 1} → statement M
@@ -24,5 +25,14 @@ try-cells-spec =
     (tie.spec
     (λ c κs. search needs) (λ c κs. search needs)
     returns
-    (λ c. search needs) (λ c κs. search needs)
+    (λ c κs.
+    let f = c .before .before .before .before .before .pre .0 in
+    (f .reciprocal, f .columnPoints, omega (arith, f .low, f .rows)))
+    (λ c. search needs)
+    (λ c κs.
+    let made = c .before .before .before .before in
+    let drawn = made .before .before .before in
+    let (f, _, sq, du, _) = drawn .before .before .before .pre in
+    let P = made .powers .ensures in
+    (f, record { rows = P .0; powers = P .1 }, omega arith, drawn .from-cells .ensures, sq, du))
     returns-2)
