@@ -80,20 +80,20 @@ module _ (C : Code) (P : List ℕ) where
     unfolding photoRows planRows checkNumber
     photo-refused k e h = first-refuses (planRows P) (photoTests (modulus P) full s u F (cells C P) (size C P)) tt k e h
 
-    pub photo-passes : {m : ℕ} → m ≡ checkNumber P → m ≡ 0 →
+    pub photo-passes : checkNumber P ≡ 0 →
         first (photoTests (modulus P) full s u F (cells C P) (size C P)) ≡ first (photoRows C P s u F)
     unfolding photoRows planRows checkNumber
-    photo-passes e z = first-passes (planRows P) (photoTests (modulus P) full s u F (cells C P) (size C P)) tt (sym e ∙ z)
+    photo-passes = first-passes (planRows P) (photoTests (modulus P) full s u F (cells C P) (size C P)) tt
 
   module _ (F B : List ℕ) where
     pub write-refused : (k : ℕ) → k ≡ checkNumber P → (k ≡ 0 → ⊥) → k ≡ writeNumber C P F B
     unfolding writeNumber writeRows planRows checkNumber
     write-refused k e h = first-refuses (planRows P) (writeTests (modulus P) F B (cells C P) (size C P)) tt k e h
 
-    pub write-passes : {m : ℕ} → m ≡ checkNumber P → m ≡ 0 →
+    pub write-passes : checkNumber P ≡ 0 →
         first (writeTests (modulus P) F B (cells C P) (size C P)) ≡ writeNumber C P F B
     unfolding writeNumber writeRows planRows checkNumber
-    write-passes e z = first-passes (planRows P) (writeTests (modulus P) F B (cells C P) (size C P)) tt (sym e ∙ z)
+    write-passes = first-passes (planRows P) (writeTests (modulus P) F B (cells C P) (size C P)) tt
 
   -- measuring: the photograph's number, and the test after it
   module _ (s u F : List ℕ) where

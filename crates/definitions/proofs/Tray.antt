@@ -58,10 +58,10 @@ module _ (input : List ℕ) where
         go (yes l) =
             let a : length (symbolsOf input) ≡ n = simp (length-take, length-drop) (omega arith) in
             let b : length (doubtsOf input) ≡ n → ⊥ = simp length-drop (λ k. h (omega arith)) in
-            photo-text 6 (first-at tests 1 (equal _ _ a, unequal _ _ b) ∙ photo-passes square _ _ _ _ refl e) (λ k. omega arith)
+            photo-text 6 (first-at tests 1 (equal _ _ a, unequal _ _ b) ∙ photo-passes square _ _ _ _ e) (λ k. omega arith)
         go (no l) =
             let a : length (symbolsOf input) ≡ n → ⊥ = simp (length-take, length-drop) (λ k. omega (arith, whole)) in
-            photo-text 6 (first-at tests 0 (unequal _ _ a) ∙ photo-passes square _ _ _ _ refl e) (λ k. omega arith)
+            photo-text 6 (first-at tests 0 (unequal _ _ a) ∙ photo-passes square _ _ _ _ e) (λ k. omega arith)
 
     excess-text : longest < length input → refusedLine 6 ≡ trayText input
     excess-text l = let m = sound (planOf input) e .most in count-text λ h. omega (arith, mul-le-mul m m)

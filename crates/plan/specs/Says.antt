@@ -1,7 +1,7 @@
 -- What a plan says, as the struct that the code above takes.
 --
 --   said P m      the plan P as a struct; m stands for the reciprocal of its prime
---   Says P plan   the struct says what the plan P does
+--   Says P plan   the plan P is sound, and the struct says what it does
 --   Ready plan    the numbers of its grid fit together, and the full doubt is a byte's, and not the highest
 --
 -- What this file is for: the contract of `parse`; and what the functions that take the struct rest on.
@@ -12,6 +12,7 @@ use Rattle.field.specs.Row.{row, Reciprocal}
 use Rattle.polynomial.specs.Fit.{Fit}
 use Rattle.definitions.specs.Plan.{season, modulus, side, degree, point}
 use Rattle.definitions.specs.Cost.{full}
+use Rattle.definitions.specs.Sound.{Sound}
 use Rattle.plan.specs.declared.Plan.{Plan}
 
 abbrev pub said : List ℕ → ℕ → Plan
@@ -30,6 +31,7 @@ said P m = record {
 }
 
 pub record Says (P : List ℕ) (plan : Plan) : Type 0 where
+  pub sound : Sound P
   pub m : ℕ
   pub fields : plan ≡ said P m
   pub reciprocal : Reciprocal (modulus P) m

@@ -1,11 +1,10 @@
 -- Marks and strips, and the checks that they share.
 --
---   photo-at, write-at               the number of the test at which a check stops
---   photo-said, write-said           the checks by the struct that says what a plan does are those by the plan itself
+--   photo-at, write-at               under a sound plan, the number of the test at which a check stops is the call's
 --   doubts-reached, record-reached   what `field::bytes::reaches` answered of doubts and of a record is the answer to their tests
 --
 -- What this file is for: the checks give the definitions' numbers. Assumes nothing.
-use mathlib.Core.Path.{_≡_, refl}
+use mathlib.Core.Path.{_≡_, refl, _∙_}
 use mathlib.Core.Bool.{Bool, true, false}
 use mathlib.Core.List.{List}
 use Prim.Native.Nat.{ℕ, _+_}
@@ -13,38 +12,42 @@ use native.Mathlib.Numerals.{add-one}
 use lib.ListN.{length}
 use Rattle.field.specs.Word.{reached}
 use Rattle.definitions.specs.Refusals.{first}
-use Rattle.definitions.specs.Plan.{modulus}
 use Rattle.definitions.specs.Code.{size, cells}
-use Rattle.definitions.specs.Cost.{full}
-use Rattle.definitions.specs.Calls.{excessive, overflowing, photoTests, writeTests}
+use Rattle.definitions.specs.Calls.{excessive, overflowing, photoTests, photoRows, writeTests, writeNumber}
 use Rattle.definitions.proofs.Refusals.{Stops, numberAt, first-at, answered}
+use Rattle.definitions.proofs.Sound.{checked}
+use Rattle.definitions.proofs.Accepted.{photo-passes, write-passes}
 use Rattle.plan.specs.declared.Plan.{Plan}
 use Rattle.plan.specs.Says.{Says}
-use Rattle.traymark.specs.Kind.{codeOf, sizeOf, cellsOf, photoRefusal, writeRefusal}
+use Rattle.traymark.specs.Kind.{codeOf, sizeOf, cellsOf}
 
-pub photo-at : (p f : ℕ) (s u F : List ℕ) {n k n′ k′ : ℕ} (i : ℕ) → n ≡ n′ → k ≡ k′ → Stops (photoTests p f s u F n k) i →
-    numberAt (photoTests p f s u F n k) i ≡ photoRefusal p f s u F n′ k′
-unfolding photoRefusal
-photo-at p f s u F {n} {k} i e h t = rw (← e, ← h) (first-at (photoTests p f s u F n k) i t)
+-- what the struct says of cells and records is what the plan does
+cells-said : (square : Bool) {P : List ℕ} {plan : Plan} → Says P plan → cellsOf square (plan .grid) ≡ cells (codeOf square) P
+unfolding cellsOf
+cells-said true says = rw (says .fields) refl
+cells-said false says = rw (says .fields) refl
 
-pub write-at : (p : ℕ) (F B : List ℕ) {n k n′ k′ : ℕ} (i : ℕ) → n ≡ n′ → k ≡ k′ → Stops (writeTests p F B n k) i →
-    numberAt (writeTests p F B n k) i ≡ writeRefusal p F B n′ k′
-unfolding writeRefusal
-write-at p F B {n} {k} i e h t = rw (← e, ← h) (first-at (writeTests p F B n k) i t)
+size-said : (square : Bool) {P : List ℕ} {plan : Plan} → Says P plan → sizeOf square (plan .grid) ≡ size (codeOf square) P
+unfolding sizeOf
+size-said true says = rw (says .fields) refl
+size-said false says = rw (says .fields) refl
 
-pub photo-said : (square : Bool) {P : List ℕ} {plan : Plan} → Says P plan → (s u F : List ℕ) →
-    photoRefusal (plan .grid .p) (plan .grid .full) s u F (cellsOf square (plan .grid)) (sizeOf square (plan .grid))
-    ≡ first (photoTests (modulus P) full s u F (cells (codeOf square) P) (size (codeOf square) P))
-unfolding photoRefusal
-photo-said true says s u F = rw (says .fields) refl
-photo-said false says s u F = rw (says .fields) refl
+module _ (square : Bool) {P : List ℕ} {plan : Plan} (says : Says P plan) {n k : ℕ} where
+  pub photo-at : (s u F : List ℕ) (i : ℕ) → n ≡ cellsOf square (plan .grid) → k ≡ sizeOf square (plan .grid) →
+      Stops (photoTests (plan .grid .p) (plan .grid .full) s u F n k) i →
+      numberAt (photoTests (plan .grid .p) (plan .grid .full) s u F n k) i ≡ first (photoRows (codeOf square) P s u F)
+  photo-at s u F i e h t =
+      first-at (photoTests (plan .grid .p) (plan .grid .full) s u F n k) i t
+      ∙ rw (e ∙ cells-said square says, h ∙ size-said square says, says .fields)
+      (photo-passes (codeOf square) P s u F (checked P (says .sound)))
 
-pub write-said : (square : Bool) {P : List ℕ} {plan : Plan} → Says P plan → (F B : List ℕ) →
-    writeRefusal (plan .grid .p) F B (cellsOf square (plan .grid)) (sizeOf square (plan .grid))
-    ≡ first (writeTests (modulus P) F B (cells (codeOf square) P) (size (codeOf square) P))
-unfolding writeRefusal
-write-said true says F B = rw (says .fields) refl
-write-said false says F B = rw (says .fields) refl
+  pub write-at : (F B : List ℕ) (i : ℕ) → n ≡ cellsOf square (plan .grid) → k ≡ sizeOf square (plan .grid) →
+      Stops (writeTests (plan .grid .p) F B n k) i →
+      numberAt (writeTests (plan .grid .p) F B n k) i ≡ writeNumber (codeOf square) P F B
+  write-at F B i e h t =
+      first-at (writeTests (plan .grid .p) F B n k) i t
+      ∙ rw (e ∙ cells-said square says, h ∙ size-said square says, says .fields)
+      (write-passes (codeOf square) P F B (checked P (says .sound)))
 
 pub doubts-reached : {r t : Bool} {n : ℕ} (f : ℕ) (u : List ℕ) → length u ≡ n → r ≡ reached (f + 1) u → r ≡ t →
     excessive f u n ≡ t

@@ -1,6 +1,6 @@
-// The refusals that writing, measuring and reading share, for marks (`square`) and for strips: one test for each row of document
-// 01's table "What is returned", in its order. Any bytes of any length get an answer. A loop over cells looks at all of them,
-// with no way out, so that it is vectorised.
+// The refusals of writing, measuring and reading under a sound plan, for marks (`square`) and for strips: one test for each row
+// of document 01's table "What is returned", in its order. Records and buffers may be any bytes of any length. A loop over cells
+// looks at all of them, with no way out, so that it is vectorised.
 use definitions::UNREAD;
 use field::bytes;
 use plan::Plan;
@@ -8,32 +8,22 @@ use polynomial::Grid;
 use polynomial::bivariate::start;
 ghost use mathlib.Core.Path.{_≡_};
 ghost use mathlib.Core.Bool.{not, _&&_};
+ghost use mathlib.Core.List.{List};
+ghost use Prim.Native.Nat.{ℕ};
 ghost use lib.Dec.{eqb, leb};
 ghost use lib.ListN.{length};
 ghost use Rattle.polynomial.specs.Fit.{Fit};
 ghost use Rattle.definitions.specs.Refusals.{first};
 ghost use Rattle.definitions.specs.Cost.{unread};
 ghost use Rattle.definitions.specs.Calls.{strange, halfRead, photoRows, writeNumber, measureNumber};
-ghost use Rattle.plan.specs.Says.{Ready};
-ghost use Rattle.traymark.specs.Kind.{codeOf, sizeOf, cellsOf, photoRefusal, writeRefusal};
+ghost use Rattle.plan.specs.Says.{Says, Ready};
+ghost use Rattle.traymark.specs.Kind.{codeOf, sizeOf, cellsOf};
 
-// Refusals 1 to 6 and 9, those of writing: the number of the first that applies, else 0. Of the buffer only the length counts.
-pub fn write_number(square: bool, plan: &[u8], record: &[u8], buffer: &[u8]) -> u32
-    ensures { λ r. ⌜ r ≡ writeNumber (codeOf square) (now (plan .entry)) (now («record» .entry)) (now (buffer .entry)) ⌝ }
-{
-    let number = plan::check(plan);
-    if number != 0 {
-        return number;
-    }
-    write_refusal(square, plan::parse(plan), record, buffer)
-}
-
-// The same after the plan's own.
-fn write_refusal(square: bool, plan: Plan, record: &[u8], buffer: &[u8]) -> u32
+// Refusals 6 and 9, those of writing: the number of the first that applies, else 0. Of the buffer only the length counts.
+pub(crate) fn write_refusal(square: bool, plan: Plan, record: &[u8], buffer: &[u8]) -> u32
     requires { ⌜ Ready plan ⌝ }
-    ensures { λ r. ⌜ r
-        ≡ writeRefusal (plan .grid .p) (now («record» .entry)) (now (buffer .entry)) (cellsOf square (plan .grid))
-        (sizeOf square (plan .grid)) ⌝ }
+    ensures { λ r. ⌜ ((P : List ℕ) → Says P plan →
+        r ≡ writeNumber (codeOf square) P (now («record» .entry)) (now (buffer .entry))) ⌝ }
 {
     let g = plan.grid;
     if record.len() != record_size(square, g) {
@@ -48,23 +38,17 @@ fn write_refusal(square: bool, plan: Plan, record: &[u8], buffer: &[u8]) -> u32
     0
 }
 
-// Refusals 1 to 8, those of a photograph with a record or the buffer for one. Of the record only the length counts.
-pub fn photo_number(square: bool, plan: &[u8], symbols: &[u8], doubts: &[u8], record: &[u8]) -> u32
-    ensures { λ r. ⌜ r ≡ first (photoRows (codeOf square) (now (plan .entry)) (now (symbols .entry)) (now (doubts .entry))
-        (now («record» .entry))) ⌝ }
-{
-    let number = plan::check(plan);
-    if number != 0 {
-        return number;
-    }
-    photo_refusal(square, plan::parse(plan), symbols, doubts, record)
-}
-
-// The same after the plan's own.
-fn photo_refusal(square: bool, plan: Plan, symbols: &[u8], doubts: &[u8], record: &[u8]) -> u32
+// Refusals 6 to 8, those of a photograph with a record or the buffer for one. Of the record only the length counts.
+pub(crate) fn photo_refusal(
+    square: bool,
+    plan: Plan,
+    symbols: &[u8],
+    doubts: &[u8],
+    record: &[u8],
+) -> u32
     requires { ⌜ Ready plan ⌝ }
-    ensures { λ r. ⌜ r ≡ photoRefusal (plan .grid .p) (plan .grid .full) (now (symbols .entry)) (now (doubts .entry))
-        (now («record» .entry)) (cellsOf square (plan .grid)) (sizeOf square (plan .grid)) ⌝ }
+    ensures { λ r. ⌜ ((P : List ℕ) → Says P plan →
+        r ≡ first (photoRows (codeOf square) P (now (symbols .entry)) (now (doubts .entry)) (now («record» .entry)))) ⌝ }
 {
     let g = plan.grid;
     let n = cell_count(square, g);
@@ -89,23 +73,23 @@ fn photo_refusal(square: bool, plan: Plan, symbols: &[u8], doubts: &[u8], record
     0
 }
 
-// Refusals 1 to 9, those of measuring.
-pub fn measure_number(
+// Refusals 6 to 9, those of measuring.
+pub(crate) fn measure_refusal(
     square: bool,
-    plan: &[u8],
+    plan: Plan,
     symbols: &[u8],
     doubts: &[u8],
     record: &[u8],
 ) -> u32
-    ensures { λ r. ⌜ r ≡ measureNumber (codeOf square) (now (plan .entry)) (now (symbols .entry)) (now (doubts .entry))
-        (now («record» .entry)) ⌝ }
+    requires { ⌜ Ready plan ⌝ }
+    ensures { λ r. ⌜ ((P : List ℕ) → Says P plan →
+        r ≡ measureNumber (codeOf square) P (now (symbols .entry)) (now (doubts .entry)) (now («record» .entry))) ⌝ }
 {
-    let number = photo_number(square, plan, symbols, doubts, record);
+    let number = photo_refusal(square, plan, symbols, doubts, record);
     if number != 0 {
         return number;
     }
-    let said = plan::parse(plan);
-    if bytes::reaches(record, said.grid.p as u8) {
+    if bytes::reaches(record, plan.grid.p as u8) {
         return 9;
     }
     0

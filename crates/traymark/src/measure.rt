@@ -24,11 +24,16 @@ pub extern "C" fn traymark_measure_mark(
     ensures { λ r. ⌜ r
         ≡ measureReading square (now (plan .entry)) (now (symbols .entry)) (now (doubts .entry)) (now («record» .entry)) ⌝ }
 {
-    let number = checks::measure_number(true, plan, symbols, doubts, record);
+    let number = plan::check(plan);
     if number != 0 {
         return answers::refused(number);
     }
-    measuring::measure_mark(plan::parse(plan), record, symbols, doubts)
+    let said = plan::parse(plan);
+    let number = checks::measure_refusal(true, said, symbols, doubts, record);
+    if number != 0 {
+        return answers::refused(number);
+    }
+    measuring::measure_mark(said, record, symbols, doubts)
 }
 
 // The same for a strip: `record` has d + 1 bytes, lowest power first, `symbols` and `doubts` have n.
@@ -42,9 +47,14 @@ pub extern "C" fn traymark_measure_strip(
     ensures { λ r. ⌜ r
         ≡ measureReading strip (now (plan .entry)) (now (symbols .entry)) (now (doubts .entry)) (now («record» .entry)) ⌝ }
 {
-    let number = checks::measure_number(false, plan, symbols, doubts, record);
+    let number = plan::check(plan);
     if number != 0 {
         return answers::refused(number);
     }
-    measuring::measure_strip(plan::parse(plan), record, symbols, doubts)
+    let said = plan::parse(plan);
+    let number = checks::measure_refusal(false, said, symbols, doubts, record);
+    if number != 0 {
+        return answers::refused(number);
+    }
+    measuring::measure_strip(said, record, symbols, doubts)
 }

@@ -28,11 +28,16 @@ pub extern "C" fn traymark_read_mark(
     ensures bytes { λ r. ⌜ now («record» .exit)
         ≡ readBuffer square (now (plan .entry)) (now (symbols .entry)) (now (doubts .entry)) (now («record» .entry)) ⌝ }
 {
-    let number = checks::photo_number(true, plan, symbols, doubts, record);
+    let number = plan::check(plan);
     if number != 0 {
         return answers::refused(number);
     }
-    reading::mark::read_mark(plan::parse(plan), symbols, doubts, record)
+    let said = plan::parse(plan);
+    let number = checks::photo_refusal(true, said, symbols, doubts, record);
+    if number != 0 {
+        return answers::refused(number);
+    }
+    reading::mark::read_mark(said, symbols, doubts, record)
 }
 
 // The same for a strip: `record` has d + 1 bytes, lowest power first, `symbols` and `doubts` have n, and
@@ -49,9 +54,14 @@ pub extern "C" fn traymark_read_strip(
     ensures bytes { λ r. ⌜ now («record» .exit)
         ≡ readBuffer strip (now (plan .entry)) (now (symbols .entry)) (now (doubts .entry)) (now («record» .entry)) ⌝ }
 {
-    let number = checks::photo_number(false, plan, symbols, doubts, record);
+    let number = plan::check(plan);
     if number != 0 {
         return answers::refused(number);
     }
-    reading::strip::read_strip(plan::parse(plan), symbols, doubts, record)
+    let said = plan::parse(plan);
+    let number = checks::photo_refusal(false, said, symbols, doubts, record);
+    if number != 0 {
+        return answers::refused(number);
+    }
+    reading::strip::read_strip(said, symbols, doubts, record)
 }

@@ -17,11 +17,16 @@ pub extern "C" fn traymark_write_mark(plan: &[u8], record: &[u8], mark: &mut [u8
     ensures bytes { λ r. ⌜ now (mark .exit)
         ≡ writeBuffer square (now (plan .entry)) (now («record» .entry)) (now (mark .entry)) ⌝ }
 {
-    let number = checks::write_number(true, plan, record, mark);
+    let number = plan::check(plan);
     if number != 0 {
         return number;
     }
-    writing::write_mark(plan::parse(plan), record, mark);
+    let said = plan::parse(plan);
+    let number = checks::write_refusal(true, said, record, mark);
+    if number != 0 {
+        return number;
+    }
+    writing::write_mark(said, record, mark);
     0
 }
 
@@ -33,10 +38,15 @@ pub extern "C" fn traymark_write_strip(plan: &[u8], record: &[u8], strip: &mut [
     ensures bytes { λ r. ⌜ now (strip .exit)
         ≡ writeBuffer stripCode (now (plan .entry)) (now («record» .entry)) (now (strip .entry)) ⌝ }
 {
-    let number = checks::write_number(false, plan, record, strip);
+    let number = plan::check(plan);
     if number != 0 {
         return number;
     }
-    writing::write_strip(plan::parse(plan), record, strip);
+    let said = plan::parse(plan);
+    let number = checks::write_refusal(false, said, record, strip);
+    if number != 0 {
+        return number;
+    }
+    writing::write_strip(said, record, strip);
     0
 }

@@ -9,9 +9,10 @@ returns : tie.Need-returns
 returns c =
     let inverse = c .before .before .before .before in
     let points = inverse .before in
-    let P = points .before .before .before .before .before .args .plan .now in record {
+    let start = points .before .before .before .before .before in record {
+      sound = start .pre;
       m = inverse .reciprocal .result;
-      fields = rw (c .season-of .ensures, points-loaded P (points .row .ensures)) refl;
+      fields = rw (c .season-of .ensures, points-loaded (start .args .plan .now) (points .row .ensures)) refl;
       reciprocal = inverse .reciprocal .ensures;
     }
 

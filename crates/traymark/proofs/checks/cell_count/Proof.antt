@@ -1,13 +1,16 @@
 -- `traymark::checks::cell_count` meets its contract: for marks and for strips. Assumes nothing.
 use native.Mathlib.Omega.{arith}
 use native.Mathlib.Nat.{mul-le-mul}
+use Rattle.traymark.specs.Kind.{cellsOf}
 use Rattle.traymark.proofs.checks.cell_count.Statement.{statement}
 use Rattle.traymark.proofs.checks.cell_count.Tie as tie
 
 returns : tie.Need-returns
+unfolding cellsOf
 returns c = rw (c .before .if1 .taken)
 
 returns-2 : tie.Need-returns-2
+unfolding cellsOf
 returns-2 c = rw (c .if1 .left)
 
 pub cell-count-spec : {M : Type 1} → statement M

@@ -1,12 +1,15 @@
 -- `traymark::checks::record_size` meets its contract: for marks and for strips. Assumes nothing.
 use native.Mathlib.Omega.{arith}
+use Rattle.traymark.specs.Kind.{sizeOf}
 use Rattle.traymark.proofs.checks.record_size.Statement.{statement}
 use Rattle.traymark.proofs.checks.record_size.Tie as tie
 
 returns : tie.Need-returns
+unfolding sizeOf
 returns c = rw (c .before .if1 .taken) (c .start .ensures)
 
 returns-2 : tie.Need-returns-2
+unfolding sizeOf
 returns-2 c = rw (c .if1 .left)
 
 pub record-size-spec : {M : Type 1} → statement M
