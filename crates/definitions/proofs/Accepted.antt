@@ -1,6 +1,6 @@
 -- What a call that is not refused knows of its arguments, and the number of one that is.
 --
---   accepted-measuring            measuring: a sound plan, a photograph and a record
+--   accepted-measuring            measuring: a photograph of a sound plan, and a record
 --   accepted-reading              reading: a photograph
 --   accepted-writing              writing: what it asks of its arguments
 --   photo-refused, photo-passes   the plan's own number; past the plan, that of the tests of a photograph
@@ -24,7 +24,6 @@ use Rattle.definitions.specs.Calls.{overflowing, recordRow, photoTests, 
 use Rattle.definitions.specs.Calls.{writeTests, writeRows, writeNumber, measureRows, measureNumber}
 use Rattle.definitions.specs.Calls.{nearest, missing, readRows, readNumber}
 use Rattle.definitions.specs.Code.{IsRecord}
-use Rattle.definitions.specs.Sound.{Sound}
 use Rattle.definitions.specs.Photograph.{Photograph}
 use Rattle.definitions.specs.Accepted.{Writing}
 use Rattle.definitions.proofs.Refusals.{testAt, first-clear, first-both, Stops, numberAt, first-at, first-refuses}
@@ -45,12 +44,11 @@ module _ (C : Code) (P : List ℕ) where
     below = λ i l. leb-false _ _ (any-none _ _ (first-clear (recordRow C P F ∷ []) tt h 0) i l);
   }
 
-  pub accepted-measuring : (s u F : List ℕ) → measureNumber C P s u F ≡ 0 → Sound P × Photograph C P s u × IsRecord C P F
+  pub accepted-measuring : (s u F : List ℕ) → measureNumber C P s u F ≡ 0 → Photograph C P s u × IsRecord C P F
   unfolding measureNumber measureRows photoRows planRows
   accepted-measuring s u F e =
       let b = first-both (photoRows C P s u F) (recordRow C P F ∷ []) tt e in
-      let h = accepted-photo C P s u F (b .0) in
-      (sound P (h .sound), h, record-is F (accepted-buffer C P s u F (b .0)) (b .1))
+      (accepted-photo C P s u F (b .0), record-is F (accepted-buffer C P s u F (b .0)) (b .1))
 
   pub accepted-reading : (s u B : List ℕ) → readNumber C P s u B ≡ 0 → Photograph C P s u
   unfolding readNumber readRows photoRows planRows

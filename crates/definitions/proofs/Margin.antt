@@ -58,7 +58,7 @@ module _ (P s u : List ℕ) (h : Photograph square P s u) where
   photo-range : (F : List ℕ) → InRange (readingOf square P s u F .margin)
   unfolding readingOf
   photo-range F =
-      let S = sound P (h .sound) in
+      let S = h .sound in
       let n : side P * side P ≤ 16 * side P = mul-le-mul-right (side P) (S .most) in
       let k : side P * 1 ≤ side P * (side P - degree P) = mul-le-mul-left (side P) (omega (arith, S .low)) in
       let r : side P - degree P ≤ 16 = omega (arith, S .most) in
@@ -73,7 +73,7 @@ accepted-range (suc k) r h = (leZ-yes tt, leZ-yes tt)
 pub measured-range : (P s u F : List ℕ) → InRange (measureReading square P s u F .margin)
 unfolding measureReading
 measured-range P s u F = accepted-range (measureNumber square P s u F) _ λ e.
-    photo-range P s u (accepted-measuring square P s u F e .1) F
+    photo-range P s u (accepted-measuring square P s u F e .0) F
 
 pub read-range : (P s u B : List ℕ) → InRange (readReading square P s u B .margin)
 unfolding readReading

@@ -31,7 +31,6 @@ use Rattle.definitions.specs.Code.{IsRecord}
 use Rattle.definitions.specs.Sound.{Sound}
 use Rattle.definitions.specs.Photograph.{Photograph, sure}
 use Rattle.definitions.specs.Demands.{Nearest, clean}
-use Rattle.definitions.proofs.Sound.{checked}
 
 zeros-at : (n c : ℕ) → at (replicate n 0) c ≡ 0
 zeros-at zero c = refl
@@ -76,7 +75,7 @@ module _ (P : List ℕ) (S : Sound P) where
   pub own-photo : (C : Code) (F : List ℕ) → Photograph C P (mark C P F) (sure (cells C P))
   unfolding mark
   own-photo C F = record {
-    sound = checked P S;
+    sound = S;
     symbols = length-tab (cells C P) (value C P F);
     doubts = zeros-length (cells C P);
     symbol = λ c l. inl (rw (mark-at C P F c l) (value-below C F c));

@@ -20,6 +20,7 @@ use Rattle.definitions.specs.Code.{Code, cells, size}
 use Rattle.definitions.specs.Cost.{full, unread}
 use Rattle.definitions.specs.Calls.{strange, excessive, halfRead, photoTests, photoRows}
 use Rattle.definitions.specs.Photograph.{Photograph}
+use Rattle.definitions.proofs.Sound.{checked, sound}
 use Rattle.definitions.proofs.Refusals.{first-append, first-at, first-clear, testAt, equal}
 
 module _ (C : Code) (P s u B : List ℕ) where
@@ -40,7 +41,7 @@ module _ (C : Code) (P s u B : List ℕ) where
   not-both false b e h = absurd (true≢false (sym h))
 
   pub photo-accepted : Photograph C P s u → length B ≡ size C P → first (photoRows C P s u B) ≡ 0
-  photo-accepted h l = split ∙ ap (λ k. accepted k (first rest) k) (h .sound) ∙ sym (first-at rest 6
+  photo-accepted h l = split ∙ ap (λ k. accepted k (first rest) k) (checked P (h .sound)) ∙ sym (first-at rest 6
       (equal _ _ (h .symbols), (equal _ _ (h .doubts), (equal _ _ l, (symbol, (doubt, (erased, tt)))))))
     where
       symbol : strange (modulus P) s (cells C P) ≡ false
@@ -58,15 +59,15 @@ module _ (C : Code) (P s u B : List ℕ) where
       erased = none-any _ _ λ c m. both-false _ _ λ t. equal _ _ (h .erased c m (eqb-true _ _ t))
 
   module _ (e : first (photoRows C P s u B) ≡ 0) where
-    sound : checkNumber P ≡ 0
-    sound = go (checkNumber P) (sym split ∙ e)
+    passed : checkNumber P ≡ 0
+    passed = go (checkNumber P) (sym split ∙ e)
       where
         go : (k : ℕ) → accepted k (first rest) k ≡ 0 → k ≡ 0
         go zero h = refl
         go (suc k) h = h
 
     clear : (i : ℕ) → testAt rest i ≡ false
-    clear = first-clear rest tt (sym (split ∙ ap (λ k. accepted k (first rest) k) sound) ∙ e)
+    clear = first-clear rest tt (sym (split ∙ ap (λ k. accepted k (first rest) k) passed) ∙ e)
 
     not-not : (b : Bool) → not b ≡ false → b ≡ true
     not-not true h = refl
@@ -74,7 +75,7 @@ module _ (C : Code) (P s u B : List ℕ) where
 
     pub accepted-photo : Photograph C P s u
     accepted-photo = record {
-      sound = sound;
+      sound = sound P passed;
       symbols = eqb-true _ _ (not-not _ (clear 0));
       doubts = eqb-true _ _ (not-not _ (clear 1));
       symbol = λ c m. one c (leb (modulus P) (at s c)) refl (any-none _ _ (clear 3) c m);

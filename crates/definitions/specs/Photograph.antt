@@ -11,12 +11,13 @@ use mathlib.Core.List.{List}
 use Prim.Native.Nat.{ℕ, _≤_, _<_}
 use lib.ListN.{length, replicate}
 use Rattle.bounded.specs.Bounded.{at}
-use Rattle.definitions.specs.Plan.{modulus, checkNumber}
+use Rattle.definitions.specs.Plan.{modulus}
 use Rattle.definitions.specs.Code.{Code, cells}
 use Rattle.definitions.specs.Cost.{full, unread}
+use Rattle.definitions.specs.Sound.{Sound}
 
 pub record Photograph (C : Code) (P s u : List ℕ) : Type 0 where
-  pub sound : checkNumber P ≡ 0
+  pub sound : Sound P
   pub symbols : length s ≡ cells C P
   pub doubts : length u ≡ cells C P
   pub symbol : (c : ℕ) → c < cells C P → (at s c < modulus P) ⊎ (at s c ≡ unread)

@@ -22,7 +22,6 @@ use Rattle.definitions.specs.Plan.{side}
 use Rattle.definitions.specs.Code.{Code, strip, square, cells, value}
 use Rattle.definitions.specs.Cost.{full, radius}
 use Rattle.definitions.specs.Calls.{readingOf}
-use Rattle.definitions.specs.Sound.{Sound}
 use Rattle.definitions.specs.Photograph.{Photograph}
 use Rattle.plan.specs.declared.Plan.{Plan}
 use Rattle.plan.specs.Says.{Says}
@@ -57,12 +56,12 @@ pub strip-measured : {P s u : List ℕ} {plan : Plan} {v w : ℕ → ℕ} {D k :
     Measured full (side P) (at s) (at u) w D k
 strip-measured photo says e m = measured-eq (λ i l. refl) (λ i l. refl) e (rw (says .fields, photo .symbols) at m)
 
-pub mark-measured : {P : List ℕ} {plan : Plan} {s u : ℕ → ℕ} {D k : ℕ} → Sound P → Says P plan → (F : List ℕ) →
+pub mark-measured : {P : List ℕ} {plan : Plan} {s u : ℕ → ℕ} {D k : ℕ} → Says P plan → (F : List ℕ) →
     Measured (plan .grid .full) (plan .grid .a * plan .grid .b) s u
     (gridValue (plan .grid .p) (plan .grid .d) (plan .grid .b) (at (plan .grid .x)) (at (plan .grid .y)) F) D k →
     Measured full (cells square P) s u (value square P F) D k
-mark-measured S says F m =
-    measured-eq (λ i l. refl) (λ i l. refl) (λ i l. rw (says .fields) at (mark-value S says F i l)) (rw (says .fields) at m)
+mark-measured says F m =
+    measured-eq (λ i l. refl) (λ i l. refl) (λ i l. rw (says .fields) at (mark-value says F i l)) (rw (says .fields) at m)
 
 pub reading-is : (C : Code) (P s u F : List ℕ) {R D k : ℕ} → R ≡ radius full C P →
     Measured full (cells C P) (at s) (at u) (value C P F) D k → summary R D k ≡ readingOf C P s u F

@@ -54,5 +54,5 @@ module _ {P : List ℕ} (S : Sound P) where
     byte = omega arith;
   }
 
-  pub ready : {plan : Plan} → Says P plan → Ready plan
-  ready s = rw (s .fields) (said-ready (s .m) (s .reciprocal))
+pub ready : {P : List ℕ} {plan : Plan} → Says P plan → Ready plan
+ready says = rw (says .fields) (said-ready (says .sound) (says .m) (says .reciprocal))

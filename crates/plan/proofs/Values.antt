@@ -31,7 +31,6 @@ use Rattle.polynomial.proofs.Distance.{distance-square}
 use Rattle.definitions.specs.Plan.{modulus, side, degree, point}
 use Rattle.definitions.specs.Code.{strip, square, cells, value, mark, IsRecord}
 use Rattle.definitions.specs.Cost.{full, radius}
-use Rattle.definitions.specs.Sound.{Sound}
 use Rattle.plan.specs.declared.Plan.{Plan}
 use Rattle.plan.specs.Says.{Says}
 use Rattle.plan.proofs.Ready.{point-at}
@@ -42,7 +41,7 @@ same-points says = rw (says .fields) refl
 pub mark-cells : {P : List ℕ} {plan : Plan} → Says P plan → cells square P ≡ plan .grid .a * plan .grid .b
 mark-cells says = rw (says .fields) refl
 
-module _ {P : List ℕ} {plan : Plan} (S : Sound P) (says : Says P plan) where
+module _ {P : List ℕ} {plan : Plan} (says : Says P plan) where
   abbrev g : Grid
   g = plan .grid
 
@@ -54,7 +53,7 @@ module _ {P : List ℕ} {plan : Plan} (S : Sound P) (says : Says P plan) where
       (row-of z (length-tab 16 _) λ i l. rw (row-at (at F) i l) (residue i (decLt i (degree P + 1))))
     where
       z : 0 < modulus P
-      z = omega (arith, S .prime .least)
+      z = omega (arith, says .sound .prime .least)
 
       residue : (i : ℕ) → Dec (i < degree P + 1) → at F i < modulus P
       residue i (yes l) = f .below i l
@@ -64,11 +63,11 @@ module _ {P : List ℕ} {plan : Plan} (S : Sound P) (says : Says P plan) where
   pub mark-value : (F : List ℕ) (c : ℕ) → c < side P * side P →
       gridValue (g .p) (g .d) (g .b) (at (g .x)) (at (g .y)) F c ≡ value square P F c
   mark-value F c l = rw (says .fields)
-      (ap₂ (valueXY (modulus P) (degree P) F) (point-at S (c / side P) (div-lt-iff-lt-mul z .1 l))
-      (point-at S (c % side P) (mod-lt c z)))
+      (ap₂ (valueXY (modulus P) (degree P) F) (point-at (says .sound) (c / side P) (div-lt-iff-lt-mul z .1 l))
+      (point-at (says .sound) (c % side P) (mod-lt c z)))
     where
       z : 0 < side P
-      z = omega (arith, S .some)
+      z = omega (arith, says .sound .some)
 
   pub mark-is : (F : List ℕ) → tab (g .a * g .b) (gridValue (g .p) (g .d) (g .b) (at (g .x)) (at (g .y)) F) ≡ mark square P F
   unfolding mark
@@ -84,15 +83,17 @@ module _ {P : List ℕ} {plan : Plan} (S : Sound P) (says : Says P plan) where
   -- the values v of the polynomial with the coefficients w
   pub strip-values : (F : List ℕ) {w v : List ℕ} → w ≡ row (at F) → v ≡ row (λ j. eval (suc (g .d)) (at w) (at (g .x) j) % g .p) →
       (j : ℕ) → j < side P → at v j ≡ value strip P F j
-  strip-values F {w} f e j l = let k : j < 16 = omega (arith, S .most) in
+  strip-values F {w} f e j l =
+      let k : j < 16 = omega (arith, says .sound .most) in
+      let small : degree P < 16 = omega (arith, says .sound .low, says .sound .most) in
       rw (
         rw (says .fields) at e,
         row-at (λ j. eval (suc (degree P)) (at w) (at (row (point P)) j) % modulus P) j k,
-        point-at S j l,
+        point-at (says .sound) j l,
         value-strip (modulus P) (degree P) F (point P j),
       )
       (ap (λ t. t % modulus P)
-      (sum-eq (suc (degree P)) λ i m. ap (λ t. t * point P j ^ i) (coefficient i (omega (arith, S .low, S .most)))))
+      (sum-eq (suc (degree P)) λ i m. ap (λ t. t * point P j ^ i) (coefficient i (omega (arith, small)))))
     where
       coefficient : (i : ℕ) → i < 16 → at w i ≡ at F i
       coefficient i m = rw f (row-at (at F) i m)

@@ -34,7 +34,7 @@ pub doubts-refuse : {P s u B : List ℕ} {plan : Plan} {R : ℕ} → Says P plan
     Reads square P s u B (refused 10) B
 doubts-refuse {P} {s} {u} {B} says t e h = reads-none square P s u B (t .clear) λ F f. cost-without square P s u F λ l. omega (
   arith,
-  mark-radius (t .sound) says e,
+  mark-radius says e,
   doubts-cost full (side P * side P) (at s) (at u) (value square P F) (t .photo .doubt),
   rw (t .photo .doubts) at h,
 )

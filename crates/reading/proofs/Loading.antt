@@ -17,14 +17,13 @@ use Rattle.definitions.specs.Refusals.{first}
 use Rattle.definitions.specs.Code.{Code}
 use Rattle.definitions.specs.Cost.{full, unread}
 use Rattle.definitions.specs.Calls.{photoRows}
-use Rattle.definitions.proofs.Sound.{sound}
 use Rattle.definitions.proofs.Photograph.{accepted-photo, accepted-buffer}
 use Rattle.distance.specs.Loaded.{Loaded}
 use Rattle.reading.specs.Loading.{residue, Taken}
 
 pub taken : (C : Code) (P s u B : List ℕ) → first (photoRows C P s u B) ≡ 0 → Taken C P s u B
 taken C P s u B e = let h = accepted-photo C P s u B e in
-    record { clear = e; sound = sound P (h .sound); photo = h; room = accepted-buffer C P s u B e }
+    record { clear = e; photo = h; room = accepted-buffer C P s u B e }
 
 -- what a test `!b` says of b
 pub negated : (b : Bool) {t : Bool} → not b ≡ t → b ≡ not t

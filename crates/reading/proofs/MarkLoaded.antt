@@ -58,21 +58,21 @@ use Rattle.reading.proofs.Square.{cell-at, flag-differ}
 -- a record has a byte at least, and at most as many as a message has numbers
 pub record-room : {P s u B : List ℕ} → Taken square P s u B → (0 < length B) × (length B ≤ 136)
 record-room {P} t =
-    let l : degree P < 16 = omega (arith, t .sound .most, t .sound .low) in
+    let l : degree P < 16 = omega (arith, t .photo .sound .most, t .photo .sound .low) in
     let e = start-next (degree P) l in
     rw (t .room, add-one (degree P)) (omega (arith, e), omega (arith, e, start-most (degree P) l))
 
 module _ {P s u B : List ℕ} {left : List (List ℕ)} (t : Taken square P s u B) (es : SymbolRows (side P) s left) where
   positive : 0 < modulus P
-  positive = omega (arith, t .sound .prime .least)
+  positive = omega (arith, t .photo .sound .prime .least)
 
   inside : (r c : ℕ) → r < side P → c < side P → r * side P + c < side P * side P
   inside r c l m = omega (arith, mul-le-mul-right (side P) l)
 
   symbol-at : (r c : ℕ) → r < side P → c < side P → cellAt left r c ≡ residue (at s (r * side P + c))
   symbol-at r c l m =
-      ap (λ v. at v c) (es .done r (omega (arith, t .sound .most)))
-      ∙ row-at (λ c. residue (gridCell (side P) s r c)) c (omega (arith, t .sound .most))
+      ap (λ v. at v c) (es .done r (omega (arith, t .photo .sound .most)))
+      ∙ row-at (λ c. residue (gridCell (side P) s r c)) c (omega (arith, t .photo .sound .most))
       ∙ ap residue (cell-at (side P) s r c m)
 
   known : (r c : ℕ) → (gridCell (side P) s r c < modulus P) ⊎ (gridCell (side P) s r c ≡ unread)
@@ -97,8 +97,8 @@ module _ {P s u B : List ℕ} {left u′ : List (List ℕ)} (t : Taken square P 
     (es : SymbolRows (side P) s left) (eu : DoubtLines (side P) u u′) where
   doubt-at : (r c : ℕ) → r < side P → c < side P → cellAt u′ r c ≡ at u (r * side P + c)
   doubt-at r c l m =
-      ap (λ v. at v c) (eu .done r (omega (arith, t .sound .most)))
-      ∙ row-at (gridCell (side P) u r) c (omega (arith, t .sound .most))
+      ap (λ v. at v c) (eu .done r (omega (arith, t .photo .sound .most)))
+      ∙ row-at (gridCell (side P) u r) c (omega (arith, t .photo .sound .most))
       ∙ cell-at (side P) u r c m
 
   loaded : LoadedGrid full (side P) (side P) s u (cellAt left) (cellAt u′)
@@ -115,7 +115,7 @@ module _ {P s u B : List ℕ} {left u′ : List (List ℕ)} (t : Taken square P 
     limit-is = omega (arith, ap (λ n. full * n) (distance-square (side P) (degree P)))
 
     refused-said : radius full square P ≤ g → Reads square P s u B (refused 10) B
-    refused-said h = mark-none P s u B (t .clear) (point-at (t .sound)) loaded w (D .decoded)
+    refused-said h = mark-none P s u B (t .clear) (point-at (t .photo .sound)) loaded w (D .decoded)
         (le-ltb g _ (omega (arith, limit-is)))
 
     found : g < radius full square P → under (said P m .grid) g ≡ true
@@ -128,9 +128,9 @@ module _ {P s u B : List ℕ} {left u′ : List (List ℕ)} (t : Taken square P 
         let k : j < size square P = omega (arith, t .room) in
         let W = tab (size square P) (at w) in
         let n = size square P in
-        let F = mark-record P s u B (t .clear) (point-at (t .sound)) loaded w (D .decoded) z W (length-tab n (at w))
+        let F = mark-record P s u B (t .clear) (point-at (t .photo .sound)) loaded w (D .decoded) z W (length-tab n (at w))
         (tab-at n (at w)) in
-        omega (arith, F .below j k, tab-at (size square P) (at w) j k, t .sound .small)
+        omega (arith, F .below j k, tab-at (size square P) (at w) j k, t .photo .sound .small)
 
     module _ (h : g < radius full square P) {W : List ℕ} (stored : W ≡ tab (length B) (at w)) where
       word-length : length W ≡ size square P
@@ -140,15 +140,15 @@ module _ {P s u B : List ℕ} {left u′ : List (List ℕ)} (t : Taken square P 
       word-at i l = rw stored (tab-at (length B) (at w) i (omega (arith, t .room)))
 
       coefficients : (k i : ℕ) → i + k ≤ degree P → coef W i k ≡ coef w i k
-      coefficients k i l = word-at (start (i + k) + k)
-          (start-below (i + k) (degree P + 1) k (omega arith) (omega (arith, t .sound .most, t .sound .low)) (omega arith))
+      coefficients k i l = let small : degree P < 16 = omega (arith, t .photo .sound .most, t .photo .sound .low) in
+          word-at (start (i + k) + k) (start-below (i + k) (degree P + 1) k (omega arith) (omega arith) (omega arith))
 
       abbrev line-value : (r c : ℕ) → ℕ
       line-value r c = eval (suc (degree P)) (onRow (degree P) (coef w) (at (row (point P)) r)) (at (row (point P)) c)
 
       value-at : (r c : ℕ) → r < side P → c < side P → value square P W (r * side P + c) ≡ line-value r c % modulus P
       value-at r c l m =
-          rw (cell-row (side P) r c m, cell-column (side P) r c m, point-at (t .sound) r l, point-at (t .sound) c m)
+          rw (cell-row (side P) r c m, cell-column (side P) r c m, point-at (t .photo .sound) r l, point-at (t .photo .sound) c m)
           (value-rows (modulus P) (degree P) W (point P r) (point P c) ∙ ap (λ e. e % modulus P)
           (sum-eq (suc (degree P)) λ k a. ap (λ e. e * point P c ^ k)
           (sum-eq (suc (degree P - k)) λ i b. ap (λ e. e * point P r ^ i) (coefficients k i (omega arith)))))
@@ -159,7 +159,7 @@ module _ {P s u B : List ℕ} {left u′ : List (List ℕ)} (t : Taken square P 
       cell-changed r c l m =
           let R = D .remains (found h) in
           rw (cell-at (side P) s r c m, value-at r c l m)
-          (flag-differ (t .sound .small) (t .photo .symbol (r * side P + c) (inside t es r c l m))
+          (flag-differ (t .photo .sound .small) (t .photo .symbol (r * side P + c) (inside t es r c l m))
           (omega (arith, R .below r c l m, positive t es)) (mod-lt (line-value r c) (positive t es))
           (~add (same refl) (mod-cong (positive t es) (line-value r c)) ⨾ R .whole r c l m ⨾ same (symbol-at t es r c l m)))
 
@@ -171,8 +171,9 @@ module _ {P s u B : List ℕ} {left u′ : List (List ℕ)} (t : Taken square P 
       unfolding readingOf
       reading-said e =
           let z = found h in
-          rw (e, changed-of, mark-cost P s u B (t .clear) (point-at (t .sound)) loaded w (D .decoded) z W word-length word-at)
-          (mark-found P s u B (t .clear) (point-at (t .sound)) loaded w (D .decoded) z W word-length word-at)
+          let points = point-at (t .photo .sound) in
+          rw (e, changed-of, mark-cost P s u B (t .clear) points loaded w (D .decoded) z W word-length word-at)
+          (mark-found P s u B (t .clear) points loaded w (D .decoded) z W word-length word-at)
 
 -- the same by the struct that says what the plan does
 module _ {P s u B : List ℕ} {left u′ : List (List ℕ)} {plan : Plan} (says : Says P plan) (t : Taken square P s u B)
@@ -192,13 +193,13 @@ module _ {P s u B : List ℕ} {left u′ : List (List ℕ)} {plan : Plan} (says 
   module _ {c R : ℕ} {after : List (List ℕ)} {w : List ℕ} (D : Outcome g left u′ after (under g c) w c)
       (h : R ≡ g .full * gridDistance (g .a) (g .b) (g .d)) where
     pub mark-refused : R ≤ c → Reads square P s u B (refused 10) B
-    mark-refused l = refused-said t (sides .0) (sides .1) (rw (says .fields) at D) (omega (arith, mark-radius (t .sound) says h))
+    mark-refused l = refused-said t (sides .0) (sides .1) (rw (says .fields) at D) (omega (arith, mark-radius says h))
 
     pub message-small : c < R → (j : ℕ) → j < length B → at w j < 256
-    message-small l = small-said t (sides .0) (sides .1) (rw (says .fields) at D) (omega (arith, mark-radius (t .sound) says h))
+    message-small l = small-said t (sides .0) (sides .1) (rw (says .fields) at D) (omega (arith, mark-radius says h))
 
     pub mark-reading : {W : List ℕ} {k : ℕ} → c < R → W ≡ tab (length B) (at w) → k ≡ changedCells (g .a) (g .b) s after →
         Reads square P s u B (summary R c k) W
-    mark-reading l stored e = rw (mark-radius (t .sound) says h)
-        (reading-said t (sides .0) (sides .1) (rw (says .fields) at D) (omega (arith, mark-radius (t .sound) says h)) stored
+    mark-reading l stored e = rw (mark-radius says h)
+        (reading-said t (sides .0) (sides .1) (rw (says .fields) at D) (omega (arith, mark-radius says h)) stored
         (rw (says .fields) at e))

@@ -34,7 +34,6 @@ use Rattle.definitions.specs.Code.{IsRecord}
 use Rattle.definitions.specs.Sound.{Sound}
 use Rattle.definitions.specs.Photograph.{Photograph}
 use Rattle.definitions.specs.Reads.{Reads}
-use Rattle.definitions.proofs.Sound.{sound}
 use Rattle.definitions.proofs.Photograph.{accepted-photo}
 use Rattle.definitions.proofs.Nearest.{within-cost, cost-within, cost-without, reads-none, reads-the}
 use Rattle.definitions.proofs.Demands.{AtMostOne}
@@ -110,7 +109,7 @@ only-square P s u h F G f g i j = record-one S F G f g
     (grid-one (plan-apart S) (plan-apart S) (omega (arith, S .low)) doubts (grid n s) (coef F) (coef G) (near F i) (near G j))
   where
     S : Sound P
-    S = sound P (h .sound)
+    S = h .sound
 
     n : ℕ
     n = side P
@@ -136,7 +135,7 @@ module _ (P s u B : List ℕ) (clear : first (photoRows square P s u B) ≡ 0) {
   photo = accepted-photo square P s u B clear
 
   S : Sound P
-  S = sound P (photo .sound)
+  S = photo .sound
 
   cost-of : (F : List ℕ) (h : ℕ → ℕ → ℕ) → ((t i : ℕ) → i + t ≤ degree P → coef F i t ≡ h i t) →
       costOf square P s u F ≡ gridCost (modulus P - 1) full (side P) (side P) (degree P) x x u′ s′ h

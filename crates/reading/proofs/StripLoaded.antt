@@ -57,7 +57,7 @@ module _ {P s u B s′ u′ : List ℕ} (t : Taken strip P s u B) (es : s′ ≡
   doubt-at i l = rw eu (row-at (at u) i l)
 
   positive : 0 < modulus P
-  positive = omega (arith, t .sound .prime .least)
+  positive = omega (arith, t .photo .sound .prime .least)
 
   symbols-below : (i : ℕ) → i < 16 → at s′ i < modulus P
   symbols-below i l = rw (symbol-at i l) (residue-below positive (known (decLt i (side P))))
@@ -70,7 +70,7 @@ module _ {P s u B s′ u′ : List ℕ} (t : Taken strip P s u B) (es : s′ ≡
   symbols-length = rw es (length-tab 16 _)
 
   pub strip-received : {plan : Plan} → Says P plan → Received (axisOf (plan .grid)) s′ u′
-  strip-received says = let h = ready (t .sound) says .fit in record {
+  strip-received says = let h = ready says .fit in record {
     axis = record {
       prime = h .prime;
       reciprocal = h .reciprocal;
@@ -81,16 +81,16 @@ module _ {P s u B s′ u′ : List ℕ} (t : Taken strip P s u B) (es : s′ ≡
       full = omega (arith, h .full);
     };
     symbols = rw (says .fields) (row-of positive symbols-length symbols-below);
-    doubts = rw (says .fields) λ j l. rw (doubt-at j (omega (arith, t .sound .most))) (t .photo .doubt j l);
+    doubts = rw (says .fields) λ j l. rw (doubt-at j (omega (arith, t .photo .sound .most))) (t .photo .doubt j l);
   }
 
   loaded : (c : ℕ) → c < side P → Loaded full (at s c) (at u c) (at s′ c) (at u′ c)
-  loaded c l = let k : c < 16 = omega (arith, t .sound .most) in
+  loaded c l = let k : c < 16 = omega (arith, t .photo .sound .most) in
       rw (symbol-at c k, doubt-at c k) (residue-loaded (at s c) (at u c) (t .photo .erased c l))
 
   module _ {m : ℕ} {r : Decoded} (D : StripDecoded (axisOf (said P m .grid)) s′ u′ r) where
     refused-said : r .found ≡ false → Reads strip P s u B (refused 10) B
-    refused-said z = strip-none P s u B (t .clear) (point-at (t .sound)) loaded (D .strip) z
+    refused-said z = strip-none P s u B (t .clear) (point-at (t .photo .sound)) loaded (D .strip) z
 
     module _ (z : r .found ≡ true) {W : List ℕ} (stored : W ≡ tab (length B) (at (r .message))) where
       word-at : (i : ℕ) → i < size strip P → at W i ≡ at (r .message) i
@@ -103,31 +103,31 @@ module _ {P s u B s′ u′ : List ℕ} (t : Taken strip P s u B) (es : s′ ≡
       }
 
       value-at : (j : ℕ) → j < side P → at (r .values) j ≡ value strip P W j
-      value-at j l = let k : j < 16 = omega (arith, t .sound .most) in
+      value-at j l = let k : j < 16 = omega (arith, t .photo .sound .most) in
           rw (
             D .values z,
             row-at (λ j. eval (suc (degree P)) (at (r .message)) (at (row (point P)) j) % modulus P) j k,
             value-strip (modulus P) (degree P) W (point P j),
-            point-at (t .sound) j l,
+            point-at (t .photo .sound) j l,
           )
           (ap (λ e. e % modulus P) (sum-eq (suc (degree P)) λ i m. ap (λ e. e * point P j ^ i) (sym (word-at i (omega arith)))))
 
       changed-of : {seen : List ℕ} → seen ≡ row (at s) → changed (side P) (at seen) (at (r .values)) ≡ changedOf strip P s W
       changed-of e = sum-eq (side P) λ c l.
-          ap₂ (λ a b. cond (eqb a b) 0 1) (rw e (row-at (at s) c (omega (arith, t .sound .most)))) (value-at c l)
+          ap₂ (λ a b. cond (eqb a b) 0 1) (rw e (row-at (at s) c (omega (arith, t .photo .sound .most)))) (value-at c l)
 
       reading-said : {seen : List ℕ} {n : ℕ} → seen ≡ row (at s) → n ≡ changed (side P) (at seen) (at (r .values)) →
           Reads strip P s u B (summary (radius full strip P) (r .cost) n) W
       unfolding readingOf
       reading-said i e =
-          rw (e, changed-of i, strip-cost P s u B (t .clear) (point-at (t .sound)) loaded (D .strip) z W word word-at)
-          (strip-found P s u B (t .clear) (point-at (t .sound)) loaded (D .strip) z W word word-at)
+          rw (e, changed-of i, strip-cost P s u B (t .clear) (point-at (t .photo .sound)) loaded (D .strip) z W word word-at)
+          (strip-found P s u B (t .clear) (point-at (t .photo .sound)) loaded (D .strip) z W word word-at)
 
   -- the same by the struct that says what the plan does
   module _ {plan : Plan} (says : Says P plan) {r : Decoded} (D : StripDecoded (axisOf (plan .grid)) s′ u′ r) where
     -- a cost is a small number
     pub strip-under : r .found ≡ true → r .cost < 2147483648
-    strip-under z = omega (arith, (rw (says .fields) at D) .strip .sound z .1, t .sound .most)
+    strip-under z = omega (arith, (rw (says .fields) at D) .strip .sound z .1, t .photo .sound .most)
 
     pub strip-refused : r .found ≡ false → Reads strip P s u B (refused 10) B
     strip-refused z = refused-said (rw (says .fields) at D) z
@@ -136,4 +136,4 @@ module _ {P s u B s′ u′ : List ℕ} (t : Taken strip P s u B) (es : s′ ≡
         n ≡ changed (plan .grid .a) (at seen) (at (r .values)) → R ≡ plan .grid .full * 1 * (plan .grid .a - plan .grid .d) →
         Reads strip P s u B (summary R (r .cost) n) W
     strip-reading z stored i e h =
-        rw (strip-radius (t .sound) says h) (reading-said (rw (says .fields) at D) z stored i (rw (says .fields) at e))
+        rw (strip-radius says h) (reading-said (rw (says .fields) at D) z stored i (rw (says .fields) at e))

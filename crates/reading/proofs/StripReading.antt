@@ -28,7 +28,6 @@ use Rattle.definitions.specs.Code.{IsRecord}
 use Rattle.definitions.specs.Sound.{Sound}
 use Rattle.definitions.specs.Photograph.{Photograph}
 use Rattle.definitions.specs.Reads.{Reads}
-use Rattle.definitions.proofs.Sound.{sound}
 use Rattle.definitions.proofs.Photograph.{accepted-photo}
 use Rattle.definitions.proofs.Nearest.{within-cost, cost-within, cost-without, reads-none, reads-the}
 use Rattle.definitions.proofs.Demands.{AtMostOne}
@@ -67,7 +66,7 @@ only-strip P s u h F G f g i j = record-one S F G f g
     (near-one (plan-apart S) full (degree P) (at s) (at u) (h .doubt) (at F) (at G) (near F i) (near G j))
   where
     S : Sound P
-    S = sound P (h .sound)
+    S = h .sound
 
     near : (F : List ℕ) → within strip P s u F ≡ true →
         cost full (side P) (at s) (at u) (values (modulus P - 1) (suc (degree P)) (at F) (point P)) < full * (side P - degree P)
@@ -86,7 +85,7 @@ module _ (P s u B : List ℕ) (clear : first (photoRows strip P s u B) ≡ 0) {x
   photo = accepted-photo strip P s u B clear
 
   cost-of : (F : List ℕ) → costOf strip P s u F ≡ cost full (side P) s′ u′ (values (modulus P - 1) (suc (degree P)) (at F) x)
-  cost-of F = record-cost (sound P (photo .sound)) s u x s′ u′ points loaded F
+  cost-of F = record-cost (photo .sound) s u x s′ u′ points loaded F
 
   pub strip-none : found ≡ false → Reads strip P s u B (refused 10) B
   strip-none z = reads-none strip P s u B clear λ F f. cost-without strip P s u F λ l.

@@ -4,7 +4,7 @@
 --   gridCell b s r c     the cell of row r and column c in the flat grid s of b columns, and 0 beyond it
 --   SymbolRows b s rows  row r has the residues of row r of the grid s, r from 0 to 15
 --   DoubtLines b u rows  row r is row r of the grid u, r from 0 to 15
---   Taken C P s u B      refusals 1 to 8 do not apply: the plan is sound, s and u are a photograph of it, B has room for a record
+--   Taken C P s u B      refusals 1 to 8 do not apply: s and u are a photograph of a sound plan, B has room for a record
 --
 -- What this file is for: an unread cell's symbol is no residue; its doubt is the full doubt, so any residue may stand for it.
 use mathlib.Core.Path.{_≡_}
@@ -20,7 +20,6 @@ use Rattle.definitions.specs.Refusals.{first}
 use Rattle.definitions.specs.Code.{Code, size}
 use Rattle.definitions.specs.Cost.{unread}
 use Rattle.definitions.specs.Calls.{photoRows}
-use Rattle.definitions.specs.Sound.{Sound}
 use Rattle.definitions.specs.Photograph.{Photograph}
 
 abbrev pub residue : ℕ → ℕ
@@ -37,6 +36,5 @@ DoubtLines b u rows = Upto 16 [] (λ r l. l ≡ row (gridCell b u r)) rows 16
 
 pub record Taken (C : Code) (P s u B : List ℕ) : Type 0 where
   pub clear : first (photoRows C P s u B) ≡ 0
-  pub sound : Sound P
   pub photo : Photograph C P s u
   pub room : length B ≡ size C P

@@ -83,7 +83,7 @@ demand-2 C P F B B′ e l =
 -- cost.
 pub demand-2-cost : (C : Code) (P s u F : List ℕ) → measureNumber C P s u F ≡ 0 → Weighed C P s u F (measureReading C P s u F)
 demand-2-cost C P s u F e =
-    rw (← measure-gives C P s u F refl e) (photo-weighed C P s u F (accepted-measuring C P s u F e .1))
+    rw (← measure-gives C P s u F refl e) (photo-weighed C P s u F (accepted-measuring C P s u F e .0))
 
 pub demand-2-cost-read : (C : Code) (P s u B : List ℕ) → readNumber C P s u B ≡ 0 →
     Weighed C P s u (readBuffer C P s u B) (readReading C P s u B)

@@ -1,7 +1,6 @@
 -- `measuring::measure_mark` meets its contract: the plan's points are put in for X and for Y. Assumes nothing.
 use mathlib.Core.Path.{_∙_}
 use native.Mathlib.Omega.{arith}
-use Rattle.definitions.proofs.Sound.{sound}
 use Rattle.plan.proofs.Ready.{ready}
 use Rattle.plan.proofs.Values.{record-word, same-points, mark-cells, mark-radius}
 use Rattle.measuring.proofs.Rows.{mark-measured, reading-is}
@@ -12,16 +11,15 @@ columns-requires : tie.Need-columns-requires
 columns-requires c κs =
     let powers = c .before in
     let (P, says, photo, given) = powers .before .before .before .before .before .before .pre in
-    let S = sound P (photo .sound) in
-    let g = ready S says .fit in
-    (g .reciprocal, powers .powers .ensures .0, record-word S says given, omega (arith, g .low, g .rows))
+    let g = ready says .fit in
+    (g .reciprocal, powers .powers .ensures .0, record-word says given, omega (arith, g .low, g .rows))
 
 measure-rows-requires : tie.Need-measure-rows-requires
 measure-rows-requires c κs =
     let columns = c .before .before in
     let powers = columns .before .before in
     let (P, says, photo, given) = powers .before .before .before .before .before .before .pre in (
-      ready (sound P (photo .sound)) says .fit,
+      ready says .fit,
       columns .columns .ensures .0,
       powers .powers .ensures .0,
       photo .symbols ∙ mark-cells says,
@@ -33,7 +31,7 @@ radius-requires : tie.Need-radius-requires
 radius-requires c κs =
     let powers = c .before .before .before .before .before in
     let (P, says, photo, given) = powers .before .before .before .before .before .before .pre in
-    ready (sound P (photo .sound)) says .fit
+    ready says .fit
 
 returns : tie.Need-returns
 returns c = λ P says photo.
@@ -42,10 +40,9 @@ returns c = λ P says photo.
     let powers = columns .before .before in
     let given = powers .before .before .before .before .before .before .args in
     let g = given .plan .grid in
-    let S = sound P (photo .sound) in
     let made = powers .powers .ensures .1 in
-    c .reading .ensures ∙ reading-is _ _ _ _ _ (mark-radius S says (c .before .radius .ensures .0))
-    (mark-measured S says (given .«record» .now) (tally .measure-rows .ensures .1 (g .x) (g .y) _
+    c .reading .ensures ∙ reading-is _ _ _ _ _ (mark-radius says (c .before .radius .ensures .0))
+    (mark-measured says (given .«record» .now) (tally .measure-rows .ensures .1 (g .x) (g .y) _
     (columns .columns .ensures .1 (g .x) made) (rw (same-points says) made)))
 
 pub measure-mark-spec : {M : Type 1} → statement M
@@ -54,7 +51,7 @@ measure-mark-spec =
     (tie.spec
     (λ c κs.
     let (P, says, photo, given) = c .before .before .before .before .before .pre in
-    let g = ready (sound P (photo .sound)) says .fit in
+    let g = ready says .fit in
     (g .reciprocal, g .rowPoints, omega (arith, g .low, g .rows)))
     columns-requires
     measure-rows-requires

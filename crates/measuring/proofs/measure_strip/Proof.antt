@@ -1,7 +1,6 @@
 -- `measuring::measure_strip` meets its contract: a strip is measured as one row. Assumes nothing.
 use mathlib.Core.Path.{sym, _∙_}
 use native.Mathlib.Omega.{arith}
-use Rattle.definitions.proofs.Sound.{sound}
 use Rattle.plan.proofs.Ready.{ready}
 use Rattle.plan.proofs.Values.{record-row, strip-values, strip-radius}
 use Rattle.measuring.proofs.Rows.{strip-measured, reading-is}
@@ -17,16 +16,14 @@ values-requires : tie.Need-values-requires
 values-requires c κs =
     let xs = c .before .before in
     let (P, says, photo, given) = start xs .pre in
-    let S = sound P (photo .sound) in
-    let g = ready S says .fit in
-    (g .reciprocal, xs .powers .ensures .0, record-row S says given (c .row .ensures), omega (arith, g .low, g .rows))
+    let g = ready says .fit in
+    (g .reciprocal, xs .powers .ensures .0, record-row says given (c .row .ensures), omega (arith, g .low, g .rows))
 
 measure-row-requires : tie.Need-measure-row-requires
 measure-row-requires c κs =
     let (P, says, photo, given) = start (c .before .before .before) .pre in
-    let S = sound P (photo .sound) in
-    let g = ready S says .fit in (
-      omega (arith, photo .symbols, S .most),
+    let g = ready says .fit in (
+      omega (arith, photo .symbols, photo .sound .most),
       photo .doubts ∙ sym (photo .symbols),
       omega (arith, g .full),
       λ i l. rw (says .fields) (photo .doubt i (rw (photo .symbols) at l)),
@@ -38,9 +35,8 @@ returns c = λ P says photo.
     let values = tally .before in
     let xs = values .before .before .before in
     let given = start xs .args in
-    let S = sound P (photo .sound) in
-    c .reading .ensures ∙ reading-is _ _ _ _ _ (strip-radius S says (c .before .radius .ensures .0))
-    (strip-measured photo says (strip-values S says (given .«record» .now) (values .before .row .ensures)
+    c .reading .ensures ∙ reading-is _ _ _ _ _ (strip-radius says (c .before .radius .ensures .0))
+    (strip-measured photo says (strip-values says (given .«record» .now) (values .before .row .ensures)
     (values .values .ensures .1 (given .plan .grid .x) (xs .powers .ensures .1))) (tally .measure-row .ensures .0))
 
 pub measure-strip-spec : {M : Type 1} → statement M
@@ -49,17 +45,16 @@ measure-strip-spec =
     (tie.spec
     (λ c κs.
     let (P, says, photo, given) = c .before .before .before .before .before .pre in
-    let g = ready (sound P (photo .sound)) says .fit in
+    let g = ready says .fit in
     (g .reciprocal, g .rowPoints, omega (arith, g .low, g .rows)))
     (λ c κs.
     let (P, says, photo, given) = start (c .before) .pre in
-    let S = sound P (photo .sound) in
-    omega (arith, given .size, S .low, S .most))
+    omega (arith, given .size, photo .sound .low, photo .sound .most))
     values-requires
     measure-row-requires
     (λ c κs.
     let (P, says, photo, given) = start (c .before .before .before .before) .pre in
-    let g = ready (sound P (photo .sound)) says .fit in
+    let g = ready says .fit in
     (omega (arith, g .full), omega arith, g .rows, omega (arith, g .low)))
     (λ c κs. (c .radius .ensures .1, omega (arith, c .before .measure-row .ensures .1)))
     returns)

@@ -11,31 +11,31 @@ columns-requires : tie.Need-columns-requires
 columns-requires c κs =
     let powers = c .before in
     let (P, says, w) = powers .before .before .before .before .before .pre in
-    let g = ready (w .sound) says .fit in
-    (g .reciprocal, powers .powers .ensures .0, record-word (w .sound) says (w .given), omega (arith, g .low, g .rows))
+    let g = ready says .fit in
+    (g .reciprocal, powers .powers .ensures .0, record-word says (w .given), omega (arith, g .low, g .rows))
 
 write-rows-requires : tie.Need-write-rows-requires
 write-rows-requires c κs =
     let columns = c .before .before .before in
     let powers = columns .before .before in
     let (P, says, w) = powers .before .before .before .before .before .pre in
-    (ready (w .sound) says .fit, columns .columns .ensures .0, powers .powers .ensures .0, w .room ∙ mark-cells says)
+    (ready says .fit, columns .columns .ensures .0, powers .powers .ensures .0, w .room ∙ mark-cells says)
 
 returns : tie.Need-returns
-returns c = λ P says S.
+returns c = λ P says.
     let rows = c .before .before in
     let columns = rows .before .before .before .before in
     let powers = columns .before .before in
     let g = powers .before .before .before .before .before .args .plan .grid in
     let made = powers .powers .ensures .1 in
     rows .write-rows .ensures (g .x) (g .y) _ (columns .columns .ensures .1 (g .x) made) (rw (same-points says) made)
-    ∙ mark-is S says _
+    ∙ mark-is says _
 
 pub write-mark-spec : {M : Type 1} → statement M
 write-mark-spec =
     tie.close
     (tie.spec
-    (λ c κs. let (P, says, w) = c .before .before .before .before .pre in let g = ready (w .sound) says .fit in
+    (λ c κs. let (P, says, w) = c .before .before .before .before .pre in let g = ready says .fit in
     (g .reciprocal, g .rowPoints, omega (arith, g .low, g .rows)))
     columns-requires
     write-rows-requires

@@ -14,10 +14,10 @@ values-requires : tie.Need-values-requires
 values-requires c κs =
     let xs = c .before .before in
     let (P, says, w) = xs .before .before .before .before .before .pre in
-    let g = ready (w .sound) says .fit in (
+    let g = ready says .fit in (
       g .reciprocal,
       xs .powers .ensures .0,
-      record-row (w .sound) says (w .given) (c .row .ensures),
+      record-row says (w .given) (c .row .ensures),
       omega (arith, g .low, g .rows),
     )
 
@@ -25,7 +25,7 @@ store-requires : tie.Need-store-requires
 store-requires c κs =
     let values = c .before .before in
     let (P, says, w) = values .before .before .before .before .before .before .before .before .pre in
-    let g = ready (w .sound) says .fit in (
+    let g = ready says .fit in (
       omega (arith, w .room, w .sound .most, values .values .ensures .0 .size),
       λ j _. omega (arith, values .values .ensures .0 .small j, g .reciprocal .most),
     )
@@ -39,7 +39,7 @@ returns c = λ P says w.
     let xs = loaded .before .before in
     let given = xs .before .before .before .before .before .args in
     stored .store .ensures ∙ ap (λ k. tab k (at (values .values .result))) (w .room)
-    ∙ tab-eq _ (strip-values (w .sound) says (given .«record» .now) (loaded .row .ensures)
+    ∙ tab-eq _ (strip-values says (given .«record» .now) (loaded .row .ensures)
     (values .values .ensures .1 (given .plan .grid .x) (xs .powers .ensures .1)))
 
 pub write-strip-spec : {M : Type 1} → statement M
@@ -48,7 +48,7 @@ write-strip-spec =
     (tie.spec
     (λ c κs.
     let (P, says, w) = c .before .before .before .before .pre in
-    let g = ready (w .sound) says .fit in
+    let g = ready says .fit in
     (g .reciprocal, g .rowPoints, omega (arith, g .low, g .rows)))
     (λ c κs.
     let (P, says, w) = c .before .before .before .before .before .before .pre in

@@ -16,13 +16,13 @@ decode-requires c κs =
     let doubts = table .before in
     let (P, says, t) = doubts .before .before .before .before .before .pre in
     let h = mark-received says t (symbols .residue-rows .ensures) (doubts .doubt-rows .ensures) in
-    (ready (t .sound) says .fit, h .0, h .1, table .inverses .ensures, refl)
+    (ready says .fit, h .0, h .1, table .inverses .ensures, refl)
 
 radius-requires : tie.Need-radius-requires
 radius-requires c κs =
     let doubts = c .before .before .before .before .before .before in
     let (P, says, t) = doubts .before .before .before .before .before .pre in
-    ready (t .sound) says .fit
+    ready says .fit
 
 refuses : tie.Need-returns
 refuses c = λ P says t.
@@ -49,7 +49,7 @@ changed-cells-requires c κs =
     let decoded = c .before .before .before .before .before .before .before .before in
     let doubts = decoded .before .before .before .before .before .before in
     let (P, says, t) = doubts .before .before .before .before .before .pre in
-    let g = ready (t .sound) says .fit in
+    let g = ready says .fit in
     (g .rows, g .columns, t .photo .symbols ∙ mark-cells says)
 
 returns-2 : tie.Need-returns-2
@@ -70,15 +70,15 @@ decoded-spec =
     (tie.spec
     (λ c κs.
     let (P, says, t) = c .before .before .before .before .pre in
-    let g = ready (t .sound) says .fit in
+    let g = ready says .fit in
     (g .rows, g .columns, t .photo .doubts ∙ mark-cells says))
     (λ c κs.
     let (P, says, t) = c .before .before .before .before .before .pre in
-    let g = ready (t .sound) says .fit in
+    let g = ready says .fit in
     (g .prime, g .reciprocal .most, g .reciprocal))
     (λ c κs.
     let (P, says, t) = c .before .before .before .before .before .before .pre in
-    let g = ready (t .sound) says .fit in
+    let g = ready says .fit in
     (g .rows, g .columns, t .photo .symbols ∙ mark-cells says))
     decode-requires
     radius-requires

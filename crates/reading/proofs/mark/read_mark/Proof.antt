@@ -9,7 +9,7 @@ use Rattle.reading.proofs.mark.read_mark.Tie as tie
 radius-requires : tie.Need-radius-requires
 radius-requires c κs =
     let (P, says, t) = c .before .before .before .before .before .pre in
-    ready (t .sound) says .fit
+    ready says .fit
 
 returns : tie.Need-returns
 returns c = λ P says t.
@@ -24,7 +24,9 @@ pub read-mark-spec : {M : Type 1} → statement M
 read-mark-spec =
     tie.close
     (tie.spec
-    (λ c κs. let (P, says, t) = c .before .before .before .before .pre in omega (arith, cells-most (t .sound), t .photo .doubts))
+    (λ c κs.
+    let (P, says, t) = c .before .before .before .before .pre in
+    omega (arith, cells-most (t .photo .sound), t .photo .doubts))
     radius-requires
     (λ c κs. search needs)
     returns

@@ -45,15 +45,15 @@ store-requires : tie.Need-store-requires
 store-requires c κs =
     let read = c .before .before .before .before .before .before in
     let (P, says, t) = start (doubts read) .pre in
-    let g = ready (t .sound) says .fit in (
-      omega (arith, t .room, t .sound .low, t .sound .most, read .decode .ensures .small .size),
+    let g = ready says .fit in (
+      omega (arith, t .room, t .photo .sound .low, t .photo .sound .most, read .decode .ensures .small .size),
       λ j _. omega (arith, read .decode .ensures .small .small j, g .reciprocal .most),
     )
 
 radius-requires : tie.Need-radius-requires
 radius-requires c κs =
     let (P, says, t) = start (doubts (decoded (c .before .before .before .before))) .pre in
-    let g = ready (t .sound) says .fit in
+    let g = ready says .fit in
     (omega (arith, g .full), omega arith, g .rows, omega (arith, g .low))
 
 reading-requires : tie.Need-reading-requires
@@ -87,13 +87,13 @@ read-strip-spec =
     (tie.spec
     (λ c κs.
     let (P, says, t) = c .before .before .before .before .before .pre in
-    omega (arith, t .photo .symbols, t .sound .most))
+    omega (arith, t .photo .symbols, t .photo .sound .most))
     (λ c κs.
     let (P, says, t) = c .before .before .before .before .before .before .pre in
-    omega (arith, t .photo .doubts, t .sound .most))
+    omega (arith, t .photo .doubts, t .photo .sound .most))
     (λ c κs.
     let (P, says, t) = start c .pre in
-    let g = ready (t .sound) says .fit in
+    let g = ready says .fit in
     (g .prime, g .reciprocal .most, g .reciprocal))
     decode-requires
     (λ c κs. search needs)
@@ -102,10 +102,10 @@ read-strip-spec =
     store-requires
     (λ c κs.
     let (P, says, t) = start (doubts (decoded (c .before .before))) .pre in
-    omega (arith, t .photo .symbols, t .sound .most))
+    omega (arith, t .photo .symbols, t .photo .sound .most))
     (λ c κs.
     let (P, says, t) = start (doubts (decoded (c .before .before .before))) .pre in
-    ready (t .sound) says .fit .rows)
+    ready says .fit .rows)
     radius-requires
     reading-requires
     (λ c. search needs)

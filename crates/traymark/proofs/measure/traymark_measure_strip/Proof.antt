@@ -24,7 +24,7 @@ returns-3 c =
     let test = c .before in
     let says = test .before .before .parse .ensures in
     let number = test .before .measure-refusal .ensures _ says in
-    let photo = accepted-measuring _ _ _ _ _ (sym number ∙ test .if2 .left) .1 in
+    let photo = accepted-measuring _ _ _ _ _ (sym number ∙ test .if2 .left) .0 in
     c .measure-strip .ensures _ says photo ∙ measure-gives _ _ _ _ _ number (test .if2 .left)
 
 pub traymark-measure-strip-spec : {M : Type 1} → statement M
@@ -34,10 +34,10 @@ traymark-measure-strip-spec =
     (λ c κs. search needs) (λ c κs. search needs)
     returns
     (λ c κs. sound _ (sym (c .before .check .ensures) ∙ c .if1 .left))
-    (λ c κs. ready (c .parse .ensures .sound) (c .parse .ensures))
+    (λ c κs. ready (c .parse .ensures))
     (λ c κs. search needs)
     returns-2
     (λ c κs. let says = c .before .before .parse .ensures in
     let h = accepted-measuring _ _ _ _ _ (sym (c .before .measure-refusal .ensures _ says) ∙ c .if2 .left) in
-    (_, says, h .1, h .2))
+    (_, says, h .0, h .1))
     returns-3)

@@ -24,10 +24,7 @@ returns-3 c =
     let test = written .before .before in
     let says = test .before .before .before .parse .ensures in
     let number = test .before .write-refusal .ensures _ says in
-    let w = accepted-writing _ _ _ _ (sym number ∙ test .if2 .left) in (
-      sym (test .if2 .left) ∙ number,
-      written .write-mark .ensures _ says (w .sound) ∙ write-fills _ _ _ _ number (test .if2 .left),
-    )
+    (sym (test .if2 .left) ∙ number, written .write-mark .ensures _ says ∙ write-fills _ _ _ _ number (test .if2 .left))
 
 pub traymark-write-mark-spec : {M : Type 1} → statement M
 traymark-write-mark-spec =
@@ -36,7 +33,7 @@ traymark-write-mark-spec =
     (λ c κs. search needs)
     returns
     (λ c κs. sound _ (sym (c .before .check .ensures) ∙ c .if1 .left))
-    (λ c κs. let says = c .before .parse .ensures in ready (says .sound) says)
+    (λ c κs. let says = c .before .parse .ensures in ready says)
     (λ c. search needs)
     returns-2
     (λ c κs. let checked = c .before .before in

@@ -36,7 +36,7 @@ traymark-write-strip-spec =
     (λ c κs. search needs)
     returns
     (λ c κs. sound _ (sym (c .before .check .ensures) ∙ c .if1 .left))
-    (λ c κs. let says = c .before .parse .ensures in ready (says .sound) says)
+    (λ c κs. let says = c .before .parse .ensures in ready says)
     (λ c. search needs)
     returns-2
     (λ c κs. let checked = c .before .before in

@@ -56,7 +56,7 @@ module _ (s : tie.Start) where
     g = said .grid
 
     fits : Fit g
-    fits = ready plan says .fit
+    fits = ready says .fit
 
     cells-most : g .a * g .b ≤ 256
     cells-most = mul-le-mul (fits .rows) (fits .columns)
