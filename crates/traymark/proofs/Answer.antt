@@ -6,12 +6,15 @@
 --   measure-unsound                    so where the plan itself is refused
 --   read-refuses, read-takes           refusals 1 to 8 of a reading; where none applies, the photograph is taken
 --   read-unsound                       so where the plan itself is refused
+--   takes-kind, reads-kind             what is taken and read as a mark or a strip, by the test which of them it is
 --   read-keeps, read-gives             a refused reading is zeros and leaves the buffer; an accepted one is of the record in it
 --
 -- What this file is for: the calls test a number, the definitions choose by it. Assumes nothing.
 use mathlib.Core.Path.{_≡_, refl, sym, ap, _∙_}
+use mathlib.Core.Bool.{Bool}
 use mathlib.Core.List.{List}
 use Prim.Native.Nat.{ℕ, zero, suc}
+use Rattle.definitions.specs.declared.Reading.{Reading}
 use Rattle.definitions.specs.Refusals.{first, accepted}
 use Rattle.definitions.specs.Plan.{checkNumber}
 use Rattle.definitions.specs.Code.{Code, mark}
@@ -21,6 +24,7 @@ use Rattle.definitions.specs.Reads.{Reads}
 use Rattle.definitions.proofs.Nearest.{reads-refused}
 use Rattle.definitions.proofs.Accepted.{photo-refused, write-refused, measure-refused}
 use Rattle.reading.specs.Loading.{Taken}
+use Rattle.traymark.specs.Kind.{codeOf}
 use Rattle.reading.proofs.Loading.{taken}
 
 other : {A : Type 0} (k : ℕ) (a b : A) → (k ≡ 0 → ⊥) → b ≡ accepted k a b
@@ -67,6 +71,13 @@ module _ (C : Code) (P s u B : List ℕ) {k : ℕ} (e : k ≡ first (photoRows C
 
 pub read-unsound : (C : Code) (P s u B : List ℕ) {k : ℕ} → k ≡ checkNumber P → (k ≡ 0 → ⊥) → Reads C P s u B (refused k) B
 read-unsound C P s u B {k} e h = read-refuses C P s u B (photo-refused C P s u B k e h) h
+
+module _ {b c : Bool} (e : b ≡ c) {P s u B : List ℕ} where
+  pub takes-kind : Taken (codeOf b) P s u B → Taken (codeOf c) P s u B
+  takes-kind t = rw e at t
+
+  pub reads-kind : {r : Reading} {W : List ℕ} → Reads (codeOf c) P s u B r W → Reads (codeOf b) P s u B r W
+  reads-kind h = rw e h
 
 pub read-keeps : (C : Code) (P s u B : List ℕ) → (readNumber C P s u B ≡ 0 → ⊥) →
     (readReading C P s u B ≡ refused (readNumber C P s u B)) × (readBuffer C P s u B ≡ B)
