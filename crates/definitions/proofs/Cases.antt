@@ -38,10 +38,11 @@ more-cases-hold = refl
 pub class-bounds : map class (0 ∷ 1 ∷ 3 ∷ 4 ∷ 15 ∷ 16 ∷ 256 ∷ []) ≡ 0 ∷ 1 ∷ 1 ∷ 2 ∷ 2 ∷ 3 ∷ 3 ∷ []
 class-bounds = refl
 
--- plans of the seasons 12 and 268: both are found, 269 is not; nothing in an empty file; a byte too few
+-- plans of the seasons 12 and 268: both are found, 269 is not; nothing in an empty file; a byte too few, and half a plan
 pub finder-cases :
-    map (findNumber (planA ++ set planA 0 1)) (12 ∷ 268 ∷ 269 ∷ []) ++ findNumber [] 12 ∷ findNumber (drop 1 planA) 12 ∷ []
-    ≡ 0 ∷ 0 ∷ 12 ∷ 12 ∷ 11 ∷ []
+    map (findNumber (planA ++ set planA 0 1)) (12 ∷ 268 ∷ 269 ∷ [])
+    ++ findNumber [] 12 ∷ findNumber (drop 1 planA) 12 ∷ findNumber (drop 12 planA) 12 ∷ []
+    ≡ 0 ∷ 0 ∷ 12 ∷ 12 ∷ 11 ∷ 11 ∷ []
 unfolding effect findNumber findRows
 finder-cases = refl
 

@@ -117,7 +117,8 @@ cases =
     ∷ []
 
 -- not of the table: a strip written and read, a plan with several faults at once, a record of total degree 2 at the corners; each
--- of the bytes 21 to 23 filled; symbol and doubt wrong at once, doubt and coefficient wrong at once; an unread cell in doubt 99
+-- of the bytes 21 to 23 filled; symbol and doubt wrong at once, doubt and coefficient wrong at once; an unread cell in doubt 99;
+-- p 1; n 0, n 17 and n above p; a point that is p, and an unused point byte that is not 0
 abbrev pub moreCases : List Case
 moreCases =
     (write strip planA (3 ∷ 1 ∷ []) (nines 3) ⟹ only 0 leaving 4 ∷ 5 ∷ 0 ∷ [])
@@ -133,4 +134,10 @@ moreCases =
     ∷ (read square planA (7 ∷ drop 1 mark₁) (101 ∷ sure 8) (nines 3) ⟹ only 7 leaving nines 3)
     ∷ (measure square planA mark₁ (101 ∷ sure 8) (3 ∷ 1 ∷ 7 ∷ []) ⟹ only 8 leaving 3 ∷ 1 ∷ 7 ∷ [])
     ∷ (read square planA (hidden 1) (99 ∷ sure 8) (nines 3) ⟹ only 8 leaving nines 3)
+    ∷ (check (plan 1 1 0 0 0 0) ⟹ only 2 leaving [])
+    ∷ (check (plan 7 0 0 0 0 0) ⟹ only 3 leaving [])
+    ∷ (check (plan 19 17 1 1 2 4) ⟹ only 3 leaving [])
+    ∷ (check (plan 2 3 1 0 1 0) ⟹ only 3 leaving [])
+    ∷ (check (plan 7 3 1 1 2 7) ⟹ only 5 leaving [])
+    ∷ (check (set planA 8 1) ⟹ only 5 leaving [])
     ∷ []

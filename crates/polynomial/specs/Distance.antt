@@ -1,7 +1,7 @@
 -- The distance of polynomials in two variables on a grid of a row points x and b column points y.
 --
---   gridDistance a b d   max(a, b) (min(a, b) - d): the least number of cells in which two polynomials of total degree
---                        d < min(a, b) differ
+--   gridDistance a b d   max(a, b) (min(a, b) - d): two polynomials of total degree d < min(a, b) differ in so many cells
+--                        or more
 --   gridChanged q a b d x y k g h
 --                        in how many cells the terms of g and h below Y^k differ modulo suc q; all terms for k = d + 1
 --

@@ -4,7 +4,7 @@
 --   cell-at                   a cell of the grid is a byte of the flat photograph
 --   part                      the bytes of row r
 --   part-line, no-line        a row from its own part of the bytes; below the grid there is nothing
---   passed-zeros, passed-rest rows that are set one by one, the others being zeros
+--   passed-zeros, passed-rest   rows that are set one by one, the others being zeros
 --   residues-set              the residues of some bytes, set in a row of zeros
 --   residues-part, no-residues   those of a row from its own part of the bytes; below the grid there are none
 --   changed-more              a row more of the changed cells

@@ -20,8 +20,8 @@ module _ (c : tie.Else2) where
   abbrev start : tie.Start
   start = let checked = parsed .before .before in checked .before .before .before .before .before
 
-  given : let args = start .args in let P = args .plan .now in
-      Photograph (codeOf (args .mark)) P (args .symbols .now) (args .doubts .now) × IsRecord (codeOf (args .mark)) P (args .«record» .now)
+  given : let args = start .args in let C = codeOf (args .mark) in let P = args .plan .now in
+      Photograph C P (args .symbols .now) (args .doubts .now) × IsRecord C P (args .«record» .now)
   given = accepted-measuring _ _ _ _ _ (sym (c .before .measure-refusal .ensures _ (parsed .parse .ensures)) ∙ c .if2 .left)
 
 returns : tie.Need-returns
