@@ -22,32 +22,32 @@ use Rattle.plan.specs.Says.{Says}
 use Rattle.traymark.specs.Kind.{codeOf, sizeOf, cellsOf}
 
 -- what the struct says of cells and records is what the plan does
-cells-said : (square : Bool) {P : List ℕ} {plan : Plan} → Says P plan → cellsOf square (plan .grid) ≡ cells (codeOf square) P
+cells-said : (mark : Bool) {P : List ℕ} {plan : Plan} → Says P plan → cellsOf mark (plan .grid) ≡ cells (codeOf mark) P
 unfolding cellsOf
 cells-said true says = rw (says .fields) refl
 cells-said false says = rw (says .fields) refl
 
-size-said : (square : Bool) {P : List ℕ} {plan : Plan} → Says P plan → sizeOf square (plan .grid) ≡ size (codeOf square) P
+size-said : (mark : Bool) {P : List ℕ} {plan : Plan} → Says P plan → sizeOf mark (plan .grid) ≡ size (codeOf mark) P
 unfolding sizeOf
 size-said true says = rw (says .fields) refl
 size-said false says = rw (says .fields) refl
 
-module _ (square : Bool) {P : List ℕ} {plan : Plan} (says : Says P plan) {n k : ℕ} where
-  pub photo-at : (s u F : List ℕ) (i : ℕ) → n ≡ cellsOf square (plan .grid) → k ≡ sizeOf square (plan .grid) →
+module _ (mark : Bool) {P : List ℕ} {plan : Plan} (says : Says P plan) {n k : ℕ} where
+  pub photo-at : (s u F : List ℕ) (i : ℕ) → n ≡ cellsOf mark (plan .grid) → k ≡ sizeOf mark (plan .grid) →
       Stops (photoTests (plan .grid .p) (plan .grid .full) s u F n k) i →
-      numberAt (photoTests (plan .grid .p) (plan .grid .full) s u F n k) i ≡ first (photoRows (codeOf square) P s u F)
+      numberAt (photoTests (plan .grid .p) (plan .grid .full) s u F n k) i ≡ first (photoRows (codeOf mark) P s u F)
   photo-at s u F i e h t =
       first-at (photoTests (plan .grid .p) (plan .grid .full) s u F n k) i t
-      ∙ rw (e ∙ cells-said square says, h ∙ size-said square says, says .fields)
-      (photo-passes (codeOf square) P s u F (checked P (says .sound)))
+      ∙ rw (e ∙ cells-said mark says, h ∙ size-said mark says, says .fields)
+      (photo-passes (codeOf mark) P s u F (checked P (says .sound)))
 
-  pub write-at : (F B : List ℕ) (i : ℕ) → n ≡ cellsOf square (plan .grid) → k ≡ sizeOf square (plan .grid) →
+  pub write-at : (F B : List ℕ) (i : ℕ) → n ≡ cellsOf mark (plan .grid) → k ≡ sizeOf mark (plan .grid) →
       Stops (writeTests (plan .grid .p) F B n k) i →
-      numberAt (writeTests (plan .grid .p) F B n k) i ≡ writeNumber (codeOf square) P F B
+      numberAt (writeTests (plan .grid .p) F B n k) i ≡ writeNumber (codeOf mark) P F B
   write-at F B i e h t =
       first-at (writeTests (plan .grid .p) F B n k) i t
-      ∙ rw (e ∙ cells-said square says, h ∙ size-said square says, says .fields)
-      (write-passes (codeOf square) P F B (checked P (says .sound)))
+      ∙ rw (e ∙ cells-said mark says, h ∙ size-said mark says, says .fields)
+      (write-passes (codeOf mark) P F B (checked P (says .sound)))
 
 pub doubts-reached : {r t : Bool} {n : ℕ} (f : ℕ) (u : List ℕ) → length u ≡ n → r ≡ reached (f + 1) u → r ≡ t →
     excessive f u n ≡ t

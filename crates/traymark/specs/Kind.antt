@@ -1,6 +1,6 @@
 -- Marks and strips, as the checks that they share name them.
 --
---   codeOf b                  the code that a `square: bool` of the code stands for
+--   codeOf b                  the code that a `mark: bool` of the code stands for
 --   sizeOf b g, cellsOf b g   how many numbers a record on the grid g has, and how many cells its mark
 --
 -- What this file is for: the contracts of the checks, which name the kind by the code's own bool.

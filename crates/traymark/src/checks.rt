@@ -1,4 +1,4 @@
-// The refusals of writing, measuring and reading under a sound plan, for marks (`square`) and for strips: one test for each row
+// The refusals of writing, measuring and reading under a sound plan, for marks (`mark`) and for strips: one test for each row
 // of document 01's table "What is returned", in its order. Records and buffers may be any bytes of any length. A loop over cells
 // looks at all of them, with no way out, so that it is vectorised.
 use definitions::UNREAD;
@@ -20,16 +20,16 @@ ghost use Rattle.plan.specs.Says.{Says, Ready};
 ghost use Rattle.traymark.specs.Kind.{codeOf, sizeOf, cellsOf};
 
 // Refusals 6 and 9, those of writing: the number of the first that applies, else 0. Of the buffer only the length counts.
-pub(crate) fn write_refusal(square: bool, plan: Plan, record: &[u8], buffer: &[u8]) -> u32
+pub(crate) fn write_refusal(mark: bool, plan: Plan, record: &[u8], buffer: &[u8]) -> u32
     requires { ⌜ Ready plan ⌝ }
     ensures { λ r. ⌜ ((P : List ℕ) → Says P plan →
-        r ≡ writeNumber (codeOf square) P (now («record» .entry)) (now (buffer .entry))) ⌝ }
+        r ≡ writeNumber (codeOf mark) P (now («record» .entry)) (now (buffer .entry))) ⌝ }
 {
     let g = plan.grid;
-    if record.len() != record_size(square, g) {
+    if record.len() != record_size(mark, g) {
         return 6;
     }
-    if buffer.len() != cell_count(square, g) {
+    if buffer.len() != cell_count(mark, g) {
         return 6;
     }
     if bytes::reaches(record, g.p as u8) {
@@ -40,7 +40,7 @@ pub(crate) fn write_refusal(square: bool, plan: Plan, record: &[u8], buffer: &[u
 
 // Refusals 6 to 8, those of a photograph with a record or the buffer for one. Of the record only the length counts.
 pub(crate) fn photo_refusal(
-    square: bool,
+    mark: bool,
     plan: Plan,
     symbols: &[u8],
     doubts: &[u8],
@@ -48,17 +48,17 @@ pub(crate) fn photo_refusal(
 ) -> u32
     requires { ⌜ Ready plan ⌝ }
     ensures { λ r. ⌜ ((P : List ℕ) → Says P plan →
-        r ≡ first (photoRows (codeOf square) P (now (symbols .entry)) (now (doubts .entry)) (now («record» .entry)))) ⌝ }
+        r ≡ first (photoRows (codeOf mark) P (now (symbols .entry)) (now (doubts .entry)) (now («record» .entry)))) ⌝ }
 {
     let g = plan.grid;
-    let n = cell_count(square, g);
+    let n = cell_count(mark, g);
     if symbols.len() != n {
         return 6;
     }
     if doubts.len() != n {
         return 6;
     }
-    if record.len() != record_size(square, g) {
+    if record.len() != record_size(mark, g) {
         return 6;
     }
     if is_strange(g.p as u8, symbols, n) {
@@ -75,7 +75,7 @@ pub(crate) fn photo_refusal(
 
 // Refusals 6 to 9, those of measuring.
 pub(crate) fn measure_refusal(
-    square: bool,
+    mark: bool,
     plan: Plan,
     symbols: &[u8],
     doubts: &[u8],
@@ -83,9 +83,9 @@ pub(crate) fn measure_refusal(
 ) -> u32
     requires { ⌜ Ready plan ⌝ }
     ensures { λ r. ⌜ ((P : List ℕ) → Says P plan →
-        r ≡ measureNumber (codeOf square) P (now (symbols .entry)) (now (doubts .entry)) (now («record» .entry))) ⌝ }
+        r ≡ measureNumber (codeOf mark) P (now (symbols .entry)) (now (doubts .entry)) (now («record» .entry))) ⌝ }
 {
-    let number = photo_refusal(square, plan, symbols, doubts, record);
+    let number = photo_refusal(mark, plan, symbols, doubts, record);
     if number != 0 {
         return number;
     }
@@ -96,23 +96,23 @@ pub(crate) fn measure_refusal(
 }
 
 // How many coefficients a record on the grid has.
-fn record_size(square: bool, g: Grid) -> usize
+fn record_size(mark: bool, g: Grid) -> usize
     requires { ⌜ Fit g ⌝ }
-    ensures { λ r. ⌜ r ≡ sizeOf square g ⌝ }
+    ensures { λ r. ⌜ r ≡ sizeOf mark g ⌝ }
 {
     let k = g.d + 1;
-    if square {
+    if mark {
         return start(k);
     }
     k
 }
 
 // How many cells its mark has.
-fn cell_count(square: bool, g: Grid) -> usize
+fn cell_count(mark: bool, g: Grid) -> usize
     requires { ⌜ Fit g ⌝ }
-    ensures { λ r. ⌜ r ≡ cellsOf square g ⌝ }
+    ensures { λ r. ⌜ r ≡ cellsOf mark g ⌝ }
 {
-    if square {
+    if mark {
         return g.a * g.b;
     }
     g.a
