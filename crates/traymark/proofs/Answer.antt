@@ -6,28 +6,21 @@
 --   measure-unsound                    so where the plan itself is refused
 --   read-refuses, read-takes           refusals 1 to 8 of a reading; where none applies, the photograph is taken
 --   read-unsound                       so where the plan itself is refused
---   writes-kind, mark-kind, given-kind, reading-kind, takes-kind, reads-kind
---                                      what is written, measured and read as a mark or a strip, by the test which of them it is
 --   read-keeps, read-gives             a refused reading is zeros and leaves the buffer; an accepted one is of the record in it
 --
 -- What this file is for: the calls test a number, the definitions choose by it. Assumes nothing.
 use mathlib.Core.Path.{_≡_, refl, sym, ap, _∙_}
-use mathlib.Core.Bool.{Bool}
 use mathlib.Core.List.{List}
 use Prim.Native.Nat.{ℕ, zero, suc}
-use Rattle.definitions.specs.declared.Reading.{Reading}
 use Rattle.definitions.specs.Refusals.{first, accepted}
 use Rattle.definitions.specs.Plan.{checkNumber}
-use Rattle.definitions.specs.Code.{Code, mark, IsRecord}
+use Rattle.definitions.specs.Code.{Code, mark}
 use Rattle.definitions.specs.Calls.{refused, readingOf, photoRows, writeNumber, writeBuffer, measureNumber, measureReading}
 use Rattle.definitions.specs.Calls.{readNumber, readReading, readBuffer}
 use Rattle.definitions.specs.Reads.{Reads}
-use Rattle.definitions.specs.Accepted.{Writing}
-use Rattle.definitions.specs.Photograph.{Photograph}
 use Rattle.definitions.proofs.Nearest.{reads-refused}
 use Rattle.definitions.proofs.Accepted.{photo-refused, write-refused, measure-refused}
 use Rattle.reading.specs.Loading.{Taken}
-use Rattle.traymark.specs.Kind.{codeOf}
 use Rattle.reading.proofs.Loading.{taken}
 
 other : {A : Type 0} (k : ℕ) (a b : A) → (k ≡ 0 → ⊥) → b ≡ accepted k a b
@@ -74,26 +67,6 @@ module _ (C : Code) (P s u B : List ℕ) {k : ℕ} (e : k ≡ first (photoRows C
 
 pub read-unsound : (C : Code) (P s u B : List ℕ) {k : ℕ} → k ≡ checkNumber P → (k ≡ 0 → ⊥) → Reads C P s u B (refused k) B
 read-unsound C P s u B {k} e h = read-refuses C P s u B (photo-refused C P s u B k e h) h
-
-module _ {b c : Bool} (e : b ≡ c) where
-  pub writes-kind : {P F B : List ℕ} → Writing (codeOf b) P F B → Writing (codeOf c) P F B
-  writes-kind w = rw e at w
-
-  pub mark-kind : (P F : List ℕ) → mark (codeOf c) P F ≡ mark (codeOf b) P F
-  mark-kind P F = rw e
-
-  pub given-kind : {P s u F : List ℕ} → Photograph (codeOf b) P s u × IsRecord (codeOf b) P F →
-      Photograph (codeOf c) P s u × IsRecord (codeOf c) P F
-  given-kind h = rw e at h
-
-  pub reading-kind : (P s u F : List ℕ) → readingOf (codeOf c) P s u F ≡ readingOf (codeOf b) P s u F
-  reading-kind P s u F = rw e
-
-  pub takes-kind : {P s u B : List ℕ} → Taken (codeOf b) P s u B → Taken (codeOf c) P s u B
-  takes-kind t = rw e at t
-
-  pub reads-kind : {P s u B : List ℕ} {r : Reading} {W : List ℕ} → Reads (codeOf c) P s u B r W → Reads (codeOf b) P s u B r W
-  reads-kind h = rw e h
 
 pub read-keeps : (C : Code) (P s u B : List ℕ) → (readNumber C P s u B ≡ 0 → ⊥) →
     (readReading C P s u B ≡ refused (readNumber C P s u B)) × (readBuffer C P s u B ≡ B)

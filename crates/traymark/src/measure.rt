@@ -4,7 +4,6 @@ use definitions::Reading;
 ghost use mathlib.Core.Path.{_≡_};
 ghost use Rattle.definitions.specs.Code.{strip, square};
 ghost use Rattle.definitions.specs.Calls.{measureReading};
-ghost use Rattle.traymark.specs.Kind.{codeOf};
 
 // Measures a record against a photographed mark, from Rattle and from C. All four are any bytes of any length, and are only read.
 //
@@ -25,7 +24,16 @@ pub extern "C" fn traymark_measure_mark(
     ensures { λ r. ⌜ r
         ≡ measureReading square (now (plan .entry)) (now (symbols .entry)) (now (doubts .entry)) (now («record» .entry)) ⌝ }
 {
-    measure(true, plan, record, symbols, doubts)
+    let number = plan::check(plan);
+    if number != 0 {
+        return answers::refused(number);
+    }
+    let said = plan::parse(plan);
+    let number = checks::measure_refusal(true, said, symbols, doubts, record);
+    if number != 0 {
+        return answers::refused(number);
+    }
+    measuring::measure_mark(said, record, symbols, doubts)
 }
 
 // The same for a strip: `record` has d + 1 bytes, lowest power first, `symbols` and `doubts` have n.
@@ -39,25 +47,14 @@ pub extern "C" fn traymark_measure_strip(
     ensures { λ r. ⌜ r
         ≡ measureReading strip (now (plan .entry)) (now (symbols .entry)) (now (doubts .entry)) (now («record» .entry)) ⌝ }
 {
-    measure(false, plan, record, symbols, doubts)
-}
-
-// Both, `mark` telling a mark from a strip: the plan's refusals, those of the photograph and the record, then the measure.
-fn measure(mark: bool, plan: &[u8], record: &[u8], symbols: &[u8], doubts: &[u8]) -> Reading
-    ensures { λ r. ⌜ r ≡ measureReading (codeOf mark) (now (plan .entry)) (now (symbols .entry)) (now (doubts .entry))
-        (now («record» .entry)) ⌝ }
-{
     let number = plan::check(plan);
     if number != 0 {
         return answers::refused(number);
     }
     let said = plan::parse(plan);
-    let number = checks::measure_refusal(mark, said, symbols, doubts, record);
+    let number = checks::measure_refusal(false, said, symbols, doubts, record);
     if number != 0 {
         return answers::refused(number);
-    }
-    if mark {
-        return measuring::measure_mark(said, record, symbols, doubts);
     }
     measuring::measure_strip(said, record, symbols, doubts)
 }

@@ -4,7 +4,6 @@ use definitions::Reading;
 ghost use mathlib.Core.Path.{_≡_};
 ghost use Rattle.definitions.specs.Code.{strip, square};
 ghost use Rattle.definitions.specs.Calls.{readReading, readBuffer};
-ghost use Rattle.traymark.specs.Kind.{codeOf};
 
 // Reads a photographed mark, from Rattle and from C.
 // `plan`, `symbols` and `doubts` are any bytes of any length, and are only read.
@@ -29,7 +28,16 @@ pub extern "C" fn traymark_read_mark(
     ensures bytes { λ r. ⌜ now («record» .exit)
         ≡ readBuffer square (now (plan .entry)) (now (symbols .entry)) (now (doubts .entry)) (now («record» .entry)) ⌝ }
 {
-    read(true, plan, symbols, doubts, record)
+    let number = plan::check(plan);
+    if number != 0 {
+        return answers::refused(number);
+    }
+    let said = plan::parse(plan);
+    let number = checks::photo_refusal(true, said, symbols, doubts, record);
+    if number != 0 {
+        return answers::refused(number);
+    }
+    reading::mark::read_mark(said, symbols, doubts, record)
 }
 
 // The same for a strip: `record` has d + 1 bytes, lowest power first, `symbols` and `doubts` have n, and
@@ -46,27 +54,14 @@ pub extern "C" fn traymark_read_strip(
     ensures bytes { λ r. ⌜ now («record» .exit)
         ≡ readBuffer strip (now (plan .entry)) (now (symbols .entry)) (now (doubts .entry)) (now («record» .entry)) ⌝ }
 {
-    read(false, plan, symbols, doubts, record)
-}
-
-// Both, `mark` telling a mark from a strip: the plan's refusals, those of the photograph and the buffer, then the reading.
-fn read(mark: bool, plan: &[u8], symbols: &[u8], doubts: &[u8], record: &mut [u8]) -> Reading
-    ensures reading { λ r. ⌜ r ≡ readReading (codeOf mark) (now (plan .entry)) (now (symbols .entry)) (now (doubts .entry))
-        (now («record» .entry)) ⌝ }
-    ensures bytes { λ r. ⌜ now («record» .exit) ≡ readBuffer (codeOf mark) (now (plan .entry)) (now (symbols .entry))
-        (now (doubts .entry)) (now («record» .entry)) ⌝ }
-{
     let number = plan::check(plan);
     if number != 0 {
         return answers::refused(number);
     }
     let said = plan::parse(plan);
-    let number = checks::photo_refusal(mark, said, symbols, doubts, record);
+    let number = checks::photo_refusal(false, said, symbols, doubts, record);
     if number != 0 {
         return answers::refused(number);
-    }
-    if mark {
-        return reading::mark::read_mark(said, symbols, doubts, record);
     }
     reading::strip::read_strip(said, symbols, doubts, record)
 }

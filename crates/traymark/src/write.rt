@@ -3,7 +3,6 @@ use crate::checks;
 ghost use mathlib.Core.Path.{_≡_};
 ghost use Rattle.definitions.specs.Code.{strip as stripCode, square};
 ghost use Rattle.definitions.specs.Calls.{writeNumber, writeBuffer};
-ghost use Rattle.traymark.specs.Kind.{codeOf};
 
 // Writes the mark of a record, from Rattle and from C. `plan` and `record` are any bytes of any length, and are only read.
 //
@@ -18,7 +17,17 @@ pub extern "C" fn traymark_write_mark(plan: &[u8], record: &[u8], mark: &mut [u8
     ensures bytes { λ r. ⌜ now (mark .exit)
         ≡ writeBuffer square (now (plan .entry)) (now («record» .entry)) (now (mark .entry)) ⌝ }
 {
-    write(true, plan, record, mark)
+    let number = plan::check(plan);
+    if number != 0 {
+        return number;
+    }
+    let said = plan::parse(plan);
+    let number = checks::write_refusal(true, said, record, mark);
+    if number != 0 {
+        return number;
+    }
+    writing::write_mark(said, record, mark);
+    0
 }
 
 // The same for a strip: `record` has d + 1 bytes, lowest power first, and `strip` n, of which the j-th is the
@@ -29,28 +38,15 @@ pub extern "C" fn traymark_write_strip(plan: &[u8], record: &[u8], strip: &mut [
     ensures bytes { λ r. ⌜ now (strip .exit)
         ≡ writeBuffer stripCode (now (plan .entry)) (now («record» .entry)) (now (strip .entry)) ⌝ }
 {
-    write(false, plan, record, strip)
-}
-
-// Both, `mark` telling a mark from a strip: the plan's refusals, those of the record and the buffer, then the writing.
-fn write(mark: bool, plan: &[u8], record: &[u8], buffer: &mut [u8]) -> u32
-    ensures number { λ r. ⌜ r ≡ writeNumber (codeOf mark) (now (plan .entry)) (now («record» .entry)) (now (buffer .entry)) ⌝ }
-    ensures bytes { λ r. ⌜ now (buffer .exit)
-        ≡ writeBuffer (codeOf mark) (now (plan .entry)) (now («record» .entry)) (now (buffer .entry)) ⌝ }
-{
     let number = plan::check(plan);
     if number != 0 {
         return number;
     }
     let said = plan::parse(plan);
-    let number = checks::write_refusal(mark, said, record, buffer);
+    let number = checks::write_refusal(false, said, record, strip);
     if number != 0 {
         return number;
     }
-    if mark {
-        writing::write_mark(said, record, buffer);
-        return 0;
-    }
-    writing::write_strip(said, record, buffer);
+    writing::write_strip(said, record, strip);
     0
 }
