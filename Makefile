@@ -59,13 +59,13 @@ tests: lib program
 	$(CARGO) run --quiet --release -p traymark --example read_case_c | tee target/read_case_c.printed
 	diff examples/read_case_c.stdout target/read_case_c.printed
 
-## make bench           not timed     not timed        times beside the same method in Rust and the independent decoder; no test
+## make bench           5 min         40 s            times beside the same method in Rust and the independent decoder; no test
 bench: lib
 	$(CARGO) run --quiet --release -p traymark-bench
 
 ## make quick           1 s           1 s             what needs no proof: layout, lines of at most 130 columns, that files of
 ##                                                    laws open with their laws, that what the documents name is there, and
-##                                                    that no call has a requires
+##                                                    that each exported contract is there and asks nothing
 quick:
 	rt fmt --check
 	tools/columns
@@ -79,7 +79,7 @@ wrong-programs:
 	tools/wrong-programs > target/WRONG-PROGRAMS.md
 	cp target/WRONG-PROGRAMS.md docs/WRONG-PROGRAMS.md
 
-## make test            15 min        the same        THE GATE: `quick`, every proof from nothing, every wrong program, which
+## make test            10 to 15 min  the same        THE GATE: `quick`, every proof from nothing, every wrong program, which
 ##                                                    must be refused, and `tests`; its last line is 'N passed, 0 failed'
 # `rt ci` removes target/ first, so .verdict stands beside it.
 # Four proofs at a time, also on two processors: rt waits for the whole batch before it begins the next.
