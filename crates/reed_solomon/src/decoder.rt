@@ -186,6 +186,7 @@ pub fn decode(g: Axis, inverses: &[u16; 251], s: [u16; 16], u: [u32; 16]) -> Dec
     let x = g.x;
     let all = order::keys(g.n, u);
     let f = newton::through(all, x, s, g.k, g.p, g.m, inverses);
+    // g again, made of its fields: a struct that is copied whole right after its caller stored it waits for the stores.
     let axis = Axis {
         p: g.p,
         m: g.m,
