@@ -1,9 +1,47 @@
-// What calls answer of a record: the class of its changed count, its margin, and the readings that they return.
+// What calls answer of a record: its changed cells, the unread ones, the class, the margin, and the readings that they return.
+use definitions::UNREAD;
 ghost use mathlib.Core.Path.{_≡_};
-ghost use Prim.Native.Nat.{_<_};
+ghost use Prim.Native.Nat.{_≤_, _<_};
+ghost use lib.ListN.{length};
+ghost use Rattle.bounded.specs.Bounded.{at};
 ghost use Rattle.definitions.specs.Calls.{refused as refusedWith};
-ghost use Rattle.definitions.specs.Cost.{margin as marginOf, class};
+ghost use Rattle.definitions.specs.Cost.{changedCell, unreadCell, unreadCells, margin as marginOf, class};
 ghost use Rattle.answers.specs.Summary.{summary};
+
+// 1 for a cell that was read and is not right.
+pub fn cell_changed(symbol: u8, right: bool) -> u32
+    ensures { λ r. ⌜ (r ≡ changedCell symbol right) × (r ≤ 1) ⌝ }
+{
+    if symbol == UNREAD {
+        return 0;
+    }
+    if right {
+        return 0;
+    }
+    1
+}
+
+// 1 for a cell that was not read.
+fn cell_unread(symbol: u8) -> u16
+    ensures { λ r. ⌜ (r ≡ unreadCell symbol) × (r ≤ 1) ⌝ }
+{
+    if symbol == UNREAD {
+        return 1;
+    }
+    0
+}
+
+// How many cells were not read. 16 bits have the count, which takes half the work of 32.
+fn unread_cells(symbols: &[u8]) -> u32
+    requires { ⌜ length (now symbols) ≤ 65535 ⌝ }
+    ensures { λ r. ⌜ r ≡ unreadCells (length (now (symbols .entry))) (at (now (symbols .entry))) ⌝ }
+{
+    let mut count = 0u16;
+    for i in 0..symbols.len() {
+        count += cell_unread(symbols[i]);
+    }
+    count as u32
+}
 
 // The class of a changed count.
 pub fn class_of(changed: u32) -> u32
@@ -26,18 +64,20 @@ pub fn margin(radius: u32, cost: u32) -> i32
     (radius as i32) - (cost as i32)
 }
 
-// The reading of a record with this cost and changed count.
-pub fn reading(radius: u32, cost: u32, changed: u32) -> definitions::Reading
-    requires { ⌜ (radius < 2147483648) × (cost < 2147483648) ⌝ }
-    ensures { λ r. ⌜ r ≡ summary radius cost changed ⌝ }
+// The reading of a record with this cost and changed count, against these symbols.
+pub fn reading(radius: u32, cost: u32, changed: u32, symbols: &[u8]) -> definitions::Reading
+    requires { ⌜ (radius < 2147483648) × (cost < 2147483648) × (length (now symbols) ≤ 65535) ⌝ }
+    ensures { λ r. ⌜ r ≡ summary radius cost changed (now (symbols .entry)) ⌝ }
 {
     let margin = margin(radius, cost);
+    let unread = unread_cells(symbols);
     let class = class_of(changed);
     definitions::Reading {
         number: 0,
         cost,
         margin,
         changed,
+        unread,
         class,
     }
 }
@@ -51,6 +91,7 @@ pub fn refused(number: u32) -> definitions::Reading
         cost: 0,
         margin: 0,
         changed: 0,
+        unread: 0,
         class: 0,
     }
 }

@@ -25,7 +25,8 @@ use Rattle.definitions.specs.Finder.{findRows, findNumber}
 use Rattle.definitions.specs.Published.{_over_, _is_times_, distance, weighted}
 use Rattle.definitions.specs.Tray.{trayReading, trayRecord}
 use Rattle.definitions.specs.Printed.{decimal, signed, spaced, readLine, recordLine, refusedLine, answerText, trayText}
-use Rattle.definitions.specs.Cases.{effect, only, call, expected, cases, moreCases, planA, mark₁, photoC, photoD}
+use Rattle.definitions.specs.Cases.{effect, only, call, expected, cases, moreCases}
+use Rattle.definitions.specs.Cases.{planA, mark₁, photoC, photoD, hidden, doubts}
 
 pub cases-hold : map effect (map call cases) ≡ map expected cases
 unfolding effect
@@ -56,27 +57,33 @@ never-over-zero D k a h = omega (arith, h .0)
 
 pub tray-cases :
     map trayReading ((planA ++ photoC ++ sure 9) ∷ (planA ++ mark₁) ∷ (planA ++ photoC ++ sure 10) ∷ drop 1 planA ∷ [])
-    ≡ record { number = 0; cost = 400; margin = pos 200; changed = 2; class = 1 } ∷ only 6 ∷ only 6 ∷ only 1 ∷ []
+    ≡ record { number = 0; cost = 400; margin = pos 200; changed = 2; unread = 0; class = 1 } ∷ only 6 ∷ only 6 ∷ only 1 ∷ []
 unfolding effect trayReading
 tray-cases = refl
 
--- READ, the season's digits, 2 1 400 200, RECORD 3 1 2; REFUSED and a number's digits
-abbrev caseC : List ℕ → List ℕ
-caseC season =
-    82 ∷ 69 ∷ 65 ∷ 68 ∷ 32 ∷ season ++ 32 ∷ 50 ∷ 32 ∷ 49 ∷ 32 ∷ 52 ∷ 48 ∷ 48 ∷ 32 ∷ 50 ∷ 48 ∷ 48 ∷ 10
-    ∷ 82 ∷ 69 ∷ 67 ∷ 79 ∷ 82 ∷ 68 ∷ 32 ∷ 51 ∷ 32 ∷ 49 ∷ 32 ∷ 50 ∷ 10 ∷ []
+-- READ, the season's digits and other characters, RECORD 3 1 2; REFUSED and a number's digits
+abbrev reading : (season others : List ℕ) → List ℕ
+reading season others = 82 ∷ 69 ∷ 65 ∷ 68 ∷ 32 ∷ season ++ others
+    ++ 10 ∷ 82 ∷ 69 ∷ 67 ∷ 79 ∷ 82 ∷ 68 ∷ 32 ∷ 51 ∷ 32 ∷ 49 ∷ 32 ∷ 50 ∷ 10 ∷ []
+
+-- 2 0 1 400 200, and 0 5 0 500 100
+abbrev caseC : List ℕ
+caseC = 32 ∷ 50 ∷ 32 ∷ 48 ∷ 32 ∷ 49 ∷ 32 ∷ 52 ∷ 48 ∷ 48 ∷ 32 ∷ 50 ∷ 48 ∷ 48 ∷ []
+
+abbrev caseF : List ℕ
+caseF = 32 ∷ 48 ∷ 32 ∷ 53 ∷ 32 ∷ 48 ∷ 32 ∷ 53 ∷ 48 ∷ 48 ∷ 32 ∷ 49 ∷ 48 ∷ 48 ∷ []
 
 abbrev refusal : List ℕ → List ℕ
 refusal number = 82 ∷ 69 ∷ 70 ∷ 85 ∷ 83 ∷ 69 ∷ 68 ∷ 32 ∷ number ++ 10 ∷ []
 
--- case c, in season 12 and in season 268; case d; a byte less than case c and a byte more; a plan a byte short
+-- case c, in season 12 and in season 268; case f; case d; a byte less than case c and a byte more; a plan a byte short
 pub text-cases :
     map trayText (
-    (planA ++ photoC ++ sure 9) ∷ (set planA 0 1 ++ photoC ++ sure 9) ∷ (planA ++ photoD ++ sure 9)
-    ∷ (planA ++ photoC ++ sure 8) ∷ (planA ++ photoC ++ sure 10) ∷ drop 1 planA ∷ []
+    (planA ++ photoC ++ sure 9) ∷ (set planA 0 1 ++ photoC ++ sure 9) ∷ (planA ++ hidden 5 ++ doubts 5)
+    ∷ (planA ++ photoD ++ sure 9) ∷ (planA ++ photoC ++ sure 8) ∷ (planA ++ photoC ++ sure 10) ∷ drop 1 planA ∷ []
     )
-    ≡ caseC (49 ∷ 50 ∷ []) ∷ caseC (50 ∷ 54 ∷ 56 ∷ []) ∷ refusal (49 ∷ 48 ∷ [])
-    ∷ refusal (54 ∷ []) ∷ refusal (54 ∷ []) ∷ refusal (49 ∷ []) ∷ []
+    ≡ reading (49 ∷ 50 ∷ []) caseC ∷ reading (50 ∷ 54 ∷ 56 ∷ []) caseC ∷ reading (49 ∷ 50 ∷ []) caseF
+    ∷ refusal (49 ∷ 48 ∷ []) ∷ refusal (54 ∷ []) ∷ refusal (54 ∷ []) ∷ refusal (49 ∷ []) ∷ []
 unfolding effect trayReading trayRecord decimal signed spaced readLine recordLine refusedLine answerText trayText
 text-cases = refl
 

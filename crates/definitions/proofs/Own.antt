@@ -1,45 +1,48 @@
 -- A record against its own mark with all doubts 0.
 --
---   own-cost, own-changed   it costs 0, and no cell is changed
---   own-reading             so its reading is clean
---   own-photo               the mark is a photograph of the plan
---   radius-positive         the radius is above 0
---   own-read                read back, it is the record
+--   own-cost                  it costs 0
+--   own-changed, own-unread   no cell is changed, and none is unread
+--   own-reading               so its reading is clean
+--   own-photo                 the mark is a photograph of the plan
+--   radius-positive           the radius is above 0
+--   own-read                  read back, it is the record
 --
 -- What this file is for: demand 2 follows from demand 3. Assumes nothing.
 use mathlib.Core.Path.{_≡_, refl, ap, _∙_}
-use mathlib.Core.Logic.{inl}
-use mathlib.Core.Bool.{true, cond}
+use mathlib.Core.Logic.{_≢_, inl}
+use mathlib.Core.Bool.{Bool, true, false, cond}
 use mathlib.Core.List.{List}
-use Prim.Native.Nat.{ℕ, zero, suc, _-_, _<_}
+use Prim.Native.Nat.{ℕ, _-_, _<_}
 use native.Mathlib.Omega.{arith}
 use native.Mathlib.Nat.{add-zero, mod-lt, mul-le-mul}
 use lib.Dec.{eqb}
 use lib.IntN.{pos}
-use lib.ListN.{length, replicate}
-use borrow.Author.Tests.{eq-eqb}
+use lib.ListN.{length-replicate}
+use borrow.Author.Tests.{eq-eqb, ne-eqb}
 use Rattle.bounded.specs.Bounded.{at, sum}
 use Rattle.bounded.proofs.Sum.{sum-eq, sum-const}
-use Rattle.bounded.proofs.Tab.{length-tab, tab-at}
+use Rattle.bounded.proofs.Tab.{length-tab, tab-at, zeros-at}
 use Rattle.definitions.specs.Plan.{modulus, side, degree}
 use Rattle.definitions.specs.Code.{Code, strip, square, cells, value, mark}
 use Rattle.polynomial.specs.Record.{valueX, valueXY}
-use Rattle.definitions.specs.Cost.{full, radius, margin}
+use Rattle.definitions.specs.Cost.{full, unread, changedCell, radius, margin}
 use Rattle.distance.specs.Cost.{cell}
-use Rattle.definitions.specs.Calls.{costOf, changedOf, readingOf, readReading, readBuffer}
+use Rattle.definitions.specs.Calls.{costOf, changedOf, unreadOf, readingOf, readReading, readBuffer}
 use Rattle.definitions.specs.Code.{IsRecord}
 use Rattle.definitions.specs.Sound.{Sound}
 use Rattle.definitions.specs.Photograph.{Photograph, sure}
 use Rattle.definitions.specs.Demands.{Nearest, clean}
 
-zeros-at : (n c : ℕ) → at (replicate n 0) c ≡ 0
-zeros-at zero c = refl
-zeros-at (suc n) zero = refl
-zeros-at (suc n) (suc c) = zeros-at n c
+none : (n : ℕ) → sum n (λ c. 0) ≡ 0
+none n = sum-const n 0 ∙ omega arith
 
-zeros-length : (n : ℕ) → length {A = ℕ} (replicate n 0) ≡ n
-zeros-length zero = refl
-zeros-length (suc n) = ap suc (zeros-length n)
+-- a cell whose symbol is right is not changed
+right : (s : ℕ) → changedCell s true ≡ 0
+right s = go (eqb s unread)
+  where
+    go : (b : Bool) → _≡_ {A = ℕ} (cond b 0 0) 0
+    go true = refl
+    go false = refl
 
 module _ (C : Code) (P F : List ℕ) where
   mark-at : (c : ℕ) → c < cells C P → at (mark C P F) c ≡ value C P F c
@@ -55,16 +58,8 @@ module _ (C : Code) (P F : List ℕ) where
       own : (c : ℕ) → c < cells C P → cell full (at (mark C P F) c) (at (sure (cells C P)) c) (value C P F c) ≡ 0
       own c l = rw (equal c l) (zeros-at (cells C P) c)
 
-      none : (n : ℕ) → sum n (λ c. 0) ≡ 0
-      none n = sum-const n 0 ∙ omega arith
-
   pub own-changed : changedOf C P (mark C P F) F ≡ 0
-  own-changed = sum-eq (cells C P) {g = λ c. 0} (λ c l. ap (λ b. cond b 0 1) (equal c l)) ∙ sum-const (cells C P) 0 ∙ omega arith
-
-  pub own-reading : readingOf C P (mark C P F) (sure (cells C P)) F ≡ clean C P
-  unfolding readingOf margin
-  own-reading = rw (own-cost, own-changed)
-      (ap (λ m. record { number = 0; cost = 0; margin = pos m; changed = 0; class = 0 }) (add-zero (radius full C P)))
+  own-changed = sum-eq (cells C P) {g = λ c. 0} (λ c l. rw (equal c l) (right (at (mark C P F) c))) ∙ none (cells C P)
 
 module _ (P : List ℕ) (S : Sound P) where
   value-below : (C : Code) (F : List ℕ) (c : ℕ) → value C P F c < modulus P
@@ -72,16 +67,28 @@ module _ (P : List ℕ) (S : Sound P) where
   value-below strip F c = mod-lt _ (omega (arith, S .prime .least))
   value-below square F c = mod-lt _ (omega (arith, S .prime .least))
 
+  -- no value is the symbol of an unread cell
+  read : (C : Code) (F : List ℕ) (c : ℕ) → c < cells C P → at (mark C P F) c ≢ unread
+  read C F c l z = omega (arith, z, mark-at C P F c l, value-below C F c, S .small)
+
   pub own-photo : (C : Code) (F : List ℕ) → Photograph C P (mark C P F) (sure (cells C P))
   unfolding mark
   own-photo C F = record {
     sound = S;
     symbols = length-tab (cells C P) (value C P F);
-    doubts = zeros-length (cells C P);
+    doubts = length-replicate {A = ℕ} (cells C P) 0;
     symbol = λ c l. inl (rw (mark-at C P F c l) (value-below C F c));
     doubt = λ c l. omega (arith, zeros-at (cells C P) c);
-    erased = λ c l z. absurd (omega (arith, z, mark-at C P F c l, value-below C F c, S .small));
+    erased = λ c l z. absurd (read C F c l z);
   }
+
+  pub own-unread : (C : Code) (F : List ℕ) → unreadOf C P (mark C P F) ≡ 0
+  own-unread C F = sum-eq (cells C P) {g = λ c. 0} (λ c l. rw (ne-eqb _ _ (read C F c l))) ∙ none (cells C P)
+
+  pub own-reading : (C : Code) (F : List ℕ) → readingOf C P (mark C P F) (sure (cells C P)) F ≡ clean C P
+  unfolding readingOf margin
+  own-reading C F = rw (own-cost C P F, own-changed C P F, own-unread C F)
+      (ap (λ m. record { number = 0; cost = 0; margin = pos m; changed = 0; unread = 0; class = 0 }) (add-zero (radius full C P)))
 
   pub radius-positive : (C : Code) → 0 < radius full C P
   radius-positive strip = omega (arith, S .low)
@@ -96,4 +103,4 @@ module _ (P : List ℕ) (S : Sound P) where
   own-read C F B r h =
       let z : costOf C P (mark C P F) (sure (cells C P)) F < radius full C P = omega (arith, own-cost C P F, radius-positive C) in
       let t = h .returned F r z in
-      (t .0 ∙ own-reading C P F, t .1)
+      (t .0 ∙ own-reading C F, t .1)

@@ -81,13 +81,14 @@ unfolding spaced
 spaced-one n = rw append-nil
 
 -- a line of numbers of 32 bits, of which the margin has a sign; a line of bytes; and a refusal
-pub read-length : (y : ℕ) (r : Reading) → y < 2 ^ 32 → r .changed < 2 ^ 32 → r .class < 2 ^ 32 → r .cost < 2 ^ 32 →
-    natAbs (r .margin) < 2 ^ 32 → length (readLine y r) ≤ 61
+pub read-length : (y : ℕ) (r : Reading) → y < 2 ^ 32 → r .changed < 2 ^ 32 → r .unread < 2 ^ 32 →
+    r .class < 2 ^ 32 → r .cost < 2 ^ 32 → natAbs (r .margin) < 2 ^ 32 → length (readLine y r) ≤ 72
 unfolding readLine spaced
-read-length y r h₁ h₂ h₃ h₄ h₅ = simp length-append (omega (
+read-length y r h₁ h₂ h₃ h₄ h₅ h₆ = simp length-append (omega (
   arith,
   decimal-length 9 y (omega arith),
   decimal-length 9 (r .changed) (omega arith),
+  decimal-length 9 (r .unread) (omega arith),
   decimal-length 9 (r .class) (omega arith),
   decimal-length 9 (r .cost) (omega arith),
   signed-length 9 (r .margin) (omega arith),

@@ -2,6 +2,7 @@
 --
 --   sound, checked   from the number 0 to the facts, and back
 --   check-at         the check that stops at row i gives that row's number
+--   cells-most       strips and marks of a sound plan have at most 256 cells
 --
 -- What this file is for: the facts of a sound plan for whoever was given the number 0, and the number for whoever has the facts.
 -- Assumes nothing.
@@ -10,11 +11,13 @@ use mathlib.Core.Bool.{false}
 use mathlib.Core.List.{List}
 use Prim.Native.Nat.{ℕ, _+_, _-_, _≤_, _<_}
 use native.Mathlib.Omega.{arith}
+use native.Mathlib.Nat.{mul-le-mul}
 use borrow.Author.Tests.{leb-false, ltb-false, eqb-true, eqb-false, not-false, lt-leb, le-ltb, ne-eqb}
 use Rattle.bounded.specs.Bounded.{at}
 use Rattle.bounded.proofs.Any.{any-none, none-any}
 use Rattle.field.proofs.Prime.{is-prime, prime-is}
 use Rattle.definitions.specs.Plan.{side, filled, planRows, checkNumber}
+use Rattle.definitions.specs.Code.{Code, strip, square, cells}
 use Rattle.definitions.specs.Sound.{Sound}
 use Rattle.definitions.proofs.Refusals.{testAt, first-clear, Stops, numberAt, first-at, equal, not-true}
 
@@ -81,3 +84,7 @@ checked P S = sym (check-at P 11 (
     unused i l m =
         let e : 5 + (i - 5) ≡ i = omega arith in
         omega (arith, S .unused (i - 5) (omega arith) (omega (arith, S .most)), ap (at P) e)
+
+pub cells-most : (C : Code) {P : List ℕ} → Sound P → cells C P ≤ 256
+cells-most strip S = omega (arith, S .most)
+cells-most square {P} S = mul-le-mul {n₁ = side P} {m₁ = side P} {n₂ = 16} {m₂ = 16} (S .most) (S .most)

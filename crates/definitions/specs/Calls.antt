@@ -19,8 +19,8 @@ use Rattle.definitions.specs.declared.Reading.{Reading}
 use Rattle.definitions.specs.Refusals.{Refusal, _when_, first, accepted}
 use Rattle.definitions.specs.Plan.{modulus, planRows}
 use Rattle.definitions.specs.Code.{Code, size, cells, value, mark}
-use Rattle.definitions.specs.Cost.{full, unread, radius, margin, class}
-use Rattle.distance.specs.Cost.{cost, changed}
+use Rattle.definitions.specs.Cost.{full, unread, changed, unreadCells, radius, margin, class}
+use Rattle.distance.specs.Cost.{cost}
 use Rattle.definitions.specs.Search.{search}
 
 -- refusal 6: the buffer B has not the length n
@@ -59,19 +59,22 @@ photoTests p f s u F n k =
 unfoldable pub photoRows : Code → (P s u F : List ℕ) → List Refusal
 photoRows C P s u F = planRows P ++ photoTests (modulus P) full s u F (cells C P) (size C P)
 
--- the cost D of a record, its changed count, and whether it is within the radius
+-- the cost D of a record, its changed count, the unread count, and whether the record is within the radius
 abbrev pub costOf : Code → (P s u F : List ℕ) → ℕ
 costOf C P s u F = cost full (cells C P) (at s) (at u) (value C P F)
 
 abbrev pub changedOf : Code → (P s F : List ℕ) → ℕ
 changedOf C P s F = changed (cells C P) (at s) (value C P F)
 
+abbrev pub unreadOf : Code → (P s : List ℕ) → ℕ
+unreadOf C P s = unreadCells (cells C P) (at s)
+
 unfoldable pub within : Code → (P s u F : List ℕ) → Bool
 within C P s u F = ltb (costOf C P s u F) (radius full C P)
 
 -- a refusal: the number and zeros; and what is said of a record
 abbrev pub refused : ℕ → Reading
-refused k = record { number = k; cost = 0; margin = pos 0; changed = 0; class = 0 }
+refused k = record { number = k; cost = 0; margin = pos 0; changed = 0; unread = 0; class = 0 }
 
 unfoldable pub readingOf : Code → (P s u F : List ℕ) → Reading
 readingOf C P s u F = record {
@@ -79,6 +82,7 @@ readingOf C P s u F = record {
   cost = costOf C P s u F;
   margin = margin (radius full C P) (costOf C P s u F);
   changed = changedOf C P s F;
+  unread = unreadOf C P s;
   class = class (changedOf C P s F);
 }
 

@@ -38,7 +38,7 @@ pub data Case : Type 0 where
 
 -- a number with zeros beside it, written out
 abbrev pub only : ℕ → Reading
-only k = record { number = k; cost = 0; margin = pos 0; changed = 0; class = 0 }
+only k = record { number = k; cost = 0; margin = pos 0; changed = 0; unread = 0; class = 0 }
 
 -- whoever unfolds this computes with all that it names
 unfoldable pub effect : Call → Effect
@@ -56,9 +56,9 @@ call (c ⟹ o) = c
 abbrev pub expected : Case → Effect
 expected (c ⟹ o) = o
 
--- D, margin, changed and class of a record
-abbrev gives : ℕ → ℕ → ℕ → ℕ → Reading
-gives D z n k = record { number = 0; cost = D; margin = pos z; changed = n; class = k }
+-- D, margin, changed, unread and class of a record
+abbrev gives : ℕ → ℕ → ℕ → ℕ → ℕ → Reading
+gives D z n m k = record { number = 0; cost = D; margin = pos z; changed = n; unread = m; class = k }
 
 -- a plan of season 12: p, n, d and the first three point bytes
 abbrev plan : ℕ → ℕ → ℕ → ℕ → ℕ → ℕ → List ℕ
@@ -87,10 +87,10 @@ abbrev pub photoD : List ℕ
 photoD = 0 ∷ 0 ∷ 0 ∷ drop 3 mark₁
 
 -- the mark with its first k cells unread, and its doubts; a buffer of 9s, so that "unchanged" is seen
-abbrev hidden : ℕ → List ℕ
+abbrev pub hidden : ℕ → List ℕ
 hidden k = replicate k 255 ++ drop k mark₁
 
-abbrev doubts : ℕ → List ℕ
+abbrev pub doubts : ℕ → List ℕ
 doubts k = replicate k 100 ++ drop k (sure 9)
 
 abbrev nines : ℕ → List ℕ
@@ -99,18 +99,18 @@ nines n = replicate n 9
 abbrev pub cases : List Case
 cases =
     (write square planA record₁ (nines 9) ⟹ only 0 leaving mark₁)  -- a
-    ∷ (read square planA mark₁ (sure 9) (nines 3) ⟹ gives 0 600 0 0 leaving record₁)  -- b
-    ∷ (read square planA photoC (sure 9) (nines 3) ⟹ gives 400 200 2 1 leaving record₁)  -- c
+    ∷ (read square planA mark₁ (sure 9) (nines 3) ⟹ gives 0 600 0 0 0 leaving record₁)  -- b
+    ∷ (read square planA photoC (sure 9) (nines 3) ⟹ gives 400 200 2 0 1 leaving record₁)  -- c
     ∷ (read square planA photoD (sure 9) (nines 3) ⟹ only 10 leaving nines 3)  -- d
-    ∷ (read square planA photoD (1 ∷ 1 ∷ 1 ∷ sure 6) (nines 3) ⟹ gives 597 3 3 1 leaving record₁)  -- e
-    ∷ (read square planA (hidden 5) (doubts 5) (nines 3) ⟹ gives 500 100 5 2 leaving record₁)  -- f
+    ∷ (read square planA photoD (1 ∷ 1 ∷ 1 ∷ sure 6) (nines 3) ⟹ gives 597 3 3 0 1 leaving record₁)  -- e
+    ∷ (read square planA (hidden 5) (doubts 5) (nines 3) ⟹ gives 500 100 0 5 0 leaving record₁)  -- f
     ∷ (read square planA (hidden 6) (doubts 6) (nines 3) ⟹ only 10 leaving nines 3)  -- g
-    ∷ (read square planH (1 ∷ []) (99 ∷ []) (nines 1) ⟹ gives 99 1 0 0 leaving 1 ∷ [])  -- h
+    ∷ (read square planH (1 ∷ []) (99 ∷ []) (nines 1) ⟹ gives 99 1 0 0 0 leaving 1 ∷ [])  -- h
     ∷ (read square planH (1 ∷ []) (100 ∷ []) (nines 1) ⟹ only 10 leaving nines 1)  -- i
     ∷ (read square planJ (1 ∷ sure 3) (sure 4) (nines 3) ⟹ only 10 leaving nines 3)  -- j
-    ∷ (measure square planJ (1 ∷ sure 3) (sure 4) (0 ∷ 0 ∷ 0 ∷ []) ⟹ gives 200 0 1 1 leaving 0 ∷ 0 ∷ 0 ∷ [])
-    ∷ (measure square planJ (1 ∷ sure 3) (sure 4) (1 ∷ 1 ∷ 0 ∷ []) ⟹ gives 200 0 1 1 leaving 1 ∷ 1 ∷ 0 ∷ [])
-    ∷ (measure square planA photoD (sure 9) record₁ ⟹ gives 600 0 3 1 leaving record₁)  -- k
+    ∷ (measure square planJ (1 ∷ sure 3) (sure 4) (0 ∷ 0 ∷ 0 ∷ []) ⟹ gives 200 0 1 0 1 leaving 0 ∷ 0 ∷ 0 ∷ [])
+    ∷ (measure square planJ (1 ∷ sure 3) (sure 4) (1 ∷ 1 ∷ 0 ∷ []) ⟹ gives 200 0 1 0 1 leaving 1 ∷ 1 ∷ 0 ∷ [])
+    ∷ (measure square planA photoD (sure 9) record₁ ⟹ gives 600 0 3 0 1 leaving record₁)  -- k
     ∷ (check (plan 9 3 1 1 2 4) ⟹ only 2 leaving [])  -- l
     ∷ (check (plan 7 3 3 1 2 4) ⟹ only 4 leaving [])
     ∷ (check (plan 7 3 1 1 1 4) ⟹ only 5 leaving [])
@@ -118,11 +118,12 @@ cases =
 
 -- not of the table: a strip written and read, a plan with several faults at once, a record of total degree 2 at the corners; each
 -- of the bytes 21 to 23 filled; symbol and doubt wrong at once, doubt and coefficient wrong at once; an unread cell in doubt 99;
--- p 1; n 0, n 17 and n above p; a point that is p, and an unused point byte that is not 0
+-- p 1; n 0, n 17 and n above p; a point that is p, and an unused point byte that is not 0; a wrong cell and an unread one in a
+-- mark and in a strip, read and measured; an unread cell where the record's value is 0
 abbrev pub moreCases : List Case
 moreCases =
     (write strip planA (3 ∷ 1 ∷ []) (nines 3) ⟹ only 0 leaving 4 ∷ 5 ∷ 0 ∷ [])
-    ∷ (read strip planA (4 ∷ 5 ∷ 255 ∷ []) (0 ∷ 0 ∷ 100 ∷ []) (nines 2) ⟹ gives 100 100 1 1 leaving 3 ∷ 1 ∷ [])
+    ∷ (read strip planA (4 ∷ 5 ∷ 255 ∷ []) (0 ∷ 0 ∷ 100 ∷ []) (nines 2) ⟹ gives 100 100 0 1 0 leaving 3 ∷ 1 ∷ [])
     ∷ (check (plan 9 0 3 1 1 4) ⟹ only 2 leaving [])
     ∷ (write square planA (3 ∷ 1 ∷ 7 ∷ []) (nines 8) ⟹ only 6 leaving nines 8)
     ∷ (write square planA (3 ∷ 1 ∷ 7 ∷ []) (nines 9) ⟹ only 9 leaving nines 9)
@@ -140,4 +141,9 @@ moreCases =
     ∷ (check (plan 2 3 1 0 1 0) ⟹ only 3 leaving [])
     ∷ (check (plan 7 3 1 1 2 7) ⟹ only 5 leaving [])
     ∷ (check (set planA 8 1) ⟹ only 5 leaving [])
+    ∷ (read square planA (0 ∷ 255 ∷ drop 2 mark₁) (0 ∷ 100 ∷ sure 7) (nines 3) ⟹ gives 300 300 1 1 1 leaving record₁)
+    ∷ (measure square planA (0 ∷ 255 ∷ drop 2 mark₁) (0 ∷ 100 ∷ sure 7) record₁ ⟹ gives 300 300 1 1 1 leaving record₁)
+    ∷ (read strip (plan 7 3 0 1 2 4) (5 ∷ 255 ∷ 4 ∷ []) (0 ∷ 100 ∷ 1 ∷ []) (nines 1) ⟹ gives 299 1 1 1 1 leaving 5 ∷ [])
+    ∷ (measure strip (plan 7 3 0 1 2 4) (5 ∷ 255 ∷ 4 ∷ []) (0 ∷ 100 ∷ 1 ∷ []) (5 ∷ []) ⟹ gives 299 1 1 1 1 leaving 5 ∷ [])
+    ∷ (read square planA (set mark₁ 3 255) (set (sure 9) 3 100) (nines 3) ⟹ gives 100 500 0 1 0 leaving record₁)
     ∷ []

@@ -1,17 +1,22 @@
 -- "Photographed mark and cost": what is said of a record that is measured against a photograph. Its cost is `cost` of the crate
 -- `distance` (specs/Cost.antt), with the full doubt 100; an unread cell is an erasure.
 --
---   full, unread    the full doubt of a photograph, and the symbol of an unread cell
---   radius f C P    R, for a strip f (n - d), for a square mark f n (n - d)
---   margin R D      the signed number R - D
---   class n         by changed count: 0; 1 to 3; 4 to 15; 16 and more
+--   full, unread           the full doubt of a photograph, and the symbol of an unread cell
+--   changedCell s right    1 for a cell with the symbol s that was read and is not right
+--   unreadCell s           1 for a cell that was not read
+--   changed n s v          how many of n cells were read and have another symbol than the value
+--   unreadCells n s        how many of n cells were not read
+--   radius f C P           R, for a strip f (n - d), for a square mark f n (n - d)
+--   margin R D             the signed number R - D
+--   class n                by changed count: 0; 1 to 3; 4 to 15; 16 and more
 --
 -- What this file is for: how far is too far, and what is said of a record beside its cost.
-use mathlib.Core.Bool.{cond}
+use mathlib.Core.Bool.{Bool, cond}
 use mathlib.Core.List.{List}
 use Prim.Native.Nat.{ℕ, _*_, _-_}
-use lib.Dec.{ltb}
+use lib.Dec.{eqb, ltb}
 use lib.IntN.{ℤ, pos, _-ℤ_}
+use Rattle.bounded.specs.Bounded.{sum}
 use Rattle.definitions.specs.Plan.{side, degree}
 use Rattle.definitions.specs.Code.{Code, strip, square}
 
@@ -20,6 +25,18 @@ full = 100
 
 abbrev pub unread : ℕ
 unread = 255
+
+abbrev pub changedCell : (s : ℕ) (right : Bool) → ℕ
+changedCell s right = cond (eqb s unread) 0 (cond right 0 1)
+
+abbrev pub unreadCell : ℕ → ℕ
+unreadCell s = cond (eqb s unread) 1 0
+
+abbrev pub changed : (n : ℕ) (s v : ℕ → ℕ) → ℕ
+changed n s v = sum n λ c. changedCell (s c) (eqb (s c) (v c))
+
+abbrev pub unreadCells : (n : ℕ) (s : ℕ → ℕ) → ℕ
+unreadCells n s = sum n λ c. unreadCell (s c)
 
 abbrev pub radius : ℕ → Code → List ℕ → ℕ
 radius f strip P = f * (side P - degree P)

@@ -56,7 +56,7 @@ Written square P F b = (length b ≡ side P * side P)
 
 -- what is said of a record whose mark was read as it was written
 abbrev pub clean : Code → List ℕ → Reading
-clean C P = record { number = 0; cost = 0; margin = pos (radius full C P); changed = 0; class = 0 }
+clean C P = record { number = 0; cost = 0; margin = pos (radius full C P); changed = 0; unread = 0; class = 0 }
 
 pub record RoundTrip (C : Code) (P F B B′ : List ℕ) : Type 0 where
   pub reading : readReading C P (writeBuffer C P F B) (sure (cells C P)) B′ ≡ clean C P

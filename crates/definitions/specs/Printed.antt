@@ -3,7 +3,7 @@
 --   decimal n       the digits of n, the most significant first; 0 has one digit, and no other number begins with 0
 --   signed z        the same of a signed number, with '-' in front where it is below 0
 --   spaced ns       the numbers ns, each after a space
---   readLine y r    READ, the season y and four numbers of the reading r
+--   readLine y r    READ, the season y and five numbers of the reading r
 --   recordLine F    RECORD, the coefficients F
 --   refusedLine k   REFUSED, the number k
 --   trayText input  what is printed for an input: the first two lines, or the third
@@ -58,7 +58,8 @@ abbrev pub refusedWord : List ℕ
 refusedWord = 82 ∷ 69 ∷ 70 ∷ 85 ∷ 83 ∷ 69 ∷ 68 ∷ []
 
 unfoldable pub readLine : (y : ℕ) (r : Reading) → List ℕ
-readLine y r = readWord ++ spaced (y ∷ r .changed ∷ r .class ∷ r .cost ∷ []) ++ space ∷ signed (r .margin) ++ newline ∷ []
+readLine y r =
+    readWord ++ spaced (y ∷ r .changed ∷ r .unread ∷ r .class ∷ r .cost ∷ []) ++ space ∷ signed (r .margin) ++ newline ∷ []
 
 unfoldable pub recordLine : List ℕ → List ℕ
 recordLine F = recordWord ++ spaced F ++ newline ∷ []

@@ -10,8 +10,10 @@ pub struct Reading {
     pub cost: u32,
     // R - D, the radius less the cost
     pub margin: i32,
-    // how many cells differ from the record's mark, unread cells included
+    // how many cells were read and differ from the record's mark
     pub changed: u32,
+    // how many cells were not read
+    pub unread: u32,
     // 0 to 3, by the changed count
     pub class: u32,
 }

@@ -20,7 +20,7 @@ use Rattle.bounded.specs.Bounded.{sum}
 use Rattle.bounded.proofs.Sum.{sum-le, sum-add, sum-mul}
 use Rattle.field.specs.Congruence.{Cong}
 use Rattle.field.proofs.Congruence.{same, of-mod, to-mod, ~sym, _⨾_, ~add, cancel}
-use Rattle.distance.specs.Cost.{cell, cost, differ, changed}
+use Rattle.distance.specs.Cost.{cell, cost, differ, hamming}
 use Rattle.distance.specs.Doubts.{Doubts}
 
 -- two values of one cell
@@ -37,7 +37,7 @@ cell-two-values full s u v w h = go (eqb s v) (eqb s w) (eqb v w) refl refl refl
 
 -- two words
 pub cost-two-words : (full n : ℕ) (s u v w : ℕ → ℕ) → Doubts full n u →
-    2 * full * changed n v w ≤ cost full n s u v + cost full n s u w
+    2 * full * hamming n v w ≤ cost full n s u v + cost full n s u w
 cost-two-words full n s u v w h = omega (
   arith,
   sum-mul n (2 * full) (λ i. differ (v i) (w i)),
@@ -46,7 +46,7 @@ cost-two-words full n s u v w h = omega (
 )
 
 -- where two words differ in D cells and one is under full * D, the other is over it
-pub cost-far : (full D n : ℕ) (s u v w : ℕ → ℕ) → Doubts full n u → D ≤ changed n v w → cost full n s u v < full * D →
+pub cost-far : (full D n : ℕ) (s u v w : ℕ → ℕ) → Doubts full n u → D ≤ hamming n v w → cost full n s u v < full * D →
     full * D < cost full n s u w
 cost-far full D n s u v w h d c = omega (arith, cost-two-words full n s u v w h, mul-le-mul-left full d)
 

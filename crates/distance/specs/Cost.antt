@@ -4,7 +4,7 @@
 --   cell full s u v     what one cell costs: its doubt where the symbol is the value, else twice the full doubt less its doubt
 --   cost full n s u v   the sum over n cells
 --   differ v w          1 where two values differ, else 0
---   changed n s v       how many of n symbols differ from the values
+--   hamming n v w       in how many of n cells two words differ: their Hamming distance
 --
 -- What this file is for: which word is nearest.
 use mathlib.Core.Bool.{cond}
@@ -21,5 +21,5 @@ cost full n s u v = sum n λ c. cell full (s c) (u c) (v c)
 abbrev pub differ : (v w : ℕ) → ℕ
 differ v w = cond (eqb v w) 0 1
 
-abbrev pub changed : (n : ℕ) (s v : ℕ → ℕ) → ℕ
-changed n s v = sum n λ c. differ (s c) (v c)
+abbrev pub hamming : (n : ℕ) (v w : ℕ → ℕ) → ℕ
+hamming n v w = sum n λ c. differ (v c) (w c)

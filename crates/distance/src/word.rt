@@ -2,7 +2,7 @@
 ghost use mathlib.Core.Path.{_≡_};
 ghost use Prim.Native.Nat.{_*_, _-_, _≤_, _<_};
 ghost use Rattle.bounded.specs.Bounded.{at};
-ghost use Rattle.distance.specs.Cost.{cell, cost, differ, changed};
+ghost use Rattle.distance.specs.Cost.{cell, cost, differ, hamming};
 ghost use Rattle.distance.specs.Doubts.{Doubts};
 
 // What one cell costs: its doubt where its symbol is the value, else twice the full doubt less its doubt. The full doubt is a
@@ -37,25 +37,25 @@ pub fn word_cost(
     sum
 }
 
-// 1 for a cell whose symbol is not the value.
-pub fn cell_changed(symbol: u16, value: u16) -> u32
-    ensures { λ r. ⌜ (r ≡ differ symbol value) × (r ≤ 1) ⌝ }
+// 1 for two values that differ.
+pub fn differs(v: u16, w: u16) -> u32
+    ensures { λ r. ⌜ (r ≡ differ v w) × (r ≤ 1) ⌝ }
 {
-    if symbol == value {
+    if v == w {
         return 0;
     }
     1
 }
 
-// How many of the n symbols are not the values.
-pub fn word_changed(n: usize, symbols: [u16; 16], values: [u16; 16]) -> u32
+// In how many of n cells two words differ.
+pub fn differing(n: usize, v: [u16; 16], w: [u16; 16]) -> u32
     requires { ⌜ n ≤ 16 ⌝ }
-    ensures { λ r. ⌜ (r ≡ changed n (at symbols) (at values)) × (r ≤ n) ⌝ }
+    ensures { λ r. ⌜ (r ≡ hamming n (at v) (at w)) × (r ≤ n) ⌝ }
 {
     let mut count = 0;
     let mut i = 0;
     while i < n {
-        count += cell_changed(symbols[i], values[i]);
+        count += differs(v[i], w[i]);
         i += 1;
     }
     count

@@ -44,7 +44,7 @@ pub fn from_cells(
     newton::divide_differences(&mut f, x, d, p, m, inverses);
     let highest = f[d];
     let same = [highest[0]; 16];
-    if word::word_changed(d + 1, highest, same) != 0 {
+    if word::differing(d + 1, highest, same) != 0 {
         return false;
     }
     newton::change_to_powers(&mut f, x, d, p, m);
@@ -103,7 +103,7 @@ pub fn from_lines(
     }
     newton::divide_differences(&mut f, z, last, p, m, inverses);
     if last > d {
-        if word::word_changed(t, f[last], [0; 16]) != 0 {
+        if word::differing(t, f[last], [0; 16]) != 0 {
             return false;
         }
     }

@@ -34,6 +34,10 @@ fn strips() {
         b"measure it",
         traymark_measure_strip(&plan, &record, &strip, &[0u8; 3]),
     );
+    measured(
+        b"a cell unread, another wrong",
+        traymark_measure_strip(&plan, &record, &[255u8, 5, 1], &[100u8, 0, 0]),
+    );
 }
 
 // Refusals 6 to 9. The buffers of 9s stay as they were.
@@ -105,6 +109,7 @@ fn measured(name: &[u8], reading: Reading) {
         text(b", margin ", magnitude(margin));
     }
     text(b", changed ", reading.changed);
+    text(b", unread ", reading.unread);
     text(b", class ", reading.class);
     io::write_all(1, b"\n");
 }

@@ -56,6 +56,7 @@ fn tell(plan: &[u8], symbols: &[u8], doubts: &[u8], record: &mut [u8]) {
     number(b", D ", reading.cost);
     number(b", margin ", text::magnitude(reading.margin));
     number(b", changed ", reading.changed);
+    number(b", unread ", reading.unread);
     number(b", class ", reading.class);
     io::write_all(1, b",");
     coefficients(record);

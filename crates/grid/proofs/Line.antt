@@ -18,7 +18,7 @@ use borrow.Author.Tests.{eq-eqb}
 use Rattle.bounded.proofs.Sum.{sum-eq}
 use Rattle.field.specs.Congruence.{Cong}
 use Rattle.field.proofs.Congruence.{same, to-mod, _⨾_, ~add, ~mul-right}
-use Rattle.distance.specs.Cost.{cell, cost, changed}
+use Rattle.distance.specs.Cost.{cell, cost, hamming}
 use Rattle.distance.specs.Doubts.{Doubts}
 use Rattle.distance.proofs.Cost.{cost-two-words, cell-full, cell-less}
 use Rattle.polynomial.specs.Eval.{eval, values, Apart}
@@ -41,7 +41,7 @@ module _ {q full n k : ℕ} {y s u : ℕ → ℕ} (ay : Apart q n y) (du : Doubt
   line-answered {w} {g} S = record { below = omega (arith, S .sound refl .1); cheap = λ h. kind h (same-or-far ay k w h) }
     where
       kind : (h : ℕ → ℕ) → ((i : ℕ) → i ≤ k → Cong q (w i) (h i)) ⊎
-          (n - k ≤ changed n (values q (suc k) w y) (values q (suc k) h y)) →
+          (n - k ≤ hamming n (values q (suc k) w y) (values q (suc k) h y)) →
           cell (full * (n - k)) (w k % suc q) g (h k % suc q) ≤ cost full n s u (values q (suc k) h y)
       kind h (inl e) = rw (eq-eqb _ _ (to-mod (e k (omega arith)))) (omega (arith, S .sound refl .0, cost-cong full n k y s u e))
       kind h (inr l) = cell-other (full * (n - k)) (cost full n s u (values q (suc k) h y)) (w k % suc q) g (h k % suc q)

@@ -12,15 +12,16 @@ use mathlib.Core.List.{List}
 use Prim.Native.Nat.{ℕ, _+_, _*_, _-_, _≤_, _<_}
 use native.Mathlib.Numerals.{add-one}
 use native.Mathlib.Nat.{suc-mul}
+use lib.Dec.{eqb}
 use lib.ListN.{length, take, drop}
 use Rattle.bounded.specs.Bounded.{at}
 use Rattle.bounded.proofs.Sum.{sum-eq, sum-append}
 use Rattle.bounded.proofs.Part.{part-at, part-length}
 use Rattle.polynomial.specs.Record.{gridValue}
-use Rattle.distance.specs.Cost.{cell, differ}
+use Rattle.distance.specs.Cost.{cell}
 use Rattle.definitions.specs.Plan.{side}
 use Rattle.definitions.specs.Code.{Code, strip, square, cells, value}
-use Rattle.definitions.specs.Cost.{full, radius}
+use Rattle.definitions.specs.Cost.{full, changedCell, radius}
 use Rattle.definitions.specs.Calls.{readingOf}
 use Rattle.definitions.specs.Photograph.{Photograph}
 use Rattle.plan.specs.declared.Plan.{Plan}
@@ -48,7 +49,7 @@ pub measured-more : {f : ℕ} (n r : ℕ) {D E k j : ℕ} (s u v : ℕ → ℕ) 
     Measured f ((r + 1) * n) s u v (D + E) (k + j)
 measured-more {f} n r s u v a b = rw (add-one r, suc-mul r n) (record {
   sum = ap₂ _+_ (a .sum) (b .sum) ∙ sym (sum-append (r * n) n λ i. cell f (s i) (u i) (v i));
-  count = ap₂ _+_ (a .count) (b .count) ∙ sym (sum-append (r * n) n λ i. differ (s i) (v i));
+  count = ap₂ _+_ (a .count) (b .count) ∙ sym (sum-append (r * n) n λ i. changedCell (s i) (eqb (s i) (v i)));
 })
 
 pub strip-measured : {P s u : List ℕ} {plan : Plan} {v w : ℕ → ℕ} {D k : ℕ} → Photograph strip P s u → Says P plan →
@@ -63,7 +64,7 @@ pub mark-measured : {P : List ℕ} {plan : Plan} {s u : ℕ → ℕ} {D k : ℕ}
 mark-measured says F m =
     measured-eq (λ i l. refl) (λ i l. refl) (λ i l. rw (says .fields) at (mark-value says F i l)) (rw (says .fields) at m)
 
-pub reading-is : (C : Code) (P s u F : List ℕ) {R D k : ℕ} → R ≡ radius full C P →
-    Measured full (cells C P) (at s) (at u) (value C P F) D k → summary R D k ≡ readingOf C P s u F
+pub reading-is : (C : Code) (P s u F : List ℕ) {R D k : ℕ} → R ≡ radius full C P → length s ≡ cells C P →
+    Measured full (cells C P) (at s) (at u) (value C P F) D k → summary R D k s ≡ readingOf C P s u F
 unfolding readingOf
-reading-is C P s u F e m = rw (e, m .sum, m .count)
+reading-is C P s u F e n m = rw (e, n, m .sum, m .count)

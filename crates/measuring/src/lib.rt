@@ -35,7 +35,7 @@ pub fn measure_mark(plan: Plan, record: &[u8], symbols: &[u8], doubts: &[u8]) ->
     let columns = bivariate::columns(record, &powers, g.d, g.p, g.m);
     let tally = measure_rows(g, &columns, &powers, symbols, doubts);
     let radius = limit::radius(g);
-    answers::reading(radius, tally.cost, tally.changed)
+    answers::reading(radius, tally.cost, tally.changed, symbols)
 }
 
 // The same against a strip, over the row points.
@@ -51,7 +51,7 @@ pub fn measure_strip(plan: Plan, record: &[u8], symbols: &[u8], doubts: &[u8]) -
     let values = evaluation::values(&xs, g.d, bytes::row(record), g.p, g.m);
     let tally = measure_row(symbols, doubts, values, g.full);
     let radius = word::radius(g.full, 1, g.a, g.d);
-    answers::reading(radius, tally.cost, tally.changed)
+    answers::reading(radius, tally.cost, tally.changed, symbols)
 }
 
 // The cost and the changed count of some cells.
@@ -101,9 +101,10 @@ fn measure_row(symbols: &[u8], doubts: &[u8], values: [u16; 16], full: u32) -> T
     let mut cost = 0;
     let mut changed = 0;
     for j in 0..symbols.len() {
-        let symbol = symbols[j] as u16;
-        cost += word::cell_cost(symbol, doubts[j] as u32, values[j], full);
-        changed += word::cell_changed(symbol, values[j]);
+        let symbol = symbols[j];
+        let seen = symbol as u16;
+        cost += word::cell_cost(seen, doubts[j] as u32, values[j], full);
+        changed += answers::cell_changed(symbol, seen == values[j]);
     }
     Tally { cost, changed }
 }

@@ -19,10 +19,10 @@ use borrow.Author.Tests.{eqb-true, eqb-false, eq-eqb}
 use Rattle.bounded.proofs.Sum.{sum-le, sum-mul}
 use Rattle.field.specs.Congruence.{Cong}
 use Rattle.field.proofs.Congruence.{of-mod, to-mod, ~mul-right, cancel}
-use Rattle.distance.specs.Cost.{changed}
+use Rattle.distance.specs.Cost.{hamming}
 use Rattle.polynomial.specs.Eval.{eval, values, Apart}
 use Rattle.polynomial.specs.Record.{column, onRow}
-use Rattle.polynomial.specs.Distance.{gridDistance, gridChanged}
+use Rattle.polynomial.specs.Distance.{gridDistance, gridHamming}
 use Rattle.polynomial.proofs.Eval.{eval-cong, same-or-far}
 
 tall : (M e r m i : ℕ) → M ≡ m + i → r ≡ e + i → e ≤ m → M * e ≤ r * m
@@ -69,7 +69,7 @@ differ-more {q} {e} {f} a b c = go (eqb (a % suc q) (b % suc q)) (eqb ((a + e) %
 module _ {q a b : ℕ} {x y : ℕ → ℕ} (ax : Apart q a x) (ay : Apart q b y) (d : ℕ) (small : d < min a b) (g h : ℕ → ℕ → ℕ) where
   -- a row whose coefficients of Y^t differ differs in b - t cells
   row-far : (t r : ℕ) → (b - t) * differ (column d g t (x r) % suc q) (column d h t (x r) % suc q)
-      ≤ changed b (values q (suc t) (onRow d g (x r)) y) (values q (suc t) (onRow d h (x r)) y)
+      ≤ hamming b (values q (suc t) (onRow d g (x r)) y) (values q (suc t) (onRow d h (x r)) y)
   row-far t r = elim (same-or-far ay t (onRow d g (x r)) (onRow d h (x r))) [
     | inl s ↦ rw (eq-eqb _ _ (to-mod (s t (omega arith)))) (omega arith)
     | inr l ↦ omega (arith, mul-le-mul-left (b - t) (differ-one (column d g t (x r) % suc q) (column d h t (x r) % suc q)))
@@ -77,7 +77,7 @@ module _ {q a b : ℕ} {x y : ℕ → ℕ} (ax : Apart q a x) (ay : Apart q b y)
 
   -- where the coefficients of Y^t agree, the lower terms decide
   lower-terms : (t : ℕ) → ((i : ℕ) → i ≤ d - t → Cong q (g i t) (h i t)) →
-      gridChanged q a b d x y t g h ≤ gridChanged q a b d x y (suc t) g h
+      gridHamming q a b d x y t g h ≤ gridHamming q a b d x y (suc t) g h
   lower-terms t s = sum-le a λ r _. sum-le b λ c _.
       differ-more (eval t (onRow d g (x r)) (y c)) (eval t (onRow d h (x r)) (y c)) (agreed r c)
     where
@@ -85,7 +85,7 @@ module _ {q a b : ℕ} {x y : ℕ → ℕ} (ax : Apart q a x) (ay : Apart q b y)
       agreed r c = ~mul-right (y c ^ t) (eval-cong (suc (d - t)) (x r) λ i w. s i (omega arith))
 
   below-far : (k : ℕ) → k ≤ suc d →
-      ((t i : ℕ) → t < k → i + t ≤ d → Cong q (g i t) (h i t)) ⊎ (gridDistance a b d ≤ gridChanged q a b d x y k g h)
+      ((t i : ℕ) → t < k → i + t ≤ d → Cong q (g i t) (h i t)) ⊎ (gridDistance a b d ≤ gridHamming q a b d x y k g h)
   below-far zero l = inl λ t i m. absurd (omega arith)
   below-far (suc t) l = elim (same-or-far ax (d - t) (λ i. g i t) (λ i. h i t)) [
     | inl s ↦ elim (below-far t (omega arith)) [
@@ -102,5 +102,5 @@ module _ {q a b : ℕ} {x y : ℕ → ℕ} (ax : Apart q a x) (ay : Apart q b y)
   ]
 
   pub grid-same-or-far : ((t i : ℕ) → i + t ≤ d → Cong q (g i t) (h i t)) ⊎
-      (gridDistance a b d ≤ gridChanged q a b d x y (suc d) g h)
+      (gridDistance a b d ≤ gridHamming q a b d x y (suc d) g h)
   grid-same-or-far = elim (below-far (suc d) (omega arith)) [ inl e ↦ inl λ t i l. e t i (omega arith) l | inr m ↦ inr m ]

@@ -23,7 +23,7 @@ use Rattle.bounded.specs.Bounded.{sum}
 use Rattle.bounded.proofs.Sum.{sum-eq, sum-add, sum-const, sum-short}
 use Rattle.field.specs.Congruence.{Cong}
 use Rattle.field.proofs.Congruence.{same, of-mod, _⨾_, ~add, ~mul, less, rest, difference}
-use Rattle.distance.specs.Cost.{changed}
+use Rattle.distance.specs.Cost.{hamming}
 use Rattle.polynomial.specs.Eval.{eval, values, Apart}
 use Rattle.polynomial.specs.Lead.{Lead, con, up}
 use Rattle.polynomial.proofs.Roots.{roots}
@@ -87,8 +87,8 @@ module _ {q n : ℕ} {x : ℕ → ℕ} (ax : Apart q n x) where
 
   -- the law of one row: two polynomials of degree at most k are the same, or their values differ in n - k places
   pub same-or-far : (k : ℕ) (a b : ℕ → ℕ) →
-      ((i : ℕ) → i ≤ k → Cong q (a i) (b i)) ⊎ (n - k ≤ changed n (values q (suc k) a x) (values q (suc k) b x))
-  same-or-far k a b = elim (decLe (n - k) (changed n v w)) [
+      ((i : ℕ) → i ≤ k → Cong q (a i) (b i)) ⊎ (n - k ≤ hamming n (values q (suc k) a x) (values q (suc k) b x))
+  same-or-far k a b = elim (decLe (n - k) (hamming n v w)) [
     | yes l ↦ inr l
     | no l ↦ inl λ i h. difference (a i) (b i)
         (zero-coefs (suc k) (λ i. a i + q * b i) (λ j. agree (v j) (w j)) (λ j _. omega (arith, agree-one (v j) (w j)))

@@ -1,6 +1,5 @@
 -- The early answer of a mark.
 --
---   cells-most      a mark has at most 256 cells
 --   doubts-refuse   doubts that come to the radius leave no record under it: refusal 10
 --
 -- What this file is for: a mark of which nothing is known is refused before it is loaded. Assumes nothing.
@@ -8,7 +7,6 @@ use mathlib.Core.Path.{_≡_}
 use mathlib.Core.List.{List}
 use Prim.Native.Nat.{ℕ, _*_, _≤_}
 use native.Mathlib.Omega.{arith}
-use native.Mathlib.Nat.{mul-le-mul}
 use lib.ListN.{length}
 use Rattle.bounded.specs.Bounded.{at, sum}
 use Rattle.definitions.specs.Plan.{side}
@@ -16,7 +14,6 @@ use Rattle.definitions.specs.Code.{square, value}
 use Rattle.definitions.specs.Cost.{full}
 use Rattle.definitions.specs.Calls.{refused}
 use Rattle.definitions.specs.Reads.{Reads}
-use Rattle.definitions.specs.Sound.{Sound}
 use Rattle.definitions.proofs.Nearest.{cost-without, reads-none}
 use Rattle.distance.proofs.Cost.{doubts-cost}
 use Rattle.polynomial.specs.Distance.{gridDistance}
@@ -24,10 +21,6 @@ use Rattle.plan.specs.declared.Plan.{Plan}
 use Rattle.plan.specs.Says.{Says}
 use Rattle.plan.proofs.Values.{mark-radius}
 use Rattle.reading.specs.Loading.{Taken}
-
--- a grid has at most 256 cells
-pub cells-most : {P : List ℕ} → Sound P → side P * side P ≤ 256
-cells-most {P} S = mul-le-mul {n₁ = side P} {m₁ = side P} {n₂ = 16} {m₂ = 16} (S .most) (S .most)
 
 pub doubts-refuse : {P s u B : List ℕ} {plan : Plan} {R : ℕ} → Says P plan → Taken square P s u B →
     R ≡ plan .grid .full * gridDistance (plan .grid .a) (plan .grid .b) (plan .grid .d) → R ≤ sum (length u) (at u) →

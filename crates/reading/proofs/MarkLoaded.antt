@@ -10,7 +10,7 @@
 -- What this file is for: reading a mark is the reading that document 01 defines. Assumes nothing.
 use mathlib.Core.Path.{_≡_, refl, sym, ap, _∙_}
 use mathlib.Core.Logic.{_⊎_, inl}
-use mathlib.Core.Bool.{true, cond}
+use mathlib.Core.Bool.{true}
 use mathlib.Core.List.{List}
 use Prim.Native.Nat.{ℕ, suc, _+_, _*_, _-_, _%_, _^_, _≤_, _<_}
 use native.Mathlib.Omega.{arith}
@@ -29,7 +29,7 @@ use Rattle.field.proofs.Row.{row-at, row-of, beyond}
 use Rattle.definitions.specs.Plan.{modulus, side, degree, point}
 use Rattle.definitions.specs.Code.{square, size, value}
 use Rattle.polynomial.specs.Record.{start}
-use Rattle.definitions.specs.Cost.{full, unread, radius}
+use Rattle.definitions.specs.Cost.{full, unread, changedCell, radius}
 use Rattle.definitions.specs.Calls.{changedOf, refused, readingOf}
 use Rattle.definitions.specs.Reads.{Reads}
 use Rattle.polynomial.specs.Eval.{eval}
@@ -51,9 +51,9 @@ use Rattle.reed_muller.specs.Mark.{LoadedGrid}
 use Rattle.reed_muller.specs.Outcome.{Outcome, under}
 use Rattle.reading.proofs.MarkReading.{mark-none, mark-record, mark-cost, mark-found}
 use Rattle.reading.specs.Loading.{residue, gridCell, SymbolRows, DoubtLines, Taken}
-use Rattle.reading.specs.Changed.{flag, changedCells}
+use Rattle.reading.specs.Changed.{changedRows}
 use Rattle.reading.proofs.Loading.{residue-below, residue-loaded}
-use Rattle.reading.proofs.Square.{cell-at, flag-differ}
+use Rattle.reading.proofs.Square.{cell-at, left-changed}
 
 -- a record has a byte at least, and at most as many as a message has numbers
 pub record-room : {P s u B : List ℕ} → Taken square P s u B → (0 < length B) × (length B ≤ 136)
@@ -154,25 +154,25 @@ module _ {P s u B : List ℕ} {left u′ : List (List ℕ)} (t : Taken square P 
           (sum-eq (suc (degree P - k)) λ i b. ap (λ e. e * point P r ^ i) (coefficients k i (omega arith)))))
 
       cell-changed : (r c : ℕ) → r < side P → c < side P →
-          _≡_ {A = ℕ} (cond (eqb (flag (gridCell (side P) s r c) (cellAt after r c)) 0) 0 1)
-          (cond (eqb (at s (r * side P + c)) (value square P W (r * side P + c))) 0 1)
+          changedCell (gridCell (side P) s r c) (eqb (cellAt after r c) 0)
+          ≡ changedCell (at s (r * side P + c)) (eqb (at s (r * side P + c)) (value square P W (r * side P + c)))
       cell-changed r c l m =
           let R = D .remains (found h) in
           rw (cell-at (side P) s r c m, value-at r c l m)
-          (flag-differ (t .photo .sound .small) (t .photo .symbol (r * side P + c) (inside t es r c l m))
+          (left-changed (t .photo .symbol (r * side P + c) (inside t es r c l m))
           (omega (arith, R .below r c l m, positive t es)) (mod-lt (line-value r c) (positive t es))
           (~add (same refl) (mod-cong (positive t es) (line-value r c)) ⨾ R .whole r c l m ⨾ same (symbol-at t es r c l m)))
 
-      changed-of : changedCells (side P) (side P) s after ≡ changedOf square P s W
+      changed-of : changedRows (side P) (side P) s after ≡ changedOf square P s W
       changed-of = sym (sum-rows (side P) (side P) _ ∙ sum-eq (side P) λ r l. sum-eq (side P) λ c m. sym (cell-changed r c l m))
 
-      reading-said : {k : ℕ} → k ≡ changedCells (side P) (side P) s after →
-          Reads square P s u B (summary (radius full square P) g k) W
+      reading-said : {k : ℕ} → k ≡ changedRows (side P) (side P) s after →
+          Reads square P s u B (summary (radius full square P) g k s) W
       unfolding readingOf
       reading-said e =
           let z = found h in
           let points = point-at (t .photo .sound) in
-          rw (e, changed-of, mark-cost P s u B (t .clear) points loaded w (D .decoded) z W word-length word-at)
+          rw (e, changed-of, t .photo .symbols, mark-cost P s u B (t .clear) points loaded w (D .decoded) z W word-length word-at)
           (mark-found P s u B (t .clear) points loaded w (D .decoded) z W word-length word-at)
 
 -- the same by the struct that says what the plan does
@@ -198,8 +198,8 @@ module _ {P s u B : List ℕ} {left u′ : List (List ℕ)} {plan : Plan} (says 
     pub message-small : c < R → (j : ℕ) → j < length B → at w j < 256
     message-small l = small-said t (sides .0) (sides .1) (rw (says .fields) at D) (omega (arith, mark-radius says h))
 
-    pub mark-reading : {W : List ℕ} {k : ℕ} → c < R → W ≡ tab (length B) (at w) → k ≡ changedCells (g .a) (g .b) s after →
-        Reads square P s u B (summary R c k) W
+    pub mark-reading : {W : List ℕ} {k : ℕ} → c < R → W ≡ tab (length B) (at w) → k ≡ changedRows (g .a) (g .b) s after →
+        Reads square P s u B (summary R c k s) W
     mark-reading l stored e = rw (mark-radius says h)
         (reading-said t (sides .0) (sides .1) (rw (says .fields) at D) (omega (arith, mark-radius says h)) stored
         (rw (says .fields) at e))

@@ -7,14 +7,13 @@
 --   strip-reading    an answer, stored, is the reading of the one record within the radius
 --
 -- What this file is for: reading a strip is the reading that document 01 defines. Assumes nothing.
-use mathlib.Core.Path.{_≡_, sym, ap, ap₂, _∙_}
+use mathlib.Core.Path.{_≡_, sym, ap, _∙_}
 use mathlib.Core.Logic.{_⊎_, inl}
-use mathlib.Core.Bool.{true, false, cond}
+use mathlib.Core.Bool.{true, false}
 use mathlib.Core.List.{List}
 use Prim.Native.Nat.{ℕ, suc, _*_, _-_, _%_, _^_, _<_}
 use native.Mathlib.Omega.{arith}
 use native.Mathlib.Decide.{decLt}
-use lib.Dec.{eqb}
 use lib.ListN.{length}
 use Rattle.bounded.specs.Bounded.{at, tab}
 use Rattle.bounded.proofs.Sum.{sum-eq}
@@ -24,7 +23,6 @@ use Rattle.field.proofs.Row.{row-at, row-of, beyond}
 use Rattle.definitions.specs.Plan.{modulus, side, degree, point}
 use Rattle.definitions.specs.Code.{strip, size, value}
 use Rattle.definitions.specs.Cost.{full, unread, radius}
-use Rattle.distance.specs.Cost.{changed}
 use Rattle.definitions.specs.Calls.{changedOf, refused, readingOf}
 use Rattle.definitions.specs.Code.{IsRecord}
 use Rattle.definitions.specs.Reads.{Reads}
@@ -43,7 +41,8 @@ use Rattle.reed_solomon.specs.Axis.{Received}
 use Rattle.reed_solomon.specs.Decoded.{StripDecoded}
 use Rattle.reading.proofs.StripReading.{strip-none, strip-cost, strip-found}
 use Rattle.reading.specs.Loading.{residue, Taken}
-use Rattle.reading.proofs.Loading.{residue-below, residue-loaded}
+use Rattle.reading.specs.Changed.{changedRow}
+use Rattle.reading.proofs.Loading.{residue-below, residue-loaded, residue-changed}
 
 -- the row points, as the strip decoder takes them
 abbrev pub axisOf : Grid → Axis
@@ -112,16 +111,18 @@ module _ {P s u B s′ u′ : List ℕ} (t : Taken strip P s u B) (es : s′ ≡
           )
           (ap (λ e. e % modulus P) (sum-eq (suc (degree P)) λ i m. ap (λ e. e * point P j ^ i) (sym (word-at i (omega arith)))))
 
-      changed-of : {seen : List ℕ} → seen ≡ row (at s) → changed (side P) (at seen) (at (r .values)) ≡ changedOf strip P s W
-      changed-of e = sum-eq (side P) λ c l.
-          ap₂ (λ a b. cond (eqb a b) 0 1) (rw e (row-at (at s) c (omega (arith, t .photo .sound .most)))) (value-at c l)
+      changed-of : changedRow (length s) (at s) (at s′) (at (r .values)) ≡ changedOf strip P s W
+      changed-of = rw (t .photo .symbols) (sum-eq (side P) λ c l.
+          let k : c < 16 = omega (arith, t .photo .sound .most) in
+          rw (symbol-at c k, value-at c l) (residue-changed (at s c) (value strip P W c)))
 
-      reading-said : {seen : List ℕ} {n : ℕ} → seen ≡ row (at s) → n ≡ changed (side P) (at seen) (at (r .values)) →
-          Reads strip P s u B (summary (radius full strip P) (r .cost) n) W
+      reading-said : {n : ℕ} → n ≡ changedRow (length s) (at s) (at s′) (at (r .values)) →
+          Reads strip P s u B (summary (radius full strip P) (r .cost) n s) W
       unfolding readingOf
-      reading-said i e =
-          rw (e, changed-of i, strip-cost P s u B (t .clear) (point-at (t .photo .sound)) loaded (D .strip) z W word word-at)
-          (strip-found P s u B (t .clear) (point-at (t .photo .sound)) loaded (D .strip) z W word word-at)
+      reading-said e =
+          let points = point-at (t .photo .sound) in
+          rw (e, changed-of, t .photo .symbols, strip-cost P s u B (t .clear) points loaded (D .strip) z W word word-at)
+          (strip-found P s u B (t .clear) points loaded (D .strip) z W word word-at)
 
   -- the same by the struct that says what the plan does
   module _ {plan : Plan} (says : Says P plan) {r : Decoded} (D : StripDecoded (axisOf (plan .grid)) s′ u′ r) where
@@ -132,8 +133,7 @@ module _ {P s u B s′ u′ : List ℕ} (t : Taken strip P s u B) (es : s′ ≡
     pub strip-refused : r .found ≡ false → Reads strip P s u B (refused 10) B
     strip-refused z = refused-said (rw (says .fields) at D) z
 
-    pub strip-reading : {W seen : List ℕ} {n R : ℕ} → r .found ≡ true → W ≡ tab (length B) (at (r .message)) → seen ≡ row (at s) →
-        n ≡ changed (plan .grid .a) (at seen) (at (r .values)) → R ≡ plan .grid .full * 1 * (plan .grid .a - plan .grid .d) →
-        Reads strip P s u B (summary R (r .cost) n) W
-    strip-reading z stored i e h =
-        rw (strip-radius says h) (reading-said (rw (says .fields) at D) z stored i (rw (says .fields) at e))
+    pub strip-reading : {W : List ℕ} {n R : ℕ} → r .found ≡ true → W ≡ tab (length B) (at (r .message)) →
+        n ≡ changedRow (length s) (at s) (at s′) (at (r .values)) →
+        R ≡ plan .grid .full * 1 * (plan .grid .a - plan .grid .d) → Reads strip P s u B (summary R (r .cost) n s) W
+    strip-reading z stored e h = rw (strip-radius says h) (reading-said (rw (says .fields) at D) z stored e)

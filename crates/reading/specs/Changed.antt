@@ -1,22 +1,19 @@
--- The changed cells of a mark, from what its decoder left of the symbols.
+-- The changed cells of a photograph, by what its decoder has at hand.
 --
---   flag s l                  other than 0 where a cell with the symbol s is changed:
---                             it is unread, or l, what is left of it, is not 0
---   changedCells a b s left   how many cells of the first a rows of the flat grid s of b columns are changed
+--   changedRow n s seen v   how many of n cells with the symbols s were read, and have something else seen than the value
+--   changedRows a b s left  how many cells of the first a rows of the flat grid s of b columns were read, and have something left
 --
 -- What this file is for: nothing has to be evaluated to count the changed cells.
-use mathlib.Core.Bool.{cond}
 use mathlib.Core.List.{List}
 use Prim.Native.Nat.{ℕ}
 use lib.Dec.{eqb}
 use Rattle.bounded.specs.Bounded.{sum}
-use Rattle.definitions.specs.Cost.{unread}
-use Rattle.distance.specs.Cost.{changed}
+use Rattle.definitions.specs.Cost.{changedCell}
 use Rattle.grid.specs.Loops.{cellAt}
 use Rattle.reading.specs.Loading.{gridCell}
 
-abbrev pub flag : (s l : ℕ) → ℕ
-flag s l = cond (eqb s unread) 1 l
+abbrev pub changedRow : (n : ℕ) (s seen v : ℕ → ℕ) → ℕ
+changedRow n s seen v = sum n λ c. changedCell (s c) (eqb (seen c) (v c))
 
-abbrev pub changedCells : (a b : ℕ) (s : List ℕ) (left : List (List ℕ)) → ℕ
-changedCells a b s left = sum a λ r. changed b (λ c. flag (gridCell b s r c) (cellAt left r c)) (λ _. 0)
+abbrev pub changedRows : (a b : ℕ) (s : List ℕ) (left : List (List ℕ)) → ℕ
+changedRows a b s left = sum a λ r. changedRow b (gridCell b s r) (cellAt left r) (λ _. 0)

@@ -11,20 +11,20 @@ use native.Mathlib.Omega.{arith}
 use native.Mathlib.Nat.{mul-le-mul-left}
 use Rattle.bounded.proofs.Sum.{sum-le, sum-add, sum-mul}
 use Rattle.field.specs.Congruence.{Cong}
-use Rattle.distance.specs.Cost.{cost, changed}
+use Rattle.distance.specs.Cost.{cost, hamming}
 use Rattle.distance.proofs.Cost.{cost-two-words}
 use Rattle.polynomial.specs.Eval.{values, Apart}
 use Rattle.polynomial.specs.Record.{onRow}
-use Rattle.polynomial.specs.Distance.{gridDistance, gridChanged}
+use Rattle.polynomial.specs.Distance.{gridDistance, gridHamming}
 use Rattle.polynomial.proofs.Distance.{grid-same-or-far}
 use Rattle.reed_muller.specs.Degree.{gridCost, GridNear}
 
 -- the costs of two polynomials add up to twice the full doubt for each cell in which they differ
 pub grid-two : (q full a b d : ℕ) (x y : ℕ → ℕ) (u s g h : ℕ → ℕ → ℕ) → ((r c : ℕ) → r < a → c < b → u r c ≤ full) →
-    2 * full * gridChanged q a b d x y (suc d) g h ≤ gridCost q full a b d x y u s g + gridCost q full a b d x y u s h
+    2 * full * gridHamming q a b d x y (suc d) g h ≤ gridCost q full a b d x y u s g + gridCost q full a b d x y u s h
 grid-two q full a b d x y u s g h du = omega (
   arith,
-  sum-mul a (2 * full) (λ r. changed b (values q (suc d) (onRow d g (x r)) y) (values q (suc d) (onRow d h (x r)) y)),
+  sum-mul a (2 * full) (λ r. hamming b (values q (suc d) (onRow d g (x r)) y) (values q (suc d) (onRow d h (x r)) y)),
   sum-add a (λ r. cost full b (s r) (u r) (values q (suc d) (onRow d g (x r)) y))
       (λ r. cost full b (s r) (u r) (values q (suc d) (onRow d h (x r)) y)),
   sum-le a λ r l. cost-two-words full b (s r) (u r) (values q (suc d) (onRow d g (x r)) y) (values q (suc d) (onRow d h (x r)) y)

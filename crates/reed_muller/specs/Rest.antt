@@ -2,7 +2,7 @@
 --
 --   Remains q a b d x y s left h   what is left is below the modulus, and with the value of the polynomial h makes the symbol
 --
--- What this file is for: a cell is changed where something is left, so nothing has to be evaluated to count them.
+-- What this file is for: a cell that was read is changed where something is left, so nothing has to be evaluated to count them.
 use Prim.Native.Nat.{ℕ, suc, _+_, _<_}
 use Rattle.field.specs.Congruence.{Cong}
 use Rattle.polynomial.specs.Eval.{eval}

@@ -71,7 +71,7 @@ demand-2 C P F B B′ e l =
     let w = accepted-writing C P F B e in
     let photo = own-photo P (w .sound) C F in
     let n = measuring-accepted C P (mark C P F) (sure (cells C P)) F photo (w .given) in
-    let m = sym (measure-gives C P (mark C P F) (sure (cells C P)) F refl n) ∙ own-reading C P F in
+    let m = sym (measure-gives C P (mark C P F) (sure (cells C P)) F refl n) ∙ own-reading P (w .sound) C F in
     let t = own-read P (w .sound) C F B′ (w .given) (demand-3 C P (mark C P F) (sure (cells C P)) B′ photo l) in
     record {
       reading = rw (← write-fills C P F B refl e) (t .0);

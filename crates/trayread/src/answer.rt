@@ -17,8 +17,8 @@ ghost use Rattle.text.specs.Put.{Put};
 // One byte more than the longest input, 24 + 256 + 256, so that an excess is seen.
 pub const ROOM: usize = 537;
 
-// The longest answer: 61 bytes of READ, and of RECORD 7 and 4 for each of 136 coefficients.
-pub const TEXT: usize = 612;
+// The longest answer: 72 bytes of READ, and of RECORD 7 and 4 for each of 136 coefficients.
+pub const TEXT: usize = 623;
 
 // Puts the answer at the start of `text` and returns its length. `space` is the room that the input was read into, and `came` is
 // how many bytes came. The bytes in the room decide the answer, and it is that of the whole input, however long that is.
@@ -42,7 +42,7 @@ fn first<'a>(bytes: &'a [u8], n: usize) -> &'a [u8]
 
 // A plan that is short, or unsound, gets its own number whatever follows.
 fn answer_input(input: &[u8], text: &mut [u8]) -> usize
-    requires { ⌜ 612 ≤ length (now text) ⌝ }
+    requires { ⌜ 623 ≤ length (now text) ⌝ }
     ensures { λ r. ⌜ Put (now (text .entry)) 0 (trayText (now (input .entry))) (now (text .exit)) r ⌝ }
 {
     let number = traymark_check_plan(first(input, 24));
@@ -54,7 +54,7 @@ fn answer_input(input: &[u8], text: &mut [u8]) -> usize
 
 // After a sound plan, another count of bytes is 6.
 fn answer_photo(input: &[u8], text: &mut [u8]) -> usize
-    requires { ⌜ (checkNumber (planOf (now input)) ≡ 0) × (612 ≤ length (now text)) ⌝ }
+    requires { ⌜ (checkNumber (planOf (now input)) ≡ 0) × (623 ≤ length (now text)) ⌝ }
     ensures { λ r. ⌜ Put (now (text .entry)) 0 (trayText (now (input .entry))) (now (text .exit)) r ⌝ }
 {
     let plan = &input[..24];
@@ -85,7 +85,7 @@ fn answer_mark(
     record: &mut [u8],
     text: &mut [u8],
 ) -> usize
-    requires { ⌜ 68 + 4 * length (now «record») ≤ length (now text) ⌝ }
+    requires { ⌜ 79 + 4 * length (now «record») ≤ length (now text) ⌝ }
     ensures { λ r. ⌜ Put (now (text .entry)) 0 (answerText season
         (readReading square (now (plan .entry)) (now (symbols .entry)) (now (doubts .entry)) (now («record» .entry)))
         (readBuffer square (now (plan .entry)) (now (symbols .entry)) (now (doubts .entry)) (now («record» .entry))))

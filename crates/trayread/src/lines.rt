@@ -21,11 +21,11 @@ pub fn put_refused(text: &mut [u8], number: u32) -> usize
     put_bytes(text, at, b"\n")
 }
 
-// READ, four numbers of at most 10 digits, and one of at most 11 characters.
+// READ, five numbers of at most 10 digits, and one of at most 11 characters.
 pub fn put_read(text: &mut [u8], season: u32, reading: Reading) -> usize
-    requires { ⌜ 61 ≤ length (now text) ⌝ }
+    requires { ⌜ 72 ≤ length (now text) ⌝ }
     ensures line { λ r. ⌜ Put (now (text .entry)) 0 (readLine season reading) (now (text .exit)) r ⌝ }
-    ensures most { λ r. ⌜ r ≤ 61 ⌝ }
+    ensures most { λ r. ⌜ r ≤ 72 ⌝ }
 {
     let at = put_bytes(text, 0, b"READ");
     let at = put_counts(text, at, season, reading);
@@ -34,14 +34,16 @@ pub fn put_read(text: &mut [u8], season: u32, reading: Reading) -> usize
     put_bytes(text, at, b"\n")
 }
 
-// The four numbers.
+// The five numbers.
 fn put_counts(text: &mut [u8], at: usize, season: u32, reading: Reading) -> usize
-    requires { ⌜ at + length (spaced (season ∷ reading .changed ∷ reading .class ∷ reading .cost ∷ [])) ≤ length (now text) ⌝ }
-    ensures { λ r. ⌜ Put (now (text .entry)) at (spaced (season ∷ reading .changed ∷ reading .class ∷ reading .cost ∷ []))
-        (now (text .exit)) r ⌝ }
+    requires { ⌜ at + length (spaced (season ∷ reading .changed ∷ reading .unread ∷ reading .class ∷ reading .cost ∷ []))
+        ≤ length (now text) ⌝ }
+    ensures { λ r. ⌜ Put (now (text .entry)) at
+        (spaced (season ∷ reading .changed ∷ reading .unread ∷ reading .class ∷ reading .cost ∷ [])) (now (text .exit)) r ⌝ }
 {
     let at = put_spaced(text, at, season);
     let at = put_spaced(text, at, reading.changed);
+    let at = put_spaced(text, at, reading.unread);
     let at = put_spaced(text, at, reading.class);
     put_spaced(text, at, reading.cost)
 }

@@ -1,6 +1,6 @@
 // trayread: reads a photographed mark from standard input, a plan, then its symbols, then its doubts and nothing after, and
 // prints the reading or the refusal. Two lines, as
-//     READ 12 2 1 400 200        season, changed, class, D, margin
+//     READ 12 2 0 1 400 200      season, changed, unread, class, D, margin
 //     RECORD 3 1 2               the coefficients in order
 // or one, as REFUSED 10. Any bytes of any length get an answer, which `answer` makes; here bytes come in and go out.
 mod answer;

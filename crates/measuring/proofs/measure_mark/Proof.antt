@@ -1,6 +1,8 @@
 -- `measuring::measure_mark` meets its contract: the plan's points are put in for X and for Y. Assumes nothing.
 use mathlib.Core.Path.{_∙_}
 use native.Mathlib.Omega.{arith}
+use Rattle.definitions.specs.Code.{square}
+use Rattle.definitions.proofs.Sound.{cells-most}
 use Rattle.plan.proofs.Ready.{ready}
 use Rattle.plan.proofs.Values.{record-word, same-points, mark-cells, mark-radius}
 use Rattle.measuring.proofs.Rows.{mark-measured, reading-is}
@@ -33,6 +35,17 @@ radius-requires c κs =
     let (P, says, photo, given) = powers .before .before .before .before .before .before .pre in
     ready says .fit
 
+reading-requires : tie.Need-reading-requires
+reading-requires c κs =
+    let tally = c .before in
+    let columns = tally .before .before .before in
+    let powers = columns .before .before in
+    let (P, says, photo, given) = powers .before .before .before .before .before .before .pre in (
+      omega (arith, c .radius .ensures .1),
+      omega (arith, tally .measure-rows .ensures .0),
+      omega (arith, photo .symbols, cells-most square (photo .sound)),
+    )
+
 returns : tie.Need-returns
 returns c = λ P says photo.
     let tally = c .before .before in
@@ -41,7 +54,7 @@ returns c = λ P says photo.
     let given = powers .before .before .before .before .before .before .args in
     let g = given .plan .grid in
     let made = powers .powers .ensures .1 in
-    c .reading .ensures ∙ reading-is _ _ _ _ _ (mark-radius says (c .before .radius .ensures .0))
+    c .reading .ensures ∙ reading-is _ _ _ _ _ (mark-radius says (c .before .radius .ensures .0)) (photo .symbols)
     (mark-measured says (given .«record» .now) (tally .measure-rows .ensures .1 (g .x) (g .y) _
     (columns .columns .ensures .1 (g .x) made) (rw (same-points says) made)))
 
@@ -56,5 +69,5 @@ measure-mark-spec =
     columns-requires
     measure-rows-requires
     radius-requires
-    (λ c κs. (omega (arith, c .radius .ensures .1), omega (arith, c .before .measure-rows .ensures .0)))
+    reading-requires
     returns)

@@ -2,10 +2,12 @@
 use mathlib.Core.Path.{_≡_, refl}
 use Prim.Native.Nat.{_*_, _-_, _≤_}
 use native.Mathlib.Omega.{arith}
+use lib.Dec.{eqb}
 use lib.ListN.{length}
 use Rattle.bounded.specs.Bounded.{at}
 use Rattle.bounded.proofs.Sum.{sum-more}
-use Rattle.distance.specs.Cost.{cell, differ}
+use Rattle.distance.specs.Cost.{cell}
+use Rattle.definitions.specs.Cost.{changedCell}
 use Rattle.measuring.specs.Measured.{Measured}
 use borrow.Author.Needs.{needs}
 use Rattle.measuring.proofs.measure_row.Statement.{statement}
@@ -36,7 +38,7 @@ loop-again c =
     let s = at (given .symbols .now) in
     let v = at (given .t3) in
     let more = sum-more (l .loop .j) (λ k. cell (given .full) (s k) (at (given .doubts .now) k) (v k)) in
-    let counted = sum-more (l .loop .j) (λ k. differ (s k) (v k)) in (
+    let counted = sum-more (l .loop .j) (λ k. changedCell (s k) (eqb (s k) (v k))) in (
       omega arith,
       refl,
       record {

@@ -29,13 +29,22 @@ measure-row-requires c κs =
       λ i l. rw (says .fields) (photo .doubt i (rw (photo .symbols) at l)),
     )
 
+reading-requires : tie.Need-reading-requires
+reading-requires c κs =
+    let tally = c .before in
+    let (P, says, photo, given) = start (tally .before .before .before .before) .pre in (
+      c .radius .ensures .1,
+      omega (arith, tally .measure-row .ensures .1),
+      omega (arith, photo .symbols, photo .sound .most),
+    )
+
 returns : tie.Need-returns
 returns c = λ P says photo.
     let tally = c .before .before in
     let values = tally .before in
     let xs = values .before .before .before in
     let given = start xs .args in
-    c .reading .ensures ∙ reading-is _ _ _ _ _ (strip-radius says (c .before .radius .ensures .0))
+    c .reading .ensures ∙ reading-is _ _ _ _ _ (strip-radius says (c .before .radius .ensures .0)) (photo .symbols)
     (strip-measured photo says (strip-values says (given .«record» .now) (values .before .row .ensures)
     (values .values .ensures .1 (given .plan .grid .x) (xs .powers .ensures .1))) (tally .measure-row .ensures .0))
 
@@ -56,5 +65,5 @@ measure-strip-spec =
     let (P, says, photo, given) = start (c .before .before .before .before) .pre in
     let g = ready says .fit in
     (omega (arith, g .full), omega arith, g .rows, omega (arith, g .low)))
-    (λ c κs. (c .radius .ensures .1, omega (arith, c .before .measure-row .ensures .1)))
+    reading-requires
     returns)

@@ -2,6 +2,8 @@
 -- Assumes nothing.
 use mathlib.Core.Path.{refl, sym, _∙_}
 use native.Mathlib.Omega.{arith}
+use Rattle.definitions.specs.Code.{square}
+use Rattle.definitions.proofs.Sound.{cells-most}
 use Rattle.plan.proofs.Ready.{ready}
 use Rattle.plan.proofs.Values.{mark-cells}
 use Rattle.reading.proofs.MarkLoaded.{mark-received, mark-refused, mark-reading, message-small, record-room}
@@ -44,13 +46,24 @@ store-requires c κs =
           (radius .radius .ensures .0) (omega (arith, c .before .before .if1 .left)),
     )
 
-changed-cells-requires : tie.Need-changed-cells-requires
-changed-cells-requires c κs =
+in-rows-requires : tie.Need-in-rows-requires
+in-rows-requires c κs =
     let decoded = c .before .before .before .before .before .before .before .before in
     let doubts = decoded .before .before .before .before .before .before in
     let (P, says, t) = doubts .before .before .before .before .before .pre in
     let g = ready says .fit in
     (g .rows, g .columns, t .photo .symbols ∙ mark-cells says)
+
+reading-requires : tie.Need-reading-requires
+reading-requires c κs =
+    let test = c .before .before .before .before .before .before .before in
+    let radius = test .before in
+    let doubts = radius .before .before .before .before .before .before .before in
+    let (P, says, t) = doubts .before .before .before .before .before .pre in (
+      omega (arith, radius .radius .ensures .1),
+      omega (arith, radius .radius .ensures .1, test .if1 .left),
+      omega (arith, t .photo .symbols, cells-most square (t .photo .sound)),
+    )
 
 returns-2 : tie.Need-returns-2
 returns-2 c = λ P says t.
@@ -62,7 +75,7 @@ returns-2 c = λ P says t.
     let symbols = decoded .before .before .before .before in
     rw (c .reading .ensures) (mark-reading says t (symbols .residue-rows .ensures) (symbols .before .before .doubt-rows .ensures)
     (decoded .decode .ensures .0) (radius .radius .ensures .0) (omega (arith, test .if1 .left)) (stored .store .ensures)
-    (changed .changed-cells .ensures))
+    (changed .in-rows .ensures))
 
 pub decoded-spec : {M : Type 1} → statement M
 decoded-spec =
@@ -86,6 +99,7 @@ decoded-spec =
     refuses
     (λ c. sym (c .before .before .before .before .decode .ensures .1))
     store-requires
-    changed-cells-requires
-    (λ c κs. search needs) (λ c. search needs)
+    in-rows-requires
+    reading-requires
+    (λ c. search needs)
     returns-2)

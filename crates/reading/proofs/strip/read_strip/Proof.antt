@@ -52,13 +52,13 @@ store-requires c κs =
 
 radius-requires : tie.Need-radius-requires
 radius-requires c κs =
-    let (P, says, t) = start (doubts (decoded (c .before .before .before .before))) .pre in
+    let (P, says, t) = start (doubts (decoded (c .before .before .before))) .pre in
     let g = ready says .fit in
     (omega (arith, g .full), omega arith, g .rows, omega (arith, g .low))
 
 reading-requires : tie.Need-reading-requires
 reading-requires c κs =
-    let stored = c .before .before .before .before .before in
+    let stored = c .before .before .before .before in
     let test = stored .before .before .before .before .before in
     let read = decoded stored in
     let loaded = doubts read in
@@ -66,20 +66,19 @@ reading-requires c κs =
       c .radius .ensures .1,
       strip-under t (symbols loaded .residue-row .ensures) (loaded .wide-row .ensures) says (read .decode .ensures)
           (negated _ (test .if1 .left)),
+      omega (arith, t .photo .symbols, t .photo .sound .most),
     )
 
 returns-2 : tie.Need-returns-2
 returns-2 c = λ P says t.
     let changed = c .before .before in
-    let seen = changed .before in
-    let stored = seen .before .before .before in
+    let stored = changed .before .before .before in
     let test = stored .before .before .before .before .before in
     let read = decoded stored in
     let loaded = doubts read in
     rw (c .reading .ensures)
     (strip-reading t (symbols loaded .residue-row .ensures) (loaded .wide-row .ensures) says (read .decode .ensures)
-    (negated _ (test .if1 .left)) (stored .store .ensures) (seen .row .ensures) (changed .word-changed .ensures .0)
-    (c .before .radius .ensures .0))
+    (negated _ (test .if1 .left)) (stored .store .ensures) (changed .in-row .ensures .0) (c .before .radius .ensures .0))
 
 pub read-strip-spec : {M : Type 1} → statement M
 read-strip-spec =
@@ -103,9 +102,6 @@ read-strip-spec =
     (λ c κs.
     let (P, says, t) = start (doubts (decoded (c .before .before))) .pre in
     omega (arith, t .photo .symbols, t .photo .sound .most))
-    (λ c κs.
-    let (P, says, t) = start (doubts (decoded (c .before .before .before))) .pre in
-    ready says .fit .rows)
     radius-requires
     reading-requires
     (λ c. search needs)

@@ -1,4 +1,4 @@
--- `trayread::lines::put_counts` meets its contract: the four numbers one after the other. Assumes nothing.
+-- `trayread::lines::put_counts` meets its contract: the five numbers one after the other. Assumes nothing.
 use mathlib.Core.Path.{_≡_}
 use mathlib.Core.List.{[], _∷_, _++_}
 use Prim.Native.Nat.{ℕ, _+_}
@@ -13,15 +13,20 @@ use Rattle.trayread.proofs.lines.put_counts.Statement.{statement}
 use Rattle.trayread.proofs.lines.put_counts.Tie as tie
 
 -- the numbers one by one
-four : (a b c d : ℕ) → spaced (a ∷ b ∷ c ∷ d ∷ []) ≡ spaced (a ∷ []) ++ spaced (b ∷ []) ++ spaced (c ∷ []) ++ spaced (d ∷ [])
-four a b c d =
-    rw (spaced-append (a ∷ b ∷ c ∷ []) (d ∷ []), spaced-append (a ∷ b ∷ []) (c ∷ []), spaced-append (a ∷ []) (b ∷ []))
+five : (a b c d e : ℕ) → spaced (a ∷ b ∷ c ∷ d ∷ e ∷ [])
+    ≡ spaced (a ∷ []) ++ spaced (b ∷ []) ++ spaced (c ∷ []) ++ spaced (d ∷ []) ++ spaced (e ∷ [])
+five a b c d e = rw (
+  spaced-append (a ∷ b ∷ c ∷ d ∷ []) (e ∷ []),
+  spaced-append (a ∷ b ∷ c ∷ []) (d ∷ []),
+  spaced-append (a ∷ b ∷ []) (c ∷ []),
+  spaced-append (a ∷ []) (b ∷ []),
+)
 
 -- and so their lengths
-fits : (y : ℕ) (r : Reading) → length (spaced (y ∷ r .changed ∷ r .class ∷ r .cost ∷ []))
-    ≡ length (spaced (y ∷ [])) + length (spaced (r .changed ∷ [])) + length (spaced (r .class ∷ []))
-    + length (spaced (r .cost ∷ []))
-fits y r = rw four (simp length-append)
+fits : (y : ℕ) (r : Reading) → length (spaced (y ∷ r .changed ∷ r .unread ∷ r .class ∷ r .cost ∷ []))
+    ≡ length (spaced (y ∷ [])) + length (spaced (r .changed ∷ [])) + length (spaced (r .unread ∷ []))
+    + length (spaced (r .class ∷ [])) + length (spaced (r .cost ∷ []))
+fits y r = rw five (simp length-append)
 
 pub put-counts-spec : {M : Type 1} → statement M
 put-counts-spec =
@@ -46,11 +51,21 @@ put-counts-spec =
     let s = a .before .before .before in
     let p = put-then (put-then (a .put-spaced .ensures) (b .put-spaced2 .ensures)) (d .put-spaced3 .ensures) in
     omega (arith, s .pre, simp length-append at (p .end), put-length p, fits (s .args .season) (s .args .reading)))
-    (λ c. search needs)
-    (λ c.
-    let e = c .before .before in
+    (λ c κs.
+    let e = c .before .before .before in
     let d = e .before .before .before .before in
     let b = d .before .before .before .before in
     let a = b .before .before .before .before in
-    let p = put-then (put-then (a .put-spaced .ensures) (b .put-spaced2 .ensures)) (d .put-spaced3 .ensures) in
-    rw (four _ _ _ _) (put-then p (e .put-spaced4 .ensures))))
+    let s = a .before .before .before in
+    let three = put-then (put-then (a .put-spaced .ensures) (b .put-spaced2 .ensures)) (d .put-spaced3 .ensures) in
+    let p = put-then three (e .put-spaced4 .ensures) in
+    omega (arith, s .pre, simp length-append at (p .end), put-length p, fits (s .args .season) (s .args .reading)))
+    (λ c. search needs)
+    (λ c.
+    let f = c .before .before in
+    let e = f .before .before .before .before in
+    let d = e .before .before .before .before in
+    let b = d .before .before .before .before in
+    let a = b .before .before .before .before in
+    let three = put-then (put-then (a .put-spaced .ensures) (b .put-spaced2 .ensures)) (d .put-spaced3 .ensures) in
+    rw (five _ _ _ _ _) (put-then (put-then three (e .put-spaced4 .ensures)) (f .put-spaced5 .ensures))))

@@ -1,4 +1,4 @@
--- `trayread::lines::put_read` meets its contract: the line is at most 61 bytes, since the reading's numbers have 32 bits. Assumes
+-- `trayread::lines::put_read` meets its contract: the line is at most 72 bytes, since the reading's numbers have 32 bits. Assumes
 -- nothing.
 use Prim.Native.Nat.{_≤_}
 use native.Mathlib.Omega.{arith}
@@ -14,15 +14,16 @@ use Rattle.text.proofs.Signed.{abs-small}
 use Rattle.trayread.proofs.lines.put_read.Statement.{statement}
 use Rattle.trayread.proofs.lines.put_read.Tie as tie
 
--- what a reading's fields tell: number, cost, margin, changed, class
+-- what a reading's fields tell: number, cost, margin, changed, unread, class
 margin-fits : (s : tie.Start) → SFits w32 (s .args .reading .margin)
 margin-fits s = record { sfits = s .good .1 .1 .0 .1 .1 .1 .1 .0 .1 }
 
-line : (s : tie.Start) → length (readLine (s .args .season) (s .args .reading)) ≤ 61
+line : (s : tie.Start) → length (readLine (s .args .season) (s .args .reading)) ≤ 72
 line s =
     let g = s .good .1 .1 .0 .1 .1 .1 in
     let z = abs-small (s .args .reading .margin) (margin-fits s .sfits) in
-    read-length (s .args .season) (s .args .reading) (s .fits .season .fits) (g .1 .1 .0 .1) (g .1 .1 .1 .0 .1) (g .0 .1) z
+    read-length (s .args .season) (s .args .reading) (s .fits .season .fits) (g .1 .1 .0 .1) (g .1 .1 .1 .0 .1)
+    (g .1 .1 .1 .1 .0 .1) (g .0 .1) z
 
 put-counts-requires : tie.Need-put-counts-requires
 unfolding readLine
