@@ -9,26 +9,20 @@ ghost use Rattle.definitions.specs.Cost.{changedCell, unreadCell, unreadCells, 
 ghost use Rattle.answers.specs.Summary.{summary};
 
 // 1 for a cell that was read and is not right.
-pub fn cell_changed(symbol: u8, right: bool) -> u32
+pub fn cell_changed(symbol: u8, right: bool) -> u16
     ensures { λ r. ⌜ (r ≡ changedCell symbol right) × (r ≤ 1) ⌝ }
 {
     if symbol == UNREAD {
         return 0;
     }
-    if right {
-        return 0;
-    }
-    1
+    if right { 0 } else { 1 }
 }
 
 // 1 for a cell that was not read.
 fn cell_unread(symbol: u8) -> u16
     ensures { λ r. ⌜ (r ≡ unreadCell symbol) × (r ≤ 1) ⌝ }
 {
-    if symbol == UNREAD {
-        return 1;
-    }
-    0
+    if symbol == UNREAD { 1 } else { 0 }
 }
 
 // How many cells were not read. 16 bits have the count, which takes half the work of 32.

@@ -60,8 +60,7 @@ struct Tally {
     changed: u32,
 }
 
-// Those of the mark's cells, row by row: at most sixteen rows, each of a cost of at most 2,097,152. X was put in for all rows at
-// once, which gave the columns.
+// Those of the mark's cells, row by row: at most sixteen rows. X was put in for all rows at once, which gave the columns.
 fn measure_rows(
     g: Grid,
     columns: &[[u16; 16]; 16],
@@ -69,9 +68,9 @@ fn measure_rows(
     symbols: &[u8],
     doubts: &[u8],
 ) -> Tally
-    requires { ⌜ Fit g × Rows (g .p) (now columns) × Rows (g .p) (now ys) × (length (now symbols) ≡ g .a * g .b)
+    requires { ⌜ Fit g × (g .full ≤ 255) × Rows (g .p) (now columns) × Rows (g .p) (now ys) × (length (now symbols) ≡ g .a * g .b)
         × (length (now doubts) ≡ g .a * g .b) × Doubts (g .full) (g .a * g .b) (at (now doubts)) ⌝ }
-    ensures { λ t. ⌜ (t .cost ≤ 33554432) × ((x y F : List ℕ) → Columns (g .p) (g .d) x F (now (columns .entry)) →
+    ensures { λ t. ⌜ (t .cost ≤ 130560) × ((x y F : List ℕ) → Columns (g .p) (g .d) x F (now (columns .entry)) →
         Powers (g .p) y (g .d) (now (ys .entry)) → Measured (g .full) (g .a * g .b) (at (now (symbols .entry)))
         (at (now (doubts .entry))) (gridValue (g .p) (g .d) (g .b) (at x) (at y) F) (t .cost) (t .changed)) ⌝ }
 {
@@ -90,21 +89,24 @@ fn measure_rows(
     Tally { cost, changed }
 }
 
-// Those of the cells of a row, or of a strip: at most sixteen cells, of which each costs at most 131,072 (`cell_cost`).
+// Those of the cells of a row, or of a strip. The full doubt is a byte's, so that sixteen cells cost at most 16 * 2 * 255 = 8160:
+// 16 bits have it, which takes half the work of 32.
 fn measure_row(symbols: &[u8], doubts: &[u8], values: [u16; 16], full: u32) -> Tally
-    requires { ⌜ (length (now symbols) ≤ 16) × (length (now doubts) ≡ length (now symbols)) × (full < 65536)
+    requires { ⌜ (length (now symbols) ≤ 16) × (length (now doubts) ≡ length (now symbols)) × (full ≤ 255)
         × Doubts full (length (now symbols)) (at (now doubts)) ⌝ }
     ensures { λ t. ⌜ Measured full (length (now (symbols .entry))) (at (now (symbols .entry))) (at (now (doubts .entry)))
-        (at values)
-        (t .cost) (t .changed) × (t .cost ≤ 2097152) × (t .changed ≤ 16) ⌝ }
+        (at values) (t .cost) (t .changed) × (t .cost ≤ 8160) × (t .changed ≤ 16) ⌝ }
 {
-    let mut cost = 0;
-    let mut changed = 0;
+    let mut cost = 0u16;
+    let mut changed = 0u16;
     for j in 0..symbols.len() {
         let symbol = symbols[j];
         let seen = symbol as u16;
-        cost += word::cell_cost(seen, doubts[j] as u32, values[j], full);
+        cost += word::cell_cost(seen, doubts[j] as u32, values[j], full) as u16;
         changed += answers::cell_changed(symbol, seen == values[j]);
     }
-    Tally { cost, changed }
+    Tally {
+        cost: cost as u32,
+        changed: changed as u32,
+    }
 }

@@ -12,11 +12,11 @@ pub fn in_row(symbols: &[u8], seen: [u16; 16], values: [u16; 16]) -> u32
     ensures { λ r. ⌜ (r ≡ changedRow (length (now (symbols .entry))) (at (now (symbols .entry))) (at seen) (at values))
         × (r ≤ 16) ⌝ }
 {
-    let mut count = 0;
+    let mut count = 0u16;
     for i in 0..symbols.len() {
         count += cell_changed(symbols[i], seen[i] == values[i]);
     }
-    count
+    count as u32
 }
 
 // Of a rows of b cells; one is right where the decoder left nothing of its symbol.

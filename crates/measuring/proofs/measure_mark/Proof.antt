@@ -22,6 +22,7 @@ measure-rows-requires c κs =
     let powers = columns .before .before in
     let (P, says, photo, given) = powers .before .before .before .before .before .before .pre in (
       ready says .fit,
+      omega (arith, ready says .byte),
       columns .columns .ensures .0,
       powers .powers .ensures .0,
       photo .symbols ∙ mark-cells says,

@@ -16,7 +16,7 @@ use Rattle.measuring.proofs.measure_row.Tie as tie
 abbrev Inv-loop : tie.InvT-loop
 Inv-loop symbols doubts full values cost₀ changed₀ j₀ j-end cost changed j =
     (j ≤ length symbols) × (j-end ≡ length symbols) × Measured full j (at symbols) (at doubts) (at values) cost changed
-    × (cost ≤ 131072 * j) × (changed ≤ j)
+    × (cost ≤ 510 * j) × (changed ≤ j)
 
 abbrev μ-loop : tie.MeasureT-loop
 μ-loop symbols doubts full values cost₀ changed₀ j₀ j-end cost changed j = length symbols - j
@@ -68,7 +68,9 @@ measure-row-spec =
     (λ c. omega (arith, c .shared-slice-known4 .given (c .before .before .before .loop .j)))
     (λ c. search needs) (λ c. search needs)
     cell-cost-requires
-    (λ c. search needs) (λ c. search needs) (λ c. search needs) (λ c κs. search needs) (λ c. search needs) (λ c. search needs)
-    (λ c. search needs)
+    (λ c. omega (arith, c .cell-cost .ensures .1))
+    (λ c. omega (arith, c .cell-cost .ensures .1))
+    (λ c. search needs) (λ c. search needs) (λ c κs. search needs) (λ c. search needs) (λ c. search needs) (λ c. search needs)
     loop-again
+    (λ c. search needs) (λ c. search needs)
     returns)

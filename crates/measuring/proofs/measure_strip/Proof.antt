@@ -21,11 +21,10 @@ values-requires c κs =
 
 measure-row-requires : tie.Need-measure-row-requires
 measure-row-requires c κs =
-    let (P, says, photo, given) = start (c .before .before .before) .pre in
-    let g = ready says .fit in (
+    let (P, says, photo, given) = start (c .before .before .before) .pre in (
       omega (arith, photo .symbols, photo .sound .most),
       photo .doubts ∙ sym (photo .symbols),
-      omega (arith, g .full),
+      omega (arith, ready says .byte),
       λ i l. rw (says .fields) (photo .doubt i (rw (photo .symbols) at l)),
     )
 

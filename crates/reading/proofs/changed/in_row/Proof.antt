@@ -46,4 +46,5 @@ in-row-spec =
     (λ c. search needs) (λ c. search needs) (λ c. search needs) (λ c. search needs) (λ c. search needs) (λ c κs. search needs)
     (λ c. search needs) (λ c. search needs) (λ c. search needs)
     loop-again
+    (λ c. search needs)
     returns)

@@ -28,6 +28,16 @@ fits : (y : ℕ) (r : Reading) → length (spaced (y ∷ r .changed ∷ r .unrea
     + length (spaced (r .class ∷ [])) + length (spaced (r .cost ∷ []))
 fits y r = rw five (simp length-append)
 
+returns : tie.Need-returns
+returns c =
+    let f = c .before .before in
+    let e = f .before .before .before .before in
+    let d = e .before .before .before .before in
+    let b = d .before .before .before .before in
+    let a = b .before .before .before .before in
+    let three = put-then (put-then (a .put-spaced .ensures) (b .put-spaced2 .ensures)) (d .put-spaced3 .ensures) in
+    rw (five _ _ _ _ _) (put-then (put-then three (e .put-spaced4 .ensures)) (f .put-spaced5 .ensures))
+
 pub put-counts-spec : {M : Type 1} → statement M
 put-counts-spec =
     tie.close
@@ -61,11 +71,4 @@ put-counts-spec =
     let p = put-then three (e .put-spaced4 .ensures) in
     omega (arith, s .pre, simp length-append at (p .end), put-length p, fits (s .args .season) (s .args .reading)))
     (λ c. search needs)
-    (λ c.
-    let f = c .before .before in
-    let e = f .before .before .before .before in
-    let d = e .before .before .before .before in
-    let b = d .before .before .before .before in
-    let a = b .before .before .before .before in
-    let three = put-then (put-then (a .put-spaced .ensures) (b .put-spaced2 .ensures)) (d .put-spaced3 .ensures) in
-    rw (five _ _ _ _ _) (put-then (put-then three (e .put-spaced4 .ensures)) (f .put-spaced5 .ensures))))
+    returns)
