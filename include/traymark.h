@@ -51,13 +51,14 @@
 extern "C" {
 #endif
 
-/* What measuring and reading answer. Of a refusal everything but the number is 0. */
+/* What measuring and reading answer. A cell is right, changed or unread. Of a refusal everything but the number is 0. */
 typedef struct {
     uint32_t number;  /* 0, or the refusal */
     uint32_t cost;    /* D */
     int32_t margin;   /* R - D: from -49600 to 25600 for marks; above 0 where the record is within the radius */
-    uint32_t changed; /* cells whose symbol is not the record's value, unread cells included */
-    uint32_t class_;  /* by changed: 0 is class 0, 1 to 3 class 1, 4 to 15 class 2, 16 and more class 3 */
+    uint32_t changed; /* cells that were read and whose symbol is not the record's value */
+    uint32_t unread;  /* cells that were not read, their symbol being 255; none of them is counted in changed */
+    uint32_t class_;  /* by changed alone: 0 is class 0, 1 to 3 class 1, 4 to 15 class 2, 16 and more class 3 */
 } traymark_reading;
 
 /*
@@ -99,7 +100,7 @@ uint32_t traymark_write_mark(const uint8_t *plan, size_t plan_len,
  *   record   read; K bytes
  *   symbols  read; n * n bytes
  *   doubts   read; n * n bytes
- *   result   the record's cost, margin, changed count and class; refusals 1 2 3 4 5 6 7 8 9
+ *   result   the record's cost, margin, changed and unread counts and class; refusals 1 2 3 4 5 6 7 8 9
  */
 traymark_reading traymark_measure_mark(const uint8_t *plan, size_t plan_len,
                                        const uint8_t *record, size_t record_len,
@@ -113,7 +114,7 @@ traymark_reading traymark_measure_mark(const uint8_t *plan, size_t plan_len,
  *   symbols  read; n * n bytes
  *   doubts   read; n * n bytes
  *   record   written whole where the number is 0; K bytes
- *   result   that record's cost, margin, changed count and class; refusals 1 2 3 4 5 6 7 8 10
+ *   result   that record's cost, margin, changed and unread counts and class; refusals 1 2 3 4 5 6 7 8 10
  */
 traymark_reading traymark_read_mark(const uint8_t *plan, size_t plan_len,
                                     const uint8_t *symbols, size_t symbols_len,
@@ -141,7 +142,7 @@ uint32_t traymark_write_strip(const uint8_t *plan, size_t plan_len,
  *   record   read; d + 1 bytes
  *   symbols  read; n bytes
  *   doubts   read; n bytes
- *   result   the record's cost, margin, changed count and class; refusals 1 2 3 4 5 6 7 8 9
+ *   result   the record's cost, margin, changed and unread counts and class; refusals 1 2 3 4 5 6 7 8 9
  */
 traymark_reading traymark_measure_strip(const uint8_t *plan, size_t plan_len,
                                         const uint8_t *record, size_t record_len,
@@ -155,7 +156,7 @@ traymark_reading traymark_measure_strip(const uint8_t *plan, size_t plan_len,
  *   symbols  read; n bytes
  *   doubts   read; n bytes
  *   record   written whole where the number is 0; d + 1 bytes
- *   result   that record's cost, margin, changed count and class; refusals 1 2 3 4 5 6 7 8 10
+ *   result   that record's cost, margin, changed and unread counts and class; refusals 1 2 3 4 5 6 7 8 10
  */
 traymark_reading traymark_read_strip(const uint8_t *plan, size_t plan_len,
                                      const uint8_t *symbols, size_t symbols_len,

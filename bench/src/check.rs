@@ -99,7 +99,9 @@ fn outcome<R: Reduction>(call: Call, given: &Arguments) -> Outcome {
 
 fn reading(answer: Result<traymark::Reading, Refusal>) -> Reading {
     match answer {
-        Ok(traymark::Reading { cost, margin, changed, class }) => Reading { number: 0, cost, margin, changed, class },
+        Ok(traymark::Reading { cost, margin, changed, unread, class }) => {
+            Reading { number: 0, cost, margin, changed, unread, class }
+        }
         Err(refusal) => Reading::refused(refusal.number()),
     }
 }

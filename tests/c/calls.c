@@ -1,16 +1,18 @@
-/* The eight calls from C: the layout of the answer, the cases of document 01, and the refusals at empty buffers. */
+/* The eight calls from C: the layout of the answer, the cases of document 01, wrong and unread cells at once, and the
+   refusals at empty buffers. */
 #include <stdio.h>
 #include <stdlib.h>
 #include <string.h>
 
 #include "traymark.h"
 
-_Static_assert(sizeof(traymark_reading) == 20, "five numbers of four bytes");
+_Static_assert(sizeof(traymark_reading) == 24, "six numbers of four bytes");
 _Static_assert(offsetof(traymark_reading, number) == 0, "number");
 _Static_assert(offsetof(traymark_reading, cost) == 4, "cost");
 _Static_assert(offsetof(traymark_reading, margin) == 8, "margin");
 _Static_assert(offsetof(traymark_reading, changed) == 12, "changed");
-_Static_assert(offsetof(traymark_reading, class_) == 16, "class_");
+_Static_assert(offsetof(traymark_reading, unread) == 16, "unread");
+_Static_assert(offsetof(traymark_reading, class_) == 20, "class_");
 
 /* The calls once more, by their types: a header that declares another one doesn't compile. */
 typedef const uint8_t *in;
@@ -49,14 +51,20 @@ static const uint8_t case_c[9] = {0, 1, 5, 0, 2, 6, 2, 4, 0};
 static const uint8_t case_d[9] = {0, 0, 0, 0, 2, 6, 2, 4, 1};
 static const uint8_t sure[9] = {0};
 
-static int is(traymark_reading r, uint32_t cost, int32_t margin, uint32_t changed, uint32_t class_)
+/* a cell wrong and a cell unread at once, of the mark and, under a plan of degree 0, of the strip 5 5 5 */
+static const uint8_t mixed[9] = {0, 255, 5, 0, 2, 6, 2, 4, 1}, mixed_doubts[9] = {0, 100};
+static const uint8_t plan_s[24] = {0, 12, 7, 3, 0, 1, 2, 4}, record_s[1] = {5};
+static const uint8_t mixed_s[3] = {5, 255, 4}, mixed_s_doubts[3] = {0, 100, 1};
+
+static int is(traymark_reading r, uint32_t cost, int32_t margin, uint32_t changed, uint32_t unread, uint32_t class_)
 {
-    return r.number == 0 && r.cost == cost && r.margin == margin && r.changed == changed && r.class_ == class_;
+    return r.number == 0 && r.cost == cost && r.margin == margin && r.changed == changed && r.unread == unread
+           && r.class_ == class_;
 }
 
 static int refused(traymark_reading r, uint32_t number)
 {
-    return r.number == number && r.cost == 0 && r.margin == 0 && r.changed == 0 && r.class_ == 0;
+    return r.number == number && r.cost == 0 && r.margin == 0 && r.changed == 0 && r.unread == 0 && r.class_ == 0;
 }
 
 /* reads a photograph under plan A into a record of 9s, and says whether it is the record of case a, or still the 9s */
@@ -115,24 +123,30 @@ static void write_and_measure(void)
     EXPECT(traymark_write_strip(ALL(plan_a), record_a, 2, ALL(strip)) == 0);
     EXPECT(strip[0] == 4 && strip[1] == 5 && strip[2] == 0);
 
-    EXPECT(is(traymark_measure_mark(ALL(plan_a), ALL(record_a), ALL(case_d), ALL(sure)), 600, 0, 3, 1)); /* k */
+    EXPECT(is(traymark_measure_mark(ALL(plan_a), ALL(record_a), ALL(case_d), ALL(sure)), 600, 0, 3, 0, 1)); /* k */
+    EXPECT(is(traymark_measure_mark(ALL(plan_a), ALL(record_a), ALL(mixed), ALL(mixed_doubts)), 300, 300, 1, 1, 1));
     EXPECT(refused(traymark_measure_mark(ALL(plan_a), ALL(far), ALL(case_d), ALL(sure)), 9));
     EXPECT(refused(traymark_measure_mark(ALL(plan_a), ALL(record_a), case_d, 8, ALL(sure)), 6));
-    EXPECT(is(traymark_measure_strip(ALL(plan_a), record_a, 2, case_d, 3, sure, 3), 400, -200, 2, 1));
+    EXPECT(is(traymark_measure_strip(ALL(plan_a), record_a, 2, case_d, 3, sure, 3), 400, -200, 2, 0, 1));
+    EXPECT(is(traymark_measure_strip(ALL(plan_s), ALL(record_s), ALL(mixed_s), ALL(mixed_s_doubts)), 299, 1, 1, 1, 1));
     EXPECT(refused(traymark_measure_strip(ALL(plan_a), record_a, 2, case_d, 3, sure, 4), 6));
 }
 
 static void read_marks(void)
 {
     uint8_t symbols[9], doubts[9] = {1, 1, 1}, record[3] = {9, 9, 9};
+    /* unread where the mark is 0 */
+    const uint8_t no_zero[9] = {6, 1, 5, 255, 2, 6, 2, 4, 1}, no_zero_doubts[9] = {0, 0, 0, 100};
     const uint8_t one[4] = {1}, doubt[2] = {99, 100};
-    EXPECT(is(read_a(mark_a, sure), 0, 600, 0, 0));     /* b */
-    EXPECT(is(read_a(case_c, sure), 400, 200, 2, 1));   /* c */
-    EXPECT(refused(read_a(case_d, sure), 10));          /* d */
-    EXPECT(is(read_a(case_d, doubts), 597, 3, 3, 1));   /* e */
+    EXPECT(is(read_a(mark_a, sure), 0, 600, 0, 0, 0));     /* b */
+    EXPECT(is(read_a(case_c, sure), 400, 200, 2, 0, 1));   /* c */
+    EXPECT(refused(read_a(case_d, sure), 10));             /* d */
+    EXPECT(is(read_a(case_d, doubts), 597, 3, 3, 0, 1));   /* e */
+    EXPECT(is(read_a(mixed, mixed_doubts), 300, 300, 1, 1, 1));
+    EXPECT(is(read_a(no_zero, no_zero_doubts), 100, 500, 0, 1, 0));
     memcpy(symbols, mark_a, 9);
     memset(symbols, 255, 5), memset(doubts, 100, 5);
-    EXPECT(is(read_a(symbols, doubts), 500, 100, 5, 2)); /* f */
+    EXPECT(is(read_a(symbols, doubts), 500, 100, 0, 5, 0)); /* f */
     symbols[5] = 255;
     EXPECT(refused(read_a(symbols, doubts), 8));
     doubts[5] = 100;
@@ -141,7 +155,7 @@ static void read_marks(void)
     EXPECT(refused(read_a(symbols, doubts), 7));
     EXPECT(refused(traymark_read_mark(ALL(plan_h), one, 1, doubt + 1, 1, record, 1), 10)); /* i */
     EXPECT(record[0] == 9);
-    EXPECT(is(traymark_read_mark(ALL(plan_h), one, 1, doubt, 1, record, 1), 99, 1, 0, 0)); /* h */
+    EXPECT(is(traymark_read_mark(ALL(plan_h), one, 1, doubt, 1, record, 1), 99, 1, 0, 0, 0)); /* h */
     EXPECT(record[0] == 1 && record[1] == 9);
     EXPECT(refused(traymark_read_mark(ALL(plan_j), one, 4, sure, 4, ALL(record)), 10)); /* j */
     EXPECT(refused(traymark_read_mark(ALL(plan_j), one, 4, sure, 4, record, 2), 6));
@@ -151,12 +165,14 @@ static void read_strips(void)
 {
     const uint8_t symbols[3] = {4, 5, 255}, doubts[3] = {0, 0, 100};
     uint8_t record[3] = {9, 9, 9};
-    EXPECT(is(traymark_read_strip(ALL(plan_a), ALL(symbols), ALL(doubts), record, 2), 100, 100, 1, 1));
+    EXPECT(is(traymark_read_strip(ALL(plan_a), ALL(symbols), ALL(doubts), record, 2), 100, 100, 0, 1, 0));
     EXPECT(record[0] == 3 && record[1] == 1 && record[2] == 9);
     EXPECT(refused(traymark_read_strip(ALL(plan_a), ALL(symbols), sure, 3, record, 2), 8));
     EXPECT(refused(traymark_read_strip(ALL(plan_a), ALL(symbols), ALL(doubts), record, 0), 6));
     EXPECT(refused(traymark_read_strip(plan_a, 0, symbols, 0, doubts, 0, record, 0), 1));
     EXPECT(record[0] == 3 && record[1] == 1 && record[2] == 9);
+    EXPECT(is(traymark_read_strip(ALL(plan_s), ALL(mixed_s), ALL(mixed_s_doubts), record, 1), 299, 1, 1, 1, 1));
+    EXPECT(record[0] == 5 && record[1] == 1);
 }
 
 int main(void)

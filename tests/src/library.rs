@@ -130,8 +130,8 @@ type MeasureSafe = fn(&[u8], &[u8], &[u8], &[u8]) -> Result<traymark::Reading, R
 type ReadSafe = fn(&[u8], &[u8], &[u8], &mut [u8]) -> Result<traymark::Reading, Refusal>;
 
 fn reading(raw: RawReading) -> Reading {
-    let RawReading { number, cost, margin, changed, class } = raw;
-    Reading { number, cost, margin, changed, class }
+    let RawReading { number, cost, margin, changed, unread, class } = raw;
+    Reading { number, cost, margin, changed, unread, class }
 }
 
 fn refused(answer: Result<(), Refusal>) -> Reading {
@@ -140,7 +140,9 @@ fn refused(answer: Result<(), Refusal>) -> Reading {
 
 fn answered(answer: Result<traymark::Reading, Refusal>) -> Reading {
     match answer {
-        Ok(traymark::Reading { cost, margin, changed, class }) => Reading { number: 0, cost, margin, changed, class },
+        Ok(traymark::Reading { cost, margin, changed, unread, class }) => {
+            Reading { number: 0, cost, margin, changed, unread, class }
+        }
         Err(refusal) => Reading::refused(refusal.number()),
     }
 }

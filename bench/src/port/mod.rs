@@ -58,7 +58,7 @@ pub fn measure_mark<R: Reduction>(
     for (r, (symbols, doubts)) in symbols.chunks_exact(plan.n).zip(doubts.chunks_exact(plan.n)).enumerate() {
         tally += Tally::new(symbols, doubts, &powers.row(&in_y, r));
     }
-    Ok(tally.reading(plan.radius()))
+    Ok(tally.reading(symbols, plan.radius()))
 }
 
 /// Reads a photographed mark, as `traymark::read_mark`.
@@ -71,5 +71,5 @@ pub fn read_mark<R: Reduction>(
     let plan: Plan<R> = Plan::parse(plan)?;
     checks::photograph(&plan, symbols, doubts, record.len())?;
     let tally = mark::decode(&plan, symbols, doubts, record).ok_or(Refusal::NoRecord)?;
-    Ok(tally.reading(plan.radius()))
+    Ok(tally.reading(symbols, plan.radius()))
 }

@@ -1,5 +1,6 @@
 //! What is counted of a record against a photograph.
 
+use super::checks::UNREAD;
 use super::field::Row;
 use super::plan::FULL;
 use std::ops::AddAssign;
@@ -19,17 +20,17 @@ fn cell_cost(full: u16, doubt: u16, right: bool) -> u16 {
     }
 }
 
-/// The cost and the changed count of some cells.
+/// The cost of some cells, and how many differ from their values. An unread cell differs from any value.
 #[derive(Clone, Copy, Default)]
 pub struct Tally {
     pub cost: u32,
-    pub changed: u32,
+    pub differing: u32,
 }
 
 impl AddAssign for Tally {
     fn add_assign(&mut self, other: Tally) {
         self.cost += other.cost;
-        self.changed += other.changed;
+        self.differing += other.differing;
     }
 }
 
@@ -40,18 +41,26 @@ impl Tally {
         cells.fold(Tally::default(), |tally, ((&symbol, &doubt), &value)| {
             let right = u16::from(symbol) == value;
             let cost = u32::from(cell_cost(FULL, doubt.into(), right));
-            Tally { cost: tally.cost + cost, changed: tally.changed + u32::from(!right) }
+            Tally { cost: tally.cost + cost, differing: tally.differing + u32::from(!right) }
         })
     }
 
-    /// What is told of a record with this tally.
-    pub fn reading(self, radius: u32) -> Reading {
-        let class = match self.changed {
+    /// What is told of a record with this tally over all of these symbols. The cells that differ are changed or unread.
+    pub fn reading(self, symbols: &[u8], radius: u32) -> Reading {
+        let unread = unread(symbols);
+        let changed = self.differing - unread;
+        let class = match changed {
             0 => 0,
             1..=3 => 1,
             4..=15 => 2,
             _ => 3,
         };
-        Reading { cost: self.cost, margin: radius as i32 - self.cost as i32, changed: self.changed, class }
+        Reading { cost: self.cost, margin: radius as i32 - self.cost as i32, changed, unread, class }
     }
+}
+
+/// How many cells are unread. A part is counted in a byte, so that sixteen cells are counted at once.
+fn unread(symbols: &[u8]) -> u32 {
+    let in_part = |part: &[u8]| part.iter().map(|&symbol| u8::from(symbol == UNREAD)).sum::<u8>();
+    symbols.chunks(128).map(|part| u32::from(in_part(part))).sum()
 }

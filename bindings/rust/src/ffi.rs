@@ -11,6 +11,7 @@ pub struct RawReading {
     pub cost: u32,
     pub margin: i32,
     pub changed: u32,
+    pub unread: u32,
     pub class: u32,
 }
 

@@ -17,7 +17,8 @@
 //! let mut record = [0; 3];
 //! let reading = traymark::read_mark(&plan, &mark, &[0; 9], &mut record)?;
 //! assert_eq!(record, [3, 1, 2]);
-//! assert_eq!((reading.cost, reading.margin, reading.changed, reading.class), (400, 200, 2, 1));
+//! assert_eq!((reading.cost, reading.margin), (400, 200));
+//! assert_eq!((reading.changed, reading.unread, reading.class), (2, 0, 1));
 //!
 //! mark[1] = 0;
 //! let refusal = traymark::read_mark(&plan, &mark, &[0; 9], &mut record).unwrap_err();
@@ -34,16 +35,18 @@ pub use refusal::Refusal;
 /// The length of a plan in bytes.
 pub const PLAN_LENGTH: usize = 24;
 
-/// What measuring and reading say of a record against a photograph.
+/// What measuring and reading say of a record against a photograph. A cell is right, changed or unread.
 #[derive(Clone, Copy, Debug, PartialEq, Eq)]
 pub struct Reading {
     /// D: the sum over the cells of the doubt where the symbol is the record's value, else of 200 less the doubt.
     pub cost: u32,
     /// The radius less the cost: above 0 exactly where the record is within the radius.
     pub margin: i32,
-    /// The cells whose symbol is not the record's value, unread cells included.
+    /// The cells that were read and whose symbol is not the record's value.
     pub changed: u32,
-    /// 0 to 3, by the changed count: 0; 1 to 3; 4 to 15; 16 and more.
+    /// The cells that were not read, their symbol being 255; none of them is counted in `changed`.
+    pub unread: u32,
+    /// 0 to 3, by the changed count alone: 0; 1 to 3; 4 to 15; 16 and more.
     pub class: u32,
 }
 
@@ -143,5 +146,6 @@ fn accepted(number: u32) -> Result<(), Refusal> {
 
 fn reading(raw: ffi::RawReading) -> Result<Reading, Refusal> {
     accepted(raw.number)?;
-    Ok(Reading { cost: raw.cost, margin: raw.margin, changed: raw.changed, class: raw.class })
+    let ffi::RawReading { cost, margin, changed, unread, class, .. } = raw;
+    Ok(Reading { cost, margin, changed, unread, class })
 }

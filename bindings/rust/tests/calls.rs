@@ -1,5 +1,5 @@
-//! Each call through the wrapper: cases a, c and f of document 01, the same plan's strips, and a refusal of each call.
-//! Buffers that are to be written hold 9s before, so that it is seen when a refusal changes one.
+//! Each call through the wrapper: cases a, c and f of document 01, wrong and unread cells at once, strips, and a refusal
+//! of each call. Buffers that are to be written hold 9s before, so that it is seen when a refusal changes one.
 
 use traymark::{Reading, Refusal};
 
@@ -11,18 +11,35 @@ const MARK: [u8; 9] = [6, 1, 5, 0, 2, 6, 2, 4, 1];
 /// Two cells misread: case c. Three: case d, which is refused.
 const CASE_C: [u8; 9] = [0, 1, 5, 0, 2, 6, 2, 4, 0];
 const CASE_D: [u8; 9] = [0, 0, 0, 0, 2, 6, 2, 4, 1];
+/// Five cells unread: case f.
+const CASE_F: [u8; 9] = [255, 255, 255, 255, 255, 6, 2, 4, 1];
 const SURE: [u8; 9] = [0; 9];
 
-const C: Reading = Reading { cost: 400, margin: 200, changed: 2, class: 1 };
-const F: Reading = Reading { cost: 500, margin: 100, changed: 5, class: 2 };
+/// Symbols and doubts of photographs of the mark, and what is said of its record: cases c and f; the first cell misread
+/// and the second unread; a cell unread where the mark is 0.
+const PHOTOS: [([u8; 9], [u8; 9], Reading); 4] = [
+    (CASE_C, SURE, Reading { cost: 400, margin: 200, changed: 2, unread: 0, class: 1 }),
+    (
+        CASE_F,
+        [100, 100, 100, 100, 100, 0, 0, 0, 0],
+        Reading { cost: 500, margin: 100, changed: 0, unread: 5, class: 0 },
+    ),
+    (
+        [0, 255, 5, 0, 2, 6, 2, 4, 1],
+        [0, 100, 0, 0, 0, 0, 0, 0, 0],
+        Reading { cost: 300, margin: 300, changed: 1, unread: 1, class: 1 },
+    ),
+    (
+        [6, 1, 5, 255, 2, 6, 2, 4, 1],
+        [0, 0, 0, 100, 0, 0, 0, 0, 0],
+        Reading { cost: 100, margin: 500, changed: 0, unread: 1, class: 0 },
+    ),
+];
 
-/// Case f: the first five cells unread, at doubt 100.
-fn case_f() -> ([u8; 9], [u8; 9]) {
-    let (mut symbols, mut doubts) = (MARK, SURE);
-    symbols[..5].fill(255);
-    doubts[..5].fill(100);
-    (symbols, doubts)
-}
+/// Plan A with degree 0, and a strip of the record 5: its second cell is unread, its last wrong.
+const STRIP_PLAN: [u8; 24] = [0, 12, 7, 3, 0, 1, 2, 4, 0, 0, 0, 0, 0, 0, 0, 0, 0, 0, 0, 0, 0, 0, 0, 0];
+const STRIP: ([u8; 3], [u8; 3]) = ([5, 255, 4], [0, 100, 1]);
+const STRIP_READING: Reading = Reading { cost: 299, margin: 1, changed: 1, unread: 1, class: 1 };
 
 #[test]
 fn check_plan() {
@@ -57,26 +74,25 @@ fn write_mark() {
 
 #[test]
 fn measure_mark() {
-    let (symbols, doubts) = case_f();
-    assert_eq!(traymark::measure_mark(&PLAN, &RECORD, &CASE_C, &SURE), Ok(C));
-    assert_eq!(traymark::measure_mark(&PLAN, &RECORD, &symbols, &doubts), Ok(F));
-    let beyond = Reading { cost: 1200, margin: -600, changed: 6, class: 2 };
+    for (symbols, doubts, reading) in PHOTOS {
+        assert_eq!(traymark::measure_mark(&PLAN, &RECORD, &symbols, &doubts), Ok(reading));
+    }
+    let beyond = Reading { cost: 1200, margin: -600, changed: 6, unread: 0, class: 2 };
     assert_eq!(traymark::measure_mark(&PLAN, &[0, 0, 0], &CASE_C, &SURE), Ok(beyond));
     assert_eq!(traymark::measure_mark(&PLAN, &[3, 1, 7], &CASE_C, &SURE), Err(Refusal::Coefficient));
 }
 
 #[test]
 fn read_mark() {
-    let (symbols, doubts) = case_f();
     let mut record = [9; 3];
     assert_eq!(traymark::read_mark(&PLAN, &CASE_D, &SURE, &mut record), Err(Refusal::NoRecord)); // d
-    assert_eq!(traymark::read_mark(&PLAN, &symbols, &SURE, &mut record), Err(Refusal::Doubt));
+    assert_eq!(traymark::read_mark(&PLAN, &CASE_F, &SURE, &mut record), Err(Refusal::Doubt));
     assert_eq!(record, [9; 3]);
-    assert_eq!(traymark::read_mark(&PLAN, &CASE_C, &SURE, &mut record), Ok(C)); // c
-    assert_eq!(record, RECORD);
-    record = [9; 3];
-    assert_eq!(traymark::read_mark(&PLAN, &symbols, &doubts, &mut record), Ok(F)); // f
-    assert_eq!(record, RECORD);
+    for (symbols, doubts, reading) in PHOTOS {
+        record = [9; 3];
+        assert_eq!(traymark::read_mark(&PLAN, &symbols, &doubts, &mut record), Ok(reading));
+        assert_eq!(record, RECORD);
+    }
 }
 
 #[test]
@@ -90,8 +106,9 @@ fn write_strip() {
 
 #[test]
 fn measure_strip() {
-    let on_the_radius = Reading { cost: 200, margin: 0, changed: 1, class: 1 };
+    let on_the_radius = Reading { cost: 200, margin: 0, changed: 1, unread: 0, class: 1 };
     assert_eq!(traymark::measure_strip(&PLAN, &[3, 1], &[4, 5, 1], &[0; 3]), Ok(on_the_radius));
+    assert_eq!(traymark::measure_strip(&STRIP_PLAN, &[5], &STRIP.0, &STRIP.1), Ok(STRIP_READING));
     assert_eq!(traymark::measure_strip(&PLAN, &[3, 1], &[4, 5, 7], &[0; 3]), Err(Refusal::Symbol));
 }
 
@@ -100,7 +117,10 @@ fn read_strip() {
     let mut record = [9; 2];
     assert_eq!(traymark::read_strip(&PLAN, &[4, 5, 1], &[0; 3], &mut record), Err(Refusal::NoRecord));
     assert_eq!(record, [9; 2]);
-    let one_unread = Reading { cost: 100, margin: 100, changed: 1, class: 1 };
+    let one_unread = Reading { cost: 100, margin: 100, changed: 0, unread: 1, class: 0 };
     assert_eq!(traymark::read_strip(&PLAN, &[4, 5, 255], &[0, 0, 100], &mut record), Ok(one_unread));
     assert_eq!(record, [3, 1]);
+    let mut record = [9];
+    assert_eq!(traymark::read_strip(&STRIP_PLAN, &STRIP.0, &STRIP.1, &mut record), Ok(STRIP_READING));
+    assert_eq!(record, [5]);
 }

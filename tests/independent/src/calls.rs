@@ -1,7 +1,7 @@
 //! The calls of document 01, for both codes.
 
 use crate::code::Code;
-use crate::cost::{changed, class, cost};
+use crate::cost::{changed, class, cost, unread};
 use crate::exhaustive;
 use crate::field::Field;
 use crate::mark;
@@ -16,6 +16,7 @@ pub struct Reading {
     pub cost: u32,
     pub margin: i32,
     pub changed: u32,
+    pub unread: u32,
     pub class: u32,
 }
 
@@ -117,8 +118,9 @@ pub fn by_equations(code: Code, plan: &Plan, symbols: &[u32], doubts: &[u32]) ->
 fn reading(code: Code, plan: &Plan, record: &[u32], symbols: &[u32], doubts: &[u32]) -> Reading {
     let word = code.word(plan, record);
     let cost = cost(FULL_DOUBT, symbols, doubts, &word);
+    let margin = code.radius(plan) as i32 - cost as i32;
     let changed = changed(symbols, &word);
-    Reading { number: 0, cost, margin: code.radius(plan) as i32 - cost as i32, changed, class: class(changed) }
+    Reading { number: 0, cost, margin, changed, unread: unread(symbols), class: class(changed) }
 }
 
 /// Refusals 6, 7 and 8.

@@ -1,4 +1,6 @@
-//! What a word costs against symbols and doubts.
+//! What a word costs against symbols and doubts, and how many cells are changed or unread.
+
+use crate::UNREAD;
 
 /// The sum over the cells of the doubt where the symbol is the word's value, else of twice the full doubt less the
 /// doubt.
@@ -7,9 +9,14 @@ pub fn cost(full: u32, symbols: &[u32], doubts: &[u32], word: &[u32]) -> u32 {
     cells.map(|((symbol, &doubt), value)| if symbol == value { doubt } else { 2 * full - doubt }).sum()
 }
 
-/// The number of cells whose symbol differs from the word's value.
+/// The number of cells that were read and whose symbol differs from the word's value.
 pub fn changed(symbols: &[u32], word: &[u32]) -> u32 {
-    symbols.iter().zip(word).filter(|(symbol, value)| symbol != value).count() as u32
+    symbols.iter().zip(word).filter(|&(&symbol, &value)| symbol != UNREAD && symbol != value).count() as u32
+}
+
+/// The number of cells that were not read.
+pub fn unread(symbols: &[u32]) -> u32 {
+    symbols.iter().filter(|&&symbol| symbol == UNREAD).count() as u32
 }
 
 /// The class of a changed count.

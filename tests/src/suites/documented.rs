@@ -1,11 +1,14 @@
-//! Cases a to l of document 01, word for word, and some more whose answers were worked out by hand.
+//! Cases a to l of document 01, with unread cells counted apart from changed ones, and some more whose answers were worked
+//! out by hand.
 
 use independent::{Code, Reading};
+use std::array::from_fn;
+use std::ops::Range;
 use traymark_tests::calls::{hold, Arguments, Call, Outcome};
 use traymark_tests::counts::Counts;
 use traymark_tests::random::Random;
 
-pub const CASES: u64 = 28;
+pub const CASES: u64 = 39;
 
 /// A call and its outcome as the document says it.
 struct Row {
@@ -34,45 +37,64 @@ const SURE: [u8; 9] = [0; 9];
 fn rows() -> Vec<Row> {
     use Code::{Mark, Strip};
     let plan_a = plan(7, 3, 1, &[1, 2, 4]);
+    let plan_d0 = plan(7, 3, 0, &[1, 2, 4]);
     let plan_h = plan(2, 1, 0, &[0]);
     let plan_j = plan(2, 2, 1, &[0, 1]);
     let case_c = [0, 1, 5, 0, 2, 6, 2, 4, 0];
     let case_d = [0, 0, 0, 0, 2, 6, 2, 4, 1];
     let case_e = [1, 1, 1, 0, 0, 0, 0, 0, 0];
-    let (unread_5, unread_6) = (unread(5), unread(6));
+    let (unread_5, unread_6) = (unread(MARK, 0..5), unread(MARK, 0..6));
+    let wrong_and_unread = unread([0, 1, 5, 0, 2, 6, 2, 4, 1], 1..2);
+    let unread_0 = unread(MARK, 3..4);
+    let one_read = unread([7; 256], 1..256);
+    let few_read = unread(from_fn::<u8, 256, _>(|cell| if cell < 16 { 8 } else { 7 }), 33..256);
     vec![
         write(Mark, &plan_a, &[3, 1, 2], 9, Ok(&MARK)), // a
-        read(Mark, &plan_a, &MARK, &SURE, Ok((&[3, 1, 2], [0, 600, 0, 0]))), // b
-        read(Mark, &plan_a, &case_c, &SURE, Ok((&[3, 1, 2], [400, 200, 2, 1]))), // c
+        read(Mark, &plan_a, &MARK, &SURE, Ok((&[3, 1, 2], [0, 600, 0, 0, 0]))), // b
+        read(Mark, &plan_a, &case_c, &SURE, Ok((&[3, 1, 2], [400, 200, 2, 0, 1]))), // c
         read(Mark, &plan_a, &case_d, &SURE, Err((10, 3))), // d
-        read(Mark, &plan_a, &case_d, &case_e, Ok((&[3, 1, 2], [597, 3, 3, 1]))), // e
-        read(Mark, &plan_a, &unread_5.0, &unread_5.1, Ok((&[3, 1, 2], [500, 100, 5, 2]))), // f
+        read(Mark, &plan_a, &case_d, &case_e, Ok((&[3, 1, 2], [597, 3, 3, 0, 1]))), // e
+        read(Mark, &plan_a, &unread_5.0, &unread_5.1, Ok((&[3, 1, 2], [500, 100, 0, 5, 0]))), // f
         read(Mark, &plan_a, &unread_6.0, &unread_6.1, Err((10, 3))), // g
-        read(Mark, &plan_h, &[1], &[99], Ok((&[1], [99, 1, 0, 0]))), // h
+        read(Mark, &plan_h, &[1], &[99], Ok((&[1], [99, 1, 0, 0, 0]))), // h
         read(Mark, &plan_h, &[1], &[100], Err((10, 1))), // i
         read(Mark, &plan_j, &[1, 0, 0, 0], &[0; 4], Err((10, 3))), // j
-        measure(Mark, &plan_j, &[0, 0, 0], &[1, 0, 0, 0], &[0; 4], [200, 0, 1, 1]),
-        measure(Mark, &plan_j, &[1, 1, 0], &[1, 0, 0, 0], &[0; 4], [200, 0, 1, 1]),
-        measure(Mark, &plan_a, &[3, 1, 2], &case_d, &SURE, [600, 0, 3, 1]), // k
+        measure(Mark, &plan_j, &[0, 0, 0], &[1, 0, 0, 0], &[0; 4], [200, 0, 1, 0, 1]),
+        measure(Mark, &plan_j, &[1, 1, 0], &[1, 0, 0, 0], &[0; 4], [200, 0, 1, 0, 1]),
+        measure(Mark, &plan_a, &[3, 1, 2], &case_d, &SURE, [600, 0, 3, 0, 1]), // k
         check(&plan(9, 3, 1, &[1, 2, 4]), 2), // l
         check(&plan(7, 3, 3, &[1, 2, 4]), 4),
         check(&plan(7, 3, 1, &[1, 1, 4]), 5),
         check(&plan_a, 0),
         check(&plan(9, 0, 3, &[1, 1, 4]), 2),
+        // a cell wrong and a cell unread at once; a cell unread where the mark is 0
+        read(Mark, &plan_a, &wrong_and_unread.0, &wrong_and_unread.1, Ok((&[3, 1, 2], [300, 300, 1, 1, 1]))),
+        measure(Mark, &plan_a, &[3, 1, 2], &wrong_and_unread.0, &wrong_and_unread.1, [300, 300, 1, 1, 1]),
+        measure(Mark, &plan_a, &[0, 0, 0], &wrong_and_unread.0, &wrong_and_unread.1, [1_300, -700, 6, 1, 2]),
+        read(Mark, &plan_a, &unread_0.0, &unread_0.1, Ok((&[3, 1, 2], [100, 500, 0, 1, 0]))),
+        measure(Mark, &plan_a, &[3, 1, 2], &unread_0.0, &unread_0.1, [100, 500, 0, 1, 0]),
         // a strip, written, with its last cell unread, and measured
         write(Strip, &plan_a, &[3, 1], 3, Ok(&[4, 5, 0])),
-        read(Strip, &plan_a, &[4, 5, 255], &[0, 0, 100], Ok((&[3, 1], [100, 100, 1, 1]))),
+        read(Strip, &plan_a, &[4, 5, 255], &[0, 0, 100], Ok((&[3, 1], [100, 100, 0, 1, 0]))),
         read(Strip, &plan_a, &[4, 5, 1], &[0, 0, 0], Err((10, 2))),
-        measure(Strip, &plan_a, &[3, 1], &[4, 5, 1], &[0, 0, 0], [200, 0, 1, 1]),
-        measure(Strip, &plan_a, &[0, 0], &[4, 5, 0], &[0, 0, 50], [450, -250, 2, 1]),
+        measure(Strip, &plan_a, &[3, 1], &[4, 5, 1], &[0, 0, 0], [200, 0, 1, 0, 1]),
+        measure(Strip, &plan_a, &[0, 0], &[4, 5, 0], &[0, 0, 50], [450, -250, 2, 0, 1]),
+        // a strip with a cell wrong and a cell unread at once
+        read(Strip, &plan_d0, &[5, 255, 4], &[0, 100, 1], Ok((&[5], [299, 1, 1, 1, 1]))),
+        measure(Strip, &plan_d0, &[5], &[5, 255, 4], &[0, 100, 1], [299, 1, 1, 1, 1]),
         // the buffer has not its length; a coefficient is p
         write(Mark, &plan_a, &[3, 1, 7], 8, Err(6)),
         write(Mark, &plan_a, &[3, 1, 7], 9, Err(9)),
         // total degree 2 with point 0, X^2 first and Y^2 last: 1 + 2 X^2 + 3 XY + 4 Y^2
         write(Mark, &plan(5, 3, 2, &[0, 1, 2]), &[1, 0, 0, 2, 3, 4], 9, Ok(&[1, 0, 2, 3, 0, 0, 4, 4, 2])),
         // the highest margin, and the lowest
-        read(Mark, &plan_16(0), &[7; 256], &[0; 256], Ok((&[7], [0, 25_600, 0, 0]))),
-        measure(Mark, &plan_16(15), &[0; 136], &[7; 256], &[0; 256], [51_200, -49_600, 256, 3]),
+        read(Mark, &plan_16(0), &[7; 256], &[0; 256], Ok((&[7], [0, 25_600, 0, 0, 0]))),
+        measure(Mark, &plan_16(15), &[0; 136], &[7; 256], &[0; 256], [51_200, -49_600, 256, 0, 3]),
+        // all cells unread, and all but one; sixteen wrong, seventeen right and the others unread
+        measure(Mark, &plan_16(15), &[0; 136], &[255; 256], &[100; 256], [25_600, -24_000, 0, 256, 0]),
+        measure(Strip, &plan_16(15), &[0; 16], &[255; 16], &[100; 16], [1_600, -1_500, 0, 16, 0]),
+        read(Mark, &plan_16(0), &one_read.0, &one_read.1, Ok((&[7], [25_500, 100, 0, 255, 0]))),
+        read(Mark, &plan_16(0), &few_read.0, &few_read.1, Ok((&[7], [25_500, 100, 16, 223, 3]))),
     ]
 }
 
@@ -89,11 +111,11 @@ fn plan_16(d: u8) -> Vec<u8> {
     plan(251, 16, d, &[0, 1, 2, 3, 5, 8, 13, 21, 34, 55, 89, 144, 233, 240, 249, 250])
 }
 
-/// The mark of case a with its first cells unread, and its doubts.
-fn unread(cells: usize) -> ([u8; 9], [u8; 9]) {
-    let (mut symbols, mut doubts) = (MARK, SURE);
-    symbols[..cells].fill(255);
-    doubts[..cells].fill(100);
+/// Symbols with some cells unread, and their doubts: 100 for these and 0 for the others.
+fn unread<const N: usize>(mut symbols: [u8; N], cells: Range<usize>) -> ([u8; N], [u8; N]) {
+    let mut doubts = [0; N];
+    symbols[cells.clone()].fill(255);
+    doubts[cells].fill(100);
     (symbols, doubts)
 }
 
@@ -107,8 +129,9 @@ fn given(code: Code, plan: &[u8]) -> Arguments {
     Arguments { code, plan: plan.to_vec(), record: empty(), symbols: empty(), doubts: empty(), mark: empty() }
 }
 
-fn said([cost, margin, changed, class]: [i32; 4]) -> Reading {
-    Reading { number: 0, cost: cost as u32, margin, changed: changed as u32, class: class as u32 }
+fn said([cost, margin, changed, unread, class]: [i32; 5]) -> Reading {
+    let [cost, changed, unread, class] = [cost, changed, unread, class].map(|number| number as u32);
+    Reading { number: 0, cost, margin, changed, unread, class }
 }
 
 fn check(plan: &[u8], number: u32) -> Row {
@@ -125,15 +148,15 @@ fn write(code: Code, plan: &[u8], record: &[u8], room: usize, result: Result<&[u
     Row { call: Call::Write, given, outcome }
 }
 
-/// The answer is D, margin, changed and class.
-fn measure(code: Code, plan: &[u8], record: &[u8], symbols: &[u8], doubts: &[u8], answer: [i32; 4]) -> Row {
+/// The answer is D, margin, changed, unread and class.
+fn measure(code: Code, plan: &[u8], record: &[u8], symbols: &[u8], doubts: &[u8], answer: [i32; 5]) -> Row {
     let outcome = Outcome { reading: said(answer), buffer: Vec::new() };
     let [record, symbols, doubts] = [record, symbols, doubts].map(<[u8]>::to_vec);
     Row { call: Call::Measure, given: Arguments { record, symbols, doubts, ..given(code, plan) }, outcome }
 }
 
 /// The record and its answer; or the refusal and the length of the buffer, which is then unchanged.
-type Said<'a> = Result<(&'a [u8], [i32; 4]), (u32, usize)>;
+type Said<'a> = Result<(&'a [u8], [i32; 5]), (u32, usize)>;
 
 fn read(code: Code, plan: &[u8], symbols: &[u8], doubts: &[u8], result: Said) -> Row {
     let outcome = match result {
