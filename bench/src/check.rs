@@ -6,7 +6,7 @@ use independent::{Code, Plan, Reading};
 use traymark::Refusal;
 use traymark_tests::calls::{expected, Arguments, Call, Outcome};
 use traymark_tests::counts::Counts;
-use traymark_tests::photo::{noise, photograph, rival};
+use traymark_tests::photo::{noise, photograph, rival, unread};
 use traymark_tests::plans;
 use traymark_tests::random::Random;
 use traymark_tests::run::Suite;
@@ -33,7 +33,7 @@ fn case(seed: u64, random: &mut Random, counts: &mut Counts) -> Result<(), Strin
     Ok(())
 }
 
-/// A record, its mark and a photograph that costs about the radius, or one of nothing.
+/// A record, its mark and a photograph that costs about the radius, or one of nothing, or one with all cells unread.
 fn arguments(plan: &Plan, random: &mut Random) -> Arguments {
     let code = Code::Mark;
     let record = plans::record(code, plan, random);
@@ -45,9 +45,10 @@ fn arguments(plan: &Plan, random: &mut Random) -> Arguments {
         1 => random.between(0, radius),
         _ => random.between(radius - 1, radius + 1),
     };
-    let photo = match random.one_in(8) {
-        true => noise(code, plan, random),
-        false => photograph(plan, &word, &rival, target, random),
+    let photo = match random.below(16) {
+        0 | 1 => noise(code, plan, random),
+        2 => unread(code, plan),
+        _ => photograph(plan, &word, &rival, target, random),
     };
     Arguments {
         code,

@@ -102,7 +102,13 @@ fn check() -> Result<(), String> {
     if counts.numbers[..=10].contains(&0) {
         return Err(format!("a number that was never answered: {:?}", counts.numbers));
     }
-    println!("ports: ok: {} calls, {} marks read or without a record", counts.calls, counts.marks);
+    if counts.mixed_marks < 500 {
+        return Err(format!("fewer than 500 marks read with changed and unread cells: {}", counts.mixed_marks));
+    }
+    println!(
+        "ports: ok: {} calls, {} marks read or without a record, {} with changed and unread cells",
+        counts.calls, counts.marks, counts.mixed_marks
+    );
     Ok(())
 }
 

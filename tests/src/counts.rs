@@ -11,6 +11,9 @@ pub struct Counts {
     /// marks and strips read, or refused with 10
     pub marks: u64,
     pub strips: u64,
+    /// marks and strips read with changed and unread cells at once
+    pub mixed_marks: u64,
+    pub mixed_strips: u64,
     /// photographs that cost R - 1, R and R + 1 against the mark that they are of
     pub below: u64,
     pub at: u64,
@@ -25,9 +28,16 @@ pub struct Counts {
 impl Counts {
     pub fn answer(&mut self, call: Call, code: Code, reading: Reading) {
         self.number(reading.number);
+        let mixed = u64::from(reading.changed > 0 && reading.unread > 0);
         match (call, code, reading.number) {
-            (Call::Read, Code::Mark, 0 | 10) => self.marks += 1,
-            (Call::Read, Code::Strip, 0 | 10) => self.strips += 1,
+            (Call::Read, Code::Mark, 0 | 10) => {
+                self.marks += 1;
+                self.mixed_marks += mixed;
+            }
+            (Call::Read, Code::Strip, 0 | 10) => {
+                self.strips += 1;
+                self.mixed_strips += mixed;
+            }
             _ => (),
         }
         if matches!(call, Call::Measure | Call::Read) && reading.number == 0 {
@@ -44,6 +54,8 @@ impl Counts {
         self.calls += other.calls;
         self.marks += other.marks;
         self.strips += other.strips;
+        self.mixed_marks += other.mixed_marks;
+        self.mixed_strips += other.mixed_strips;
         self.below += other.below;
         self.at += other.at;
         self.above += other.above;
@@ -57,6 +69,8 @@ impl Counts {
         [
             (self.marks < 50_000, "fewer than 50,000 marks"),
             (self.strips < 50_000, "fewer than 50,000 strips"),
+            (self.mixed_marks < 10_000, "fewer than 10,000 marks read with changed and unread cells"),
+            (self.mixed_strips < 5_000, "fewer than 5,000 strips read with changed and unread cells"),
             ([self.below, self.at, self.above].into_iter().any(|n| n < 5_000), "few costs around the radius"),
             (self.twice < 5_000, "few readings by both independent methods"),
             (self.numbers.contains(&0), "a number that was never answered"),
@@ -72,10 +86,13 @@ impl fmt::Display for Counts {
         let list = |counts: &[u64]| counts.iter().map(u64::to_string).collect::<Vec<_>>().join(" ");
         write!(
             f,
-            "{} calls, {} marks, {} strips; cost R - 1, R, R + 1: {} {} {}; both methods: {}; numbers: {}; classes: {}",
+            "{} calls, {} marks, {} strips; changed and unread at once: {} {}; cost R - 1, R, R + 1: {} {} {}; \
+             both methods: {}; numbers: {}; classes: {}",
             self.calls,
             self.marks,
             self.strips,
+            self.mixed_marks,
+            self.mixed_strips,
             self.below,
             self.at,
             self.above,

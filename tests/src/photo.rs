@@ -30,6 +30,8 @@ pub enum Harm {
     Error,
     /// unread, or of full doubt: 100
     Loss,
+    /// some of both
+    ErrorOrLoss,
     /// right with some doubt
     Doubt,
     /// wrong with some doubt
@@ -41,7 +43,8 @@ pub enum Harm {
 }
 
 const PLACES: [Place; 5] = [Place::Anywhere, Place::Rows, Place::Columns, Place::Corner, Place::Rival];
-const HARMS: [Harm; 6] = [Harm::Error, Harm::Loss, Harm::Doubt, Harm::DoubtfulError, Harm::Few, Harm::Any];
+const HARMS: [Harm; 7] =
+    [Harm::Error, Harm::Loss, Harm::ErrorOrLoss, Harm::Doubt, Harm::DoubtfulError, Harm::Few, Harm::Any];
 
 /// A way to damage a mark. Where `towards_rival` says so, wrong cells have the rival's value.
 #[derive(Clone, Copy, Debug)]
@@ -88,6 +91,12 @@ pub fn noise(code: Code, plan: &Plan, random: &mut Random) -> Photo {
     };
     let (symbols, doubts) = (0..code.cells(plan)).map(cell).unzip();
     Photo { symbols, doubts }
+}
+
+/// A photograph of which no cell was read.
+pub fn unread(code: Code, plan: &Plan) -> Photo {
+    let cells = code.cells(plan);
+    Photo { symbols: vec![UNREAD; cells], doubts: vec![FULL_DOUBT; cells] }
 }
 
 /// Another mark, or strip, at a small distance: the word plus a multiple of a product of d factors (X - x) and (Y - y).
@@ -158,6 +167,7 @@ fn harm_cost(harm: Harm, random: &mut Random) -> u32 {
     match harm {
         Harm::Error => 200,
         Harm::Loss => 100,
+        Harm::ErrorOrLoss => random.pick(&[100, 200]),
         Harm::Doubt => random.between(1, 99),
         Harm::DoubtfulError => random.between(101, 199),
         Harm::Few => random.pick(&[0, 1, 50, 99, 100, 101, 150, 199, 200]),
