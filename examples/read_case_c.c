@@ -19,8 +19,8 @@ int main(void)
         printf("REFUSED %" PRIu32 "\n", r.number);
         return 0;
     }
-    printf("READ %d %" PRIu32 " %" PRIu32 " %" PRIu32 " %" PRId32 "\n",
-           plan[0] * 256 + plan[1], r.changed, r.class_, r.cost, r.margin);
+    printf("READ %d %" PRIu32 " %" PRIu32 " %" PRIu32 " %" PRIu32 " %" PRId32 "\n",
+           plan[0] * 256 + plan[1], r.changed, r.unread, r.class_, r.cost, r.margin);
     printf("RECORD");
     for (size_t k = 0; k < sizeof record; k++)
         printf(" %d", record[k]);

@@ -11,9 +11,10 @@ fn main() {
     match traymark::read_mark(&plan, &symbols, &doubts, &mut record) {
         Ok(reading) => {
             println!(
-                "READ {} {} {} {} {}",
+                "READ {} {} {} {} {} {}",
                 u16::from_be_bytes([plan[0], plan[1]]),
                 reading.changed,
+                reading.unread,
                 reading.class,
                 reading.cost,
                 reading.margin

@@ -1,5 +1,5 @@
-//! The inputs: document 01's cases with what it says that they print, and others with what the independent decoder
-//! says.
+//! The inputs: document 01's cases and a few more with what they print, worked out by hand, and others with what the
+//! independent decoder says.
 
 use crate::printed::printed;
 use independent::calls::bytes;
@@ -18,6 +18,7 @@ pub struct Input {
 
 pub fn inputs() -> Vec<Input> {
     let mut inputs = documented();
+    inputs.extend(changed_and_unread());
     inputs.extend(lengths());
     inputs.extend(counts());
     inputs.extend(all_lengths());
@@ -47,7 +48,7 @@ fn case_c() -> Vec<u8> {
     joined(&[&plan_a(), &[0, 1, 5, 0, 2, 6, 2, 4, 0], &[0; 9]])
 }
 
-/// The reading cases, with the document's own words.
+/// The reading cases of document 01.
 #[rustfmt::skip]
 fn documented() -> Vec<Input> {
     let mark = [6, 1, 5, 0, 2, 6, 2, 4, 1];
@@ -72,17 +73,37 @@ fn documented() -> Vec<Input> {
         Input { name: format!("case {name}"), bytes, pieces, printed: printed.to_string() }
     };
     vec![
-        said("b", joined(&[&plan_a(), &mark, &[0; 9]]), 1, "READ 12 0 0 0 600\nRECORD 3 1 2\n"),
-        said("c", case_c(), 1, "READ 12 2 1 400 200\nRECORD 3 1 2\n"),
-        said("c in pieces", case_c(), 6, "READ 12 2 1 400 200\nRECORD 3 1 2\n"),
+        said("b", joined(&[&plan_a(), &mark, &[0; 9]]), 1, "READ 12 0 0 0 0 600\nRECORD 3 1 2\n"),
+        said("c", case_c(), 1, "READ 12 2 0 1 400 200\nRECORD 3 1 2\n"),
+        said("c in pieces", case_c(), 6, "READ 12 2 0 1 400 200\nRECORD 3 1 2\n"),
         said("d", three_wrong(0), 1, "REFUSED 10\n"),
-        said("e", three_wrong(1), 1, "READ 12 3 1 597 3\nRECORD 3 1 2\n"),
-        said("f", unread(5), 1, "READ 12 5 2 500 100\nRECORD 3 1 2\n"),
+        said("e", three_wrong(1), 1, "READ 12 3 0 1 597 3\nRECORD 3 1 2\n"),
+        said("f", unread(5), 1, "READ 12 0 5 0 500 100\nRECORD 3 1 2\n"),
         said("g", unread(6), 1, "REFUSED 10\n"),
-        said("h", small(1, 0, &[0], &[1, 99]), 1, "READ 12 0 0 99 1\nRECORD 1\n"),
+        said("h", small(1, 0, &[0], &[1, 99]), 1, "READ 12 0 0 0 99 1\nRECORD 1\n"),
         said("i", small(1, 0, &[0], &[1, 100]), 1, "REFUSED 10\n"),
         said("j", small(2, 1, &[0, 1], &[1, 0, 0, 0, 0, 0, 0, 0]), 1, "REFUSED 10\n"),
     ]
+}
+
+/// A cell wrong and a cell unread; a cell unread where the mark is 0; a hundred cells wrong and a hundred unread.
+fn changed_and_unread() -> Vec<Input> {
+    let plan = Plan { season: 65_535, p: 251, degree: 0, points: (0..16).collect() };
+    let hundreds = joined(&[&plan.bytes(), &[1; 100], &[255; 100], &[250; 56], &[100; 200], &[0; 56]]);
+    let mixed = joined(&[&plan_a(), &[0, 255, 5, 0, 2, 6, 2, 4, 1], &[0, 100, 0, 0, 0, 0, 0, 0, 0]]);
+    let no_zero = joined(&[&plan_a(), &[6, 1, 5, 255, 2, 6, 2, 4, 1], &[0, 0, 0, 100, 0, 0, 0, 0, 0]]);
+    let said = |(name, bytes, printed): (&str, Vec<u8>, &str)| Input {
+        name: name.to_string(),
+        bytes,
+        pieces: 1,
+        printed: printed.to_string(),
+    };
+    let inputs = [
+        ("a cell wrong and a cell unread", mixed, "READ 12 1 1 1 300 300\nRECORD 3 1 2\n"),
+        ("unread where the mark is 0", no_zero, "READ 12 0 1 0 100 500\nRECORD 3 1 2\n"),
+        ("a hundred wrong, a hundred unread", hundreds, "READ 65535 100 100 3 20000 5600\nRECORD 250\n"),
+    ];
+    inputs.map(said).into()
 }
 
 /// Case c cut short or with more bytes after it.

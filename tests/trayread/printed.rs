@@ -20,9 +20,10 @@ fn read(input: &[u8]) -> Result<String, u32> {
     }
     let coefficients: Vec<String> = record.iter().map(u8::to_string).collect();
     Ok(format!(
-        "READ {} {} {} {} {}\nRECORD {}\n",
+        "READ {} {} {} {} {} {}\nRECORD {}\n",
         plan.season,
         reading.changed,
+        reading.unread,
         reading.class,
         reading.cost,
         reading.margin,
