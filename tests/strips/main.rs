@@ -65,6 +65,7 @@ fn line(case: &[u8; 56], p: u32, n: usize, d: usize) -> String {
     let mut record = vec![0; d + 1];
     let r = read(Code::Strip, &case[..24], &case[24..24 + n], &case[40..40 + n], &mut record);
     let coefficients: Vec<String> = record.iter().map(u8::to_string).collect();
-    let told = format!("D {}, margin {}, changed {}, class {}", r.cost, r.margin, r.changed, r.class);
-    format!("p {p} n {n} d {d}: number {}, {told}, {}", r.number, coefficients.join(" "))
+    let sums = format!("D {}, margin {}", r.cost, r.margin);
+    let counts = format!("changed {}, unread {}, class {}", r.changed, r.unread, r.class);
+    format!("p {p} n {n} d {d}: number {}, {sums}, {counts}, {}", r.number, coefficients.join(" "))
 }
