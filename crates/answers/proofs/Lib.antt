@@ -1,2 +1,4 @@
 -- The laws of the answers.
 pub mod Difference
+pub mod Unread
+pub mod Summary

@@ -1,40 +1,44 @@
-// What calls answer of a record: its changed cells, the unread ones, the class, the margin, and the readings that they return.
+// What calls answer of a record: how many cells are unread, the class of a changed count, the margin, and the readings that they
+// return.
 use definitions::UNREAD;
 ghost use mathlib.Core.Path.{_≡_};
 ghost use Prim.Native.Nat.{_≤_, _<_};
 ghost use lib.ListN.{length};
-ghost use Rattle.bounded.specs.Bounded.{at};
 ghost use Rattle.definitions.specs.Calls.{refused as refusedWith};
-ghost use Rattle.definitions.specs.Cost.{changedCell, unreadCell, unreadCells, margin as marginOf, class};
-ghost use Rattle.answers.specs.Summary.{summary};
-
-// 1 for a cell that was read and is not right.
-pub fn cell_changed(symbol: u8, right: bool) -> u16
-    ensures { λ r. ⌜ (r ≡ changedCell symbol right) × (r ≤ 1) ⌝ }
-{
-    if symbol == UNREAD {
-        return 0;
-    }
-    if right { 0 } else { 1 }
-}
+ghost use Rattle.definitions.specs.Cost.{unreadCell, margin as marginOf, class};
+ghost use Rattle.answers.specs.Summary.{unreadIn, summary};
 
 // 1 for a cell that was not read.
-fn cell_unread(symbol: u8) -> u16
+fn cell_unread(symbol: u8) -> u8
     ensures { λ r. ⌜ (r ≡ unreadCell symbol) × (r ≤ 1) ⌝ }
 {
     if symbol == UNREAD { 1 } else { 0 }
 }
 
-// How many cells were not read. 16 bits have the count, which takes half the work of 32.
-fn unread_cells(symbols: &[u8]) -> u32
-    requires { ⌜ length (now symbols) ≤ 65535 ⌝ }
-    ensures { λ r. ⌜ r ≡ unreadCells (length (now (symbols .entry))) (at (now (symbols .entry))) ⌝ }
+// How many cells of a part were not read. A byte has the count, so that sixteen cells are counted at once.
+fn unread_in_part(symbols: &[u8]) -> u8
+    requires { ⌜ length (now symbols) ≤ 255 ⌝ }
+    ensures { λ r. ⌜ (r ≡ unreadIn (now (symbols .entry))) × (r ≤ length (now (symbols .entry))) ⌝ }
 {
-    let mut count = 0u16;
+    let mut count = 0u8;
     for i in 0..symbols.len() {
         count += cell_unread(symbols[i]);
     }
-    count as u32
+    count
+}
+
+// How many cells were not read, part by part.
+fn unread_cells(symbols: &[u8]) -> u32
+    requires { ⌜ length (now symbols) ≤ 65535 ⌝ }
+    ensures { λ r. ⌜ r ≡ unreadIn (now (symbols .entry)) ⌝ }
+{
+    let mut count = 0;
+    let mut at = 0;
+    while symbols.len() - at > 128 {
+        count += unread_in_part(&symbols[at..at + 128]) as u32;
+        at += 128;
+    }
+    count + unread_in_part(&symbols[at..]) as u32
 }
 
 // The class of a changed count.
@@ -58,13 +62,16 @@ pub fn margin(radius: u32, cost: u32) -> i32
     (radius as i32) - (cost as i32)
 }
 
-// The reading of a record with this cost and changed count, against these symbols.
-pub fn reading(radius: u32, cost: u32, changed: u32, symbols: &[u8]) -> definitions::Reading
-    requires { ⌜ (radius < 2147483648) × (cost < 2147483648) × (length (now symbols) ≤ 65535) ⌝ }
-    ensures { λ r. ⌜ r ≡ summary radius cost changed (now (symbols .entry)) ⌝ }
+// The reading of a record with this cost, where so many cells differ from its mark. Those that were not read are counted apart;
+// the others are changed.
+pub fn reading(radius: u32, cost: u32, differing: u32, symbols: &[u8]) -> definitions::Reading
+    requires { ⌜ (radius < 2147483648) × (cost < 2147483648) × (length (now symbols) ≤ 65535)
+        × (unreadIn (now symbols) ≤ differing) ⌝ }
+    ensures { λ r. ⌜ r ≡ summary radius cost differing (now (symbols .entry)) ⌝ }
 {
     let margin = margin(radius, cost);
     let unread = unread_cells(symbols);
+    let changed = differing - unread;
     let class = class_of(changed);
     definitions::Reading {
         number: 0,

@@ -7,6 +7,7 @@ pub mod Plan
 pub mod Photograph
 pub mod Nearest
 pub mod Demands
+pub mod Counts
 pub mod Own
 pub mod Margin
 pub mod Published

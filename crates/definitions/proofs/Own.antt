@@ -1,7 +1,7 @@
 -- A record against its own mark with all doubts 0.
 --
 --   own-cost                  it costs 0
---   own-changed, own-unread   no cell is changed, and none is unread
+--   own-differing             no cell differs
 --   own-reading               so its reading is clean
 --   own-photo                 the mark is a photograph of the plan
 --   radius-positive           the radius is above 0
@@ -9,40 +9,29 @@
 --
 -- What this file is for: demand 2 follows from demand 3. Assumes nothing.
 use mathlib.Core.Path.{_≡_, refl, ap, _∙_}
-use mathlib.Core.Logic.{_≢_, inl}
-use mathlib.Core.Bool.{Bool, true, false, cond}
+use mathlib.Core.Logic.{inl}
+use mathlib.Core.Bool.{true}
 use mathlib.Core.List.{List}
 use Prim.Native.Nat.{ℕ, _-_, _<_}
 use native.Mathlib.Omega.{arith}
-use native.Mathlib.Nat.{add-zero, mod-lt, mul-le-mul}
+use native.Mathlib.Nat.{add-zero, mul-le-mul}
 use lib.Dec.{eqb}
 use lib.IntN.{pos}
 use lib.ListN.{length-replicate}
-use borrow.Author.Tests.{eq-eqb, ne-eqb}
+use borrow.Author.Tests.{eq-eqb}
 use Rattle.bounded.specs.Bounded.{at, sum}
 use Rattle.bounded.proofs.Sum.{sum-eq, sum-const}
 use Rattle.bounded.proofs.Tab.{length-tab, tab-at, zeros-at}
-use Rattle.definitions.specs.Plan.{modulus, side, degree}
+use Rattle.definitions.specs.Plan.{side, degree}
 use Rattle.definitions.specs.Code.{Code, strip, square, cells, value, mark}
-use Rattle.polynomial.specs.Record.{valueX, valueXY}
-use Rattle.definitions.specs.Cost.{full, unread, changedCell, radius, margin}
-use Rattle.distance.specs.Cost.{cell}
+use Rattle.definitions.specs.Cost.{full, radius, margin}
+use Rattle.distance.specs.Cost.{cell, hamming}
 use Rattle.definitions.specs.Calls.{costOf, changedOf, unreadOf, readingOf, readReading, readBuffer}
 use Rattle.definitions.specs.Code.{IsRecord}
 use Rattle.definitions.specs.Sound.{Sound}
 use Rattle.definitions.specs.Photograph.{Photograph, sure}
 use Rattle.definitions.specs.Demands.{Nearest, clean}
-
-none : (n : ℕ) → sum n (λ c. 0) ≡ 0
-none n = sum-const n 0 ∙ omega arith
-
--- a cell whose symbol is right is not changed
-right : (s : ℕ) → changedCell s true ≡ 0
-right s = go (eqb s unread)
-  where
-    go : (b : Bool) → _≡_ {A = ℕ} (cond b 0 0) 0
-    go true = refl
-    go false = refl
+use Rattle.definitions.proofs.Counts.{value-below, differing-split}
 
 module _ (C : Code) (P F : List ℕ) where
   mark-at : (c : ℕ) → c < cells C P → at (mark C P F) c ≡ value C P F c
@@ -58,36 +47,31 @@ module _ (C : Code) (P F : List ℕ) where
       own : (c : ℕ) → c < cells C P → cell full (at (mark C P F) c) (at (sure (cells C P)) c) (value C P F c) ≡ 0
       own c l = rw (equal c l) (zeros-at (cells C P) c)
 
-  pub own-changed : changedOf C P (mark C P F) F ≡ 0
-  own-changed = sum-eq (cells C P) {g = λ c. 0} (λ c l. rw (equal c l) (right (at (mark C P F) c))) ∙ none (cells C P)
+      none : (n : ℕ) → sum n (λ c. 0) ≡ 0
+      none n = sum-const n 0 ∙ omega arith
+
+  pub own-differing : hamming (cells C P) (at (mark C P F)) (value C P F) ≡ 0
+  own-differing = sum-eq (cells C P) {g = λ c. 0} (λ c l. rw (equal c l)) ∙ sum-const (cells C P) 0 ∙ omega arith
 
 module _ (P : List ℕ) (S : Sound P) where
-  value-below : (C : Code) (F : List ℕ) (c : ℕ) → value C P F c < modulus P
-  unfolding valueX valueXY
-  value-below strip F c = mod-lt _ (omega (arith, S .prime .least))
-  value-below square F c = mod-lt _ (omega (arith, S .prime .least))
-
-  -- no value is the symbol of an unread cell
-  read : (C : Code) (F : List ℕ) (c : ℕ) → c < cells C P → at (mark C P F) c ≢ unread
-  read C F c l z = omega (arith, z, mark-at C P F c l, value-below C F c, S .small)
-
   pub own-photo : (C : Code) (F : List ℕ) → Photograph C P (mark C P F) (sure (cells C P))
   unfolding mark
   own-photo C F = record {
     sound = S;
     symbols = length-tab (cells C P) (value C P F);
     doubts = length-replicate {A = ℕ} (cells C P) 0;
-    symbol = λ c l. inl (rw (mark-at C P F c l) (value-below C F c));
+    symbol = λ c l. inl (rw (mark-at C P F c l) (value-below S C F c));
     doubt = λ c l. omega (arith, zeros-at (cells C P) c);
-    erased = λ c l z. absurd (read C F c l z);
+    erased = λ c l z. absurd (omega (arith, z, mark-at C P F c l, value-below S C F c, S .small));
   }
-
-  pub own-unread : (C : Code) (F : List ℕ) → unreadOf C P (mark C P F) ≡ 0
-  own-unread C F = sum-eq (cells C P) {g = λ c. 0} (λ c l. rw (ne-eqb _ _ (read C F c l))) ∙ none (cells C P)
 
   pub own-reading : (C : Code) (F : List ℕ) → readingOf C P (mark C P F) (sure (cells C P)) F ≡ clean C P
   unfolding readingOf margin
-  own-reading C F = rw (own-cost C P F, own-changed C P F, own-unread C F)
+  own-reading C F =
+      let split = differing-split S C (mark C P F) F in
+      let changed : changedOf C P (mark C P F) F ≡ 0 = omega (arith, split, own-differing C P F) in
+      let unread : unreadOf C P (mark C P F) ≡ 0 = omega (arith, split, own-differing C P F) in
+      rw (own-cost C P F, changed, unread)
       (ap (λ m. record { number = 0; cost = 0; margin = pos m; changed = 0; unread = 0; class = 0 }) (add-zero (radius full C P)))
 
   pub radius-positive : (C : Code) → 0 < radius full C P

@@ -2,7 +2,7 @@
 -- `distance` (specs/Cost.antt), with the full doubt 100; an unread cell is an erasure.
 --
 --   full, unread           the full doubt of a photograph, and the symbol of an unread cell
---   changedCell s right    1 for a cell with the symbol s that was read and is not right
+--   changedCell s v        1 for a cell that was read and whose symbol s is not the value v
 --   unreadCell s           1 for a cell that was not read
 --   changed n s v          how many of n cells were read and have another symbol than the value
 --   unreadCells n s        how many of n cells were not read
@@ -11,12 +11,13 @@
 --   class n                by changed count: 0; 1 to 3; 4 to 15; 16 and more
 --
 -- What this file is for: how far is too far, and what is said of a record beside its cost.
-use mathlib.Core.Bool.{Bool, cond}
+use mathlib.Core.Bool.{cond}
 use mathlib.Core.List.{List}
 use Prim.Native.Nat.{ℕ, _*_, _-_}
 use lib.Dec.{eqb, ltb}
 use lib.IntN.{ℤ, pos, _-ℤ_}
 use Rattle.bounded.specs.Bounded.{sum}
+use Rattle.distance.specs.Cost.{differ}
 use Rattle.definitions.specs.Plan.{side, degree}
 use Rattle.definitions.specs.Code.{Code, strip, square}
 
@@ -26,14 +27,14 @@ full = 100
 abbrev pub unread : ℕ
 unread = 255
 
-abbrev pub changedCell : (s : ℕ) (right : Bool) → ℕ
-changedCell s right = cond (eqb s unread) 0 (cond right 0 1)
+abbrev pub changedCell : (s v : ℕ) → ℕ
+changedCell s v = cond (eqb s unread) 0 (differ s v)
 
 abbrev pub unreadCell : ℕ → ℕ
 unreadCell s = cond (eqb s unread) 1 0
 
 abbrev pub changed : (n : ℕ) (s v : ℕ → ℕ) → ℕ
-changed n s v = sum n λ c. changedCell (s c) (eqb (s c) (v c))
+changed n s v = sum n λ c. changedCell (s c) (v c)
 
 abbrev pub unreadCells : (n : ℕ) (s : ℕ → ℕ) → ℕ
 unreadCells n s = sum n λ c. unreadCell (s c)

@@ -5,10 +5,11 @@ ghost use Rattle.bounded.specs.Bounded.{at};
 ghost use Rattle.distance.specs.Cost.{cell, cost, differ, hamming};
 ghost use Rattle.distance.specs.Doubts.{Doubts};
 
-// What one cell costs: its doubt where its symbol is the value, else twice the full doubt less its doubt.
+// What one cell costs: its doubt where its symbol is the value, else twice the full doubt less its doubt. The full doubt is a
+// number of 16 bits, so that a cell costs less than 2 * 65536 = 131072, and n cells at most n times that.
 pub fn cell_cost(symbol: u16, doubt: u32, value: u16, full: u32) -> u32
     requires { ⌜ (doubt ≤ full) × (full < 65536) ⌝ }
-    ensures { λ r. ⌜ (r ≡ cell full symbol doubt value) × (r ≤ 2 * full) ⌝ }
+    ensures { λ r. ⌜ (r ≡ cell full symbol doubt value) × (r ≤ 131072) ⌝ }
 {
     if symbol == value {
         return doubt;
@@ -16,7 +17,7 @@ pub fn cell_cost(symbol: u16, doubt: u32, value: u16, full: u32) -> u32
     2 * full - doubt
 }
 
-// What the n values cost. The full doubt is a number of 16 bits, so that a cell costs less than 2 * 65536 = 131072.
+// What the n values cost.
 pub fn word_cost(
     n: usize,
     symbols: [u16; 16],

@@ -4,7 +4,6 @@
 --   measured-more    one row more
 --   measured-part    a part of the lent bytes
 --   strip-measured, mark-measured   what was measured by the plan's struct
---   reading-is       the reading that it comes to
 --
 -- What this file is for: rows are measured one by one, and the answer is of the whole mark. Assumes nothing.
 use mathlib.Core.Path.{_≡_, refl, sym, ap₂, _∙_}
@@ -12,22 +11,19 @@ use mathlib.Core.List.{List}
 use Prim.Native.Nat.{ℕ, _+_, _*_, _-_, _≤_, _<_}
 use native.Mathlib.Numerals.{add-one}
 use native.Mathlib.Nat.{suc-mul}
-use lib.Dec.{eqb}
 use lib.ListN.{length, take, drop}
 use Rattle.bounded.specs.Bounded.{at}
 use Rattle.bounded.proofs.Sum.{sum-eq, sum-append}
 use Rattle.bounded.proofs.Part.{part-at, part-length}
 use Rattle.polynomial.specs.Record.{gridValue}
-use Rattle.distance.specs.Cost.{cell}
+use Rattle.distance.specs.Cost.{cell, differ}
 use Rattle.definitions.specs.Plan.{side}
-use Rattle.definitions.specs.Code.{Code, strip, square, cells, value}
-use Rattle.definitions.specs.Cost.{full, changedCell, radius}
-use Rattle.definitions.specs.Calls.{readingOf}
+use Rattle.definitions.specs.Code.{strip, square, cells, value}
+use Rattle.definitions.specs.Cost.{full}
 use Rattle.definitions.specs.Photograph.{Photograph}
 use Rattle.plan.specs.declared.Plan.{Plan}
 use Rattle.plan.specs.Says.{Says}
 use Rattle.plan.proofs.Values.{mark-value}
-use Rattle.answers.specs.Summary.{summary}
 use Rattle.measuring.specs.Measured.{Measured}
 
 pub measured-eq : {f n D k : ℕ} {s s′ u u′ v v′ : ℕ → ℕ} → ((i : ℕ) → i < n → s i ≡ s′ i) → ((i : ℕ) → i < n → u i ≡ u′ i) →
@@ -49,7 +45,7 @@ pub measured-more : {f : ℕ} (n r : ℕ) {D E k j : ℕ} (s u v : ℕ → ℕ) 
     Measured f ((r + 1) * n) s u v (D + E) (k + j)
 measured-more {f} n r s u v a b = rw (add-one r, suc-mul r n) (record {
   sum = ap₂ _+_ (a .sum) (b .sum) ∙ sym (sum-append (r * n) n λ i. cell f (s i) (u i) (v i));
-  count = ap₂ _+_ (a .count) (b .count) ∙ sym (sum-append (r * n) n λ i. changedCell (s i) (eqb (s i) (v i)));
+  count = ap₂ _+_ (a .count) (b .count) ∙ sym (sum-append (r * n) n λ i. differ (s i) (v i));
 })
 
 pub strip-measured : {P s u : List ℕ} {plan : Plan} {v w : ℕ → ℕ} {D k : ℕ} → Photograph strip P s u → Says P plan →
@@ -63,8 +59,3 @@ pub mark-measured : {P : List ℕ} {plan : Plan} {s u : ℕ → ℕ} {D k : ℕ}
     Measured full (cells square P) s u (value square P F) D k
 mark-measured says F m =
     measured-eq (λ i l. refl) (λ i l. refl) (λ i l. rw (says .fields) at (mark-value says F i l)) (rw (says .fields) at m)
-
-pub reading-is : (C : Code) (P s u F : List ℕ) {R D k : ℕ} → R ≡ radius full C P → length s ≡ cells C P →
-    Measured full (cells C P) (at s) (at u) (value C P F) D k → summary R D k s ≡ readingOf C P s u F
-unfolding readingOf
-reading-is C P s u F e n m = rw (e, n, m .sum, m .count)

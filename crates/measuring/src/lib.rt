@@ -1,4 +1,4 @@
-// What a record costs against a photograph, and how many cells it changes, where nothing is refused.
+// What a record costs against a photograph, and in how many cells its mark differs, where nothing is refused.
 use definitions::Reading;
 use distance::word;
 use field::bytes;
@@ -35,7 +35,7 @@ pub fn measure_mark(plan: Plan, record: &[u8], symbols: &[u8], doubts: &[u8]) ->
     let columns = bivariate::columns(record, &powers, g.d, g.p, g.m);
     let tally = measure_rows(g, &columns, &powers, symbols, doubts);
     let radius = limit::radius(g);
-    answers::reading(radius, tally.cost, tally.changed, symbols)
+    answers::reading(radius, tally.cost, tally.differing, symbols)
 }
 
 // The same against a strip, over the row points.
@@ -51,16 +51,17 @@ pub fn measure_strip(plan: Plan, record: &[u8], symbols: &[u8], doubts: &[u8]) -
     let values = evaluation::values(&xs, g.d, bytes::row(record), g.p, g.m);
     let tally = measure_row(symbols, doubts, values, g.full);
     let radius = word::radius(g.full, 1, g.a, g.d);
-    answers::reading(radius, tally.cost, tally.changed, symbols)
+    answers::reading(radius, tally.cost, tally.differing, symbols)
 }
 
-// The cost and the changed count of some cells.
+// The cost of some cells, and how many of them differ from the record's mark, as an unread cell does.
 struct Tally {
     cost: u32,
-    changed: u32,
+    differing: u32,
 }
 
-// Those of the mark's cells, row by row: at most sixteen rows. X was put in for all rows at once, which gave the columns.
+// Those of the mark's cells, row by row: at most sixteen rows, each of a cost of at most 2,097,152. X was put in for all rows at
+// once, which gave the columns.
 fn measure_rows(
     g: Grid,
     columns: &[[u16; 16]; 16],
@@ -68,45 +69,41 @@ fn measure_rows(
     symbols: &[u8],
     doubts: &[u8],
 ) -> Tally
-    requires { ⌜ Fit g × (g .full ≤ 255) × Rows (g .p) (now columns) × Rows (g .p) (now ys) × (length (now symbols) ≡ g .a * g .b)
+    requires { ⌜ Fit g × Rows (g .p) (now columns) × Rows (g .p) (now ys) × (length (now symbols) ≡ g .a * g .b)
         × (length (now doubts) ≡ g .a * g .b) × Doubts (g .full) (g .a * g .b) (at (now doubts)) ⌝ }
-    ensures { λ t. ⌜ (t .cost ≤ 130560) × ((x y F : List ℕ) → Columns (g .p) (g .d) x F (now (columns .entry)) →
+    ensures { λ t. ⌜ (t .cost ≤ 33554432) × ((x y F : List ℕ) → Columns (g .p) (g .d) x F (now (columns .entry)) →
         Powers (g .p) y (g .d) (now (ys .entry)) → Measured (g .full) (g .a * g .b) (at (now (symbols .entry)))
-        (at (now (doubts .entry))) (gridValue (g .p) (g .d) (g .b) (at x) (at y) F) (t .cost) (t .changed)) ⌝ }
+        (at (now (doubts .entry))) (gridValue (g .p) (g .d) (g .b) (at x) (at y) F) (t .cost) (t .differing)) ⌝ }
 {
     let a = g.a;
     let b = g.b;
     let mut cost = 0;
-    let mut changed = 0;
+    let mut differing = 0;
     for r in 0..a {
         let values = bivariate::row_values(columns, ys, r, g.d, g.p, g.m);
         let at = r * b;
         let end = at + b;
         let tally = measure_row(&symbols[at..end], &doubts[at..end], values, g.full);
         cost += tally.cost;
-        changed += tally.changed;
+        differing += tally.differing;
     }
-    Tally { cost, changed }
+    Tally { cost, differing }
 }
 
-// Those of the cells of a row, or of a strip. The full doubt is a byte's, so that sixteen cells cost at most 16 * 2 * 255 = 8160:
-// 16 bits have it, which takes half the work of 32.
+// Those of the cells of a row, or of a strip: at most sixteen cells, of which each costs at most 131,072 (`cell_cost`).
 fn measure_row(symbols: &[u8], doubts: &[u8], values: [u16; 16], full: u32) -> Tally
-    requires { ⌜ (length (now symbols) ≤ 16) × (length (now doubts) ≡ length (now symbols)) × (full ≤ 255)
+    requires { ⌜ (length (now symbols) ≤ 16) × (length (now doubts) ≡ length (now symbols)) × (full < 65536)
         × Doubts full (length (now symbols)) (at (now doubts)) ⌝ }
     ensures { λ t. ⌜ Measured full (length (now (symbols .entry))) (at (now (symbols .entry))) (at (now (doubts .entry)))
-        (at values) (t .cost) (t .changed) × (t .cost ≤ 8160) × (t .changed ≤ 16) ⌝ }
+        (at values)
+        (t .cost) (t .differing) × (t .cost ≤ 2097152) × (t .differing ≤ 16) ⌝ }
 {
-    let mut cost = 0u16;
-    let mut changed = 0u16;
+    let mut cost = 0;
+    let mut differing = 0;
     for j in 0..symbols.len() {
-        let symbol = symbols[j];
-        let seen = symbol as u16;
-        cost += word::cell_cost(seen, doubts[j] as u32, values[j], full) as u16;
-        changed += answers::cell_changed(symbol, seen == values[j]);
+        let symbol = symbols[j] as u16;
+        cost += word::cell_cost(symbol, doubts[j] as u32, values[j], full);
+        differing += word::differs(symbol, values[j]);
     }
-    Tally {
-        cost: cost as u32,
-        changed: changed as u32,
-    }
+    Tally { cost, differing }
 }

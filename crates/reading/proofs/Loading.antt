@@ -1,10 +1,9 @@
 -- Photographs as the readers take and load them.
 --
---   taken             where refusals 1 to 8 do not apply, a photograph was taken
---   negated           what a test `!b` says of b
---   residue-below     a loaded symbol is below the modulus
---   residue-loaded    and stands for the symbol that was lent
---   residue-changed   a cell that was read is changed where its residue is not the value
+--   taken            where refusals 1 to 8 do not apply, a photograph was taken
+--   negated          what a test `!b` says of b
+--   residue-below    a loaded symbol is below the modulus
+--   residue-loaded   and stands for the symbol that was lent
 --
 -- What this file is for: from the checks' number to what the readers ask. Assumes nothing.
 use mathlib.Core.Path.{_≡_, refl, ap}
@@ -16,7 +15,7 @@ use lib.Dec.{eqb}
 use borrow.Author.Tests.{eqb-true, eqb-false}
 use Rattle.definitions.specs.Refusals.{first}
 use Rattle.definitions.specs.Code.{Code}
-use Rattle.definitions.specs.Cost.{full, unread, changedCell}
+use Rattle.definitions.specs.Cost.{full, unread}
 use Rattle.definitions.specs.Calls.{photoRows}
 use Rattle.definitions.proofs.Photograph.{accepted-photo, accepted-buffer}
 use Rattle.distance.specs.Loaded.{Loaded}
@@ -45,10 +44,3 @@ residue-loaded v u h = record { doubt = refl; symbol = go (eqb v unread) refl }
     go : (b : Bool) → eqb v unread ≡ b → (cond b 0 v ≡ v) ⊎ (u ≡ full)
     go true e = inr (h (eqb-true v unread e))
     go false e = inl refl
-
-pub residue-changed : (s v : ℕ) → changedCell s (eqb (residue s) v) ≡ changedCell s (eqb s v)
-residue-changed s v = go (eqb s unread)
-  where
-    go : (b : Bool) → _≡_ {A = ℕ} (cond b 0 (cond (eqb (cond b 0 s) v) 0 1)) (cond b 0 (cond (eqb s v) 0 1))
-    go true = refl
-    go false = refl

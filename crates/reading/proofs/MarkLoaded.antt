@@ -5,12 +5,13 @@
 --   mark-received   what is loaded is what the mark decoder takes
 --   mark-refused    its outcome over the radius is refusal 10
 --   message-small   under the radius the numbers of its message are bytes
+--   mark-unread     of the cells that differ from its mark, those that were not read are some
 --   mark-reading    and the message, stored, is the reading of the one record within the radius
 --
 -- What this file is for: reading a mark is the reading that document 01 defines. Assumes nothing.
 use mathlib.Core.Path.{_≡_, refl, sym, ap, _∙_}
 use mathlib.Core.Logic.{_⊎_, inl}
-use mathlib.Core.Bool.{true}
+use mathlib.Core.Bool.{true, cond}
 use mathlib.Core.List.{List}
 use Prim.Native.Nat.{ℕ, suc, _+_, _*_, _-_, _%_, _^_, _≤_, _<_}
 use native.Mathlib.Omega.{arith}
@@ -27,10 +28,10 @@ use Rattle.field.specs.Row.{row}
 use Rattle.field.proofs.Congruence.{same, ~add, mod-cong, _⨾_}
 use Rattle.field.proofs.Row.{row-at, row-of, beyond}
 use Rattle.definitions.specs.Plan.{modulus, side, degree, point}
-use Rattle.definitions.specs.Code.{square, size, value}
+use Rattle.definitions.specs.Code.{square, size, cells, value}
 use Rattle.polynomial.specs.Record.{start}
-use Rattle.definitions.specs.Cost.{full, unread, changedCell, radius}
-use Rattle.definitions.specs.Calls.{changedOf, refused, readingOf}
+use Rattle.definitions.specs.Cost.{full, unread, radius}
+use Rattle.definitions.specs.Calls.{refused}
 use Rattle.definitions.specs.Reads.{Reads}
 use Rattle.polynomial.specs.Eval.{eval}
 use Rattle.polynomial.specs.Record.{coef, onRow}
@@ -44,16 +45,18 @@ use Rattle.plan.specs.declared.Plan.{Plan}
 use Rattle.plan.specs.Says.{said, Says}
 use Rattle.plan.proofs.Ready.{point-at}
 use Rattle.plan.proofs.Values.{mark-radius}
-use Rattle.answers.specs.Summary.{summary}
+use Rattle.distance.specs.Cost.{hamming}
+use Rattle.answers.specs.Summary.{unreadIn, summary}
+use Rattle.answers.proofs.Summary.{unread-within, summary-is}
 use Rattle.grid.specs.Axes.{DoubtRows}
 use Rattle.grid.specs.Loops.{cellAt}
 use Rattle.reed_muller.specs.Mark.{LoadedGrid}
 use Rattle.reed_muller.specs.Outcome.{Outcome, under}
 use Rattle.reading.proofs.MarkReading.{mark-none, mark-record, mark-cost, mark-found}
 use Rattle.reading.specs.Loading.{residue, gridCell, SymbolRows, DoubtLines, Taken}
-use Rattle.reading.specs.Changed.{changedRows}
+use Rattle.reading.specs.Differing.{flag, differingCells}
 use Rattle.reading.proofs.Loading.{residue-below, residue-loaded}
-use Rattle.reading.proofs.Square.{cell-at, left-changed}
+use Rattle.reading.proofs.Square.{cell-at, flag-differ}
 
 -- a record has a byte at least, and at most as many as a message has numbers
 pub record-room : {P s u B : List ℕ} → Taken square P s u B → (0 < length B) × (length B ≤ 136)
@@ -153,26 +156,29 @@ module _ {P s u B : List ℕ} {left u′ : List (List ℕ)} (t : Taken square P 
           (sum-eq (suc (degree P)) λ k a. ap (λ e. e * point P c ^ k)
           (sum-eq (suc (degree P - k)) λ i b. ap (λ e. e * point P r ^ i) (coefficients k i (omega arith)))))
 
-      cell-changed : (r c : ℕ) → r < side P → c < side P →
-          changedCell (gridCell (side P) s r c) (eqb (cellAt after r c) 0)
-          ≡ changedCell (at s (r * side P + c)) (eqb (at s (r * side P + c)) (value square P W (r * side P + c)))
-      cell-changed r c l m =
+      cell-differs : (r c : ℕ) → r < side P → c < side P →
+          _≡_ {A = ℕ} (cond (eqb (flag (gridCell (side P) s r c) (cellAt after r c)) 0) 0 1)
+          (cond (eqb (at s (r * side P + c)) (value square P W (r * side P + c))) 0 1)
+      cell-differs r c l m =
           let R = D .remains (found h) in
           rw (cell-at (side P) s r c m, value-at r c l m)
-          (left-changed (t .photo .symbol (r * side P + c) (inside t es r c l m))
+          (flag-differ (t .photo .sound .small) (t .photo .symbol (r * side P + c) (inside t es r c l m))
           (omega (arith, R .below r c l m, positive t es)) (mod-lt (line-value r c) (positive t es))
           (~add (same refl) (mod-cong (positive t es) (line-value r c)) ⨾ R .whole r c l m ⨾ same (symbol-at t es r c l m)))
 
-      changed-of : changedRows (side P) (side P) s after ≡ changedOf square P s W
-      changed-of = sym (sum-rows (side P) (side P) _ ∙ sum-eq (side P) λ r l. sum-eq (side P) λ c m. sym (cell-changed r c l m))
+      differing-of : differingCells (side P) (side P) s after ≡ hamming (cells square P) (at s) (value square P W)
+      differing-of = sym (sum-rows (side P) (side P) _ ∙ sum-eq (side P) λ r l. sum-eq (side P) λ c m. sym (cell-differs r c l m))
 
-      reading-said : {k : ℕ} → k ≡ changedRows (side P) (side P) s after →
+      unread-said : {k : ℕ} → k ≡ differingCells (side P) (side P) s after → unreadIn s ≤ k
+      unread-said e = unread-within W (t .photo) (e ∙ differing-of)
+
+      reading-said : {k : ℕ} → k ≡ differingCells (side P) (side P) s after →
           Reads square P s u B (summary (radius full square P) g k s) W
-      unfolding readingOf
       reading-said e =
           let z = found h in
           let points = point-at (t .photo .sound) in
-          rw (e, changed-of, t .photo .symbols, mark-cost P s u B (t .clear) points loaded w (D .decoded) z W word-length word-at)
+          let paid = mark-cost P s u B (t .clear) points loaded w (D .decoded) z W word-length word-at in
+          rw (summary-is W (t .photo) (e ∙ differing-of) refl paid)
           (mark-found P s u B (t .clear) points loaded w (D .decoded) z W word-length word-at)
 
 -- the same by the struct that says what the plan does
@@ -198,7 +204,12 @@ module _ {P s u B : List ℕ} {left u′ : List (List ℕ)} {plan : Plan} (says 
     pub message-small : c < R → (j : ℕ) → j < length B → at w j < 256
     message-small l = small-said t (sides .0) (sides .1) (rw (says .fields) at D) (omega (arith, mark-radius says h))
 
-    pub mark-reading : {W : List ℕ} {k : ℕ} → c < R → W ≡ tab (length B) (at w) → k ≡ changedRows (g .a) (g .b) s after →
+    pub mark-unread : {W : List ℕ} {k : ℕ} → c < R → W ≡ tab (length B) (at w) → k ≡ differingCells (g .a) (g .b) s after →
+        unreadIn s ≤ k
+    mark-unread l stored e = unread-said t (sides .0) (sides .1) (rw (says .fields) at D) (omega (arith, mark-radius says h)) stored
+        (rw (says .fields) at e)
+
+    pub mark-reading : {W : List ℕ} {k : ℕ} → c < R → W ≡ tab (length B) (at w) → k ≡ differingCells (g .a) (g .b) s after →
         Reads square P s u B (summary R c k s) W
     mark-reading l stored e = rw (mark-radius says h)
         (reading-said t (sides .0) (sides .1) (rw (says .fields) at D) (omega (arith, mark-radius says h)) stored

@@ -7,11 +7,11 @@
 --   passed-zeros, passed-rest   rows that are set one by one, the others being zeros
 --   residues-set              the residues of some bytes, set in a row of zeros
 --   residues-part, no-residues   those of a row from its own part of the bytes; below the grid there are none
---   changed-more              a row more of the changed cells
---   left-changed              what is left of a cell that was read says whether its symbol is the value
+--   differing-more              a row more of the cells that differ
+--   flag-differ               a cell's flag says whether its symbol is the value
 --
--- What this file is for: loading a mark, and counting its changed cells from what the decoder left. Assumes nothing.
-use mathlib.Core.Path.{_≡_, refl, sym, ap, ap₂, _∙_}
+-- What this file is for: loading a mark, and counting its cells that differ from what the decoder left. Assumes nothing.
+use mathlib.Core.Path.{_≡_, refl, sym, ap, _∙_}
 use mathlib.Core.Logic.{_⊎_, inl, inr}
 use mathlib.Core.Bool.{Bool, true, false, cond}
 use mathlib.Core.List.{List, []}
@@ -21,20 +21,21 @@ use native.Mathlib.Decide.{ℕ-discrete, decLt}
 use native.Mathlib.Nat.{mul-le-mul-right}
 use lib.Dec.{eqb}
 use lib.ListN.{length, take, drop, replicate, length-replicate, getD-replicate}
-use borrow.Author.Tests.{eqb-false, eq-eqb, ne-eqb, lt-ltb, le-ltb}
+use borrow.Author.Tests.{eqb-true, eqb-false, eq-eqb, ne-eqb, lt-ltb, le-ltb}
 use Rattle.bounded.specs.Bounded.{at}
 use Rattle.bounded.proofs.Sum.{sum-eq, sum-more}
-use Rattle.bounded.proofs.Tab.{tab-eq, tab-is, zeros-at}
+use Rattle.bounded.proofs.Tab.{tab-eq, tab-is}
 use Rattle.field.specs.Congruence.{Cong}
 use Rattle.field.specs.Loop.{Upto, Passed}
 use Rattle.field.specs.Row.{row}
 use Rattle.field.proofs.Congruence.{same, below-eq, cancel, _⨾_}
 use Rattle.field.proofs.Row.{row-at, beyond, upto-row}
-use Rattle.definitions.specs.Cost.{unread, changedCell}
+use Rattle.definitions.specs.Cost.{unread}
+use Rattle.distance.specs.Cost.{hamming}
 use Rattle.bounded.proofs.Part.{part-at, part-length}
 use Rattle.grid.specs.Loops.{cellAt}
 use Rattle.reading.specs.Loading.{residue, gridCell}
-use Rattle.reading.specs.Changed.{changedRow, changedRows}
+use Rattle.reading.specs.Differing.{flag, differingCells}
 
 pub product-small : {a b r : ℕ} → a ≤ 16 → b ≤ 16 → r < a → r * b ≤ 240
 product-small {b} {r} h i l = let k : r < 16 = omega arith in omega (arith, mul-le-mul-right b k)
@@ -103,32 +104,37 @@ pub residues-part : (n r : ℕ) (s : List ℕ) {l : List ℕ} → l ≡ row (λ 
 residues-part n r s e h = e ∙ tab-eq 16 λ c m.
     ap residue (sym (row-at (at (part n r s)) c m) ∙ row-is (gridCell n s r) (part-line n r s refl h) c m)
 
--- a row more of the changed cells, from its own part of the bytes
-pub changed-more : (n r : ℕ) (s : List ℕ) (left : List (List ℕ)) {k : ℕ} → r * n + n ≤ length s →
-    k ≡ changedRow (length (part n r s)) (at (part n r s)) (cellAt left r) (at (replicate 16 0)) →
-    changedRows (r + 1) n s left ≡ changedRows r n s left + k
-changed-more n r s left h e = sum-more r _ ∙ ap (λ k. changedRows r n s left + k)
-    (sum-eq n (λ c m. ap₂ (λ v z. changedCell v (eqb (cellAt left r c) z))
-    (cell-at n s r c m ∙ sym (part-at (r * n) n s c m)) (sym (zeros-at 16 c)))
-    ∙ sym (e ∙ ap (λ m. changedRow m (at (part n r s)) (cellAt left r) (at (replicate 16 0))) (part-length (r * n) n s h)))
+-- a row more of the cells that differ, from its own part of the bytes
+pub differing-more : (n r : ℕ) (s : List ℕ) (left : List (List ℕ)) {k : ℕ} → r * n + n ≤ length s →
+    k ≡ hamming (length (part n r s)) (λ c. flag (at (part n r s) c) (cellAt left r c)) (λ _. 0) →
+    differingCells (r + 1) n s left ≡ differingCells r n s left + k
+differing-more n r s left h e = sum-more r _ ∙ ap (λ k. differingCells r n s left + k)
+    (sum-eq n (λ c m. ap (λ v. cond (eqb (flag v (cellAt left r c)) 0) 0 1) (cell-at n s r c m ∙ sym (part-at (r * n) n s c m)))
+    ∙ sym (e ∙ ap (λ m. hamming m (λ c. flag (at (part n r s) c) (cellAt left r c)) (λ _. 0)) (part-length (r * n) n s h)))
 
--- a cell that was read is right where nothing is left: its value v and what is left of it make its residue
-pub left-changed : {p s l v : ℕ} → (s < p) ⊎ (s ≡ unread) → l < p → v < p → Cong (p - 1) (l + v) (residue s) →
-    changedCell s (eqb l 0) ≡ changedCell s (eqb s v)
-left-changed {p} {s} {l} {v} known small value whole = go (eqb s unread) refl whole
+-- a cell differs where its flag is set: its value v and what is left of it make its residue
+pub flag-differ : {p s l v : ℕ} → p ≤ 251 → (s < p) ⊎ (s ≡ unread) → l < p → v < p → Cong (p - 1) (l + v) (residue s) →
+    _≡_ {A = ℕ} (cond (eqb (flag s l) 0) 0 1) (cond (eqb s v) 0 1)
+flag-differ {p} {s} {l} {v} most known small value whole = go (eqb s unread) refl whole
   where
-    read : s < p → Cong (p - 1) (l + v) s → Dec (l ≡ 0) → eqb l 0 ≡ eqb s v
+    unequal : s ≡ unread → s ≡ v → ⊥
+    unequal h i = omega arith
+
+    read : s < p → Cong (p - 1) (l + v) s → Dec (l ≡ 0) → _≡_ {A = ℕ} (cond (eqb l 0) 0 1) (cond (eqb s v) 0 1)
     read b C (yes z) =
         let e : v ≡ s = below-eq {q = p - 1} (omega arith) (omega arith) (same (omega arith) ⨾ C) in
-        eq-eqb l 0 z ∙ sym (eq-eqb s v (sym e))
-    read b C (no z) = ne-eqb l 0 z ∙ sym (ne-eqb s v (λ i. z (below-eq {q = p - 1} (omega arith) (omega arith)
-        (cancel {a = l} {b = 0} {e = v} {f = v} (same refl) (C ⨾ same (omega arith))))))
+        rw (eq-eqb l 0 z, eq-eqb s v (sym e))
+    read b C (no z) = rw (
+      ne-eqb l 0 z,
+      ne-eqb s v (λ i. z (below-eq {q = p - 1} (omega arith) (omega arith)
+          (cancel {a = l} {b = 0} {e = v} {f = v} (same refl) (C ⨾ same (omega arith))))),
+    )
 
     below : (s < p) ⊎ (s ≡ unread) → eqb s unread ≡ false → s < p
     below (inl h) e = h
     below (inr h) e = absurd (eqb-false s unread e h)
 
     go : (b : Bool) → eqb s unread ≡ b → Cong (p - 1) (l + v) (cond b 0 s) →
-        _≡_ {A = ℕ} (cond b 0 (cond (eqb l 0) 0 1)) (cond b 0 (cond (eqb s v) 0 1))
-    go true e C = refl
-    go false e C = ap (λ t. cond t 0 1) (read (below known e) C (ℕ-discrete l 0))
+        _≡_ {A = ℕ} (cond (eqb (cond b 1 l) 0) 0 1) (cond (eqb s v) 0 1)
+    go true e C = rw (ne-eqb s v (unequal (eqb-true s unread e)))
+    go false e C = read (below known e) C (ℕ-discrete l 0)

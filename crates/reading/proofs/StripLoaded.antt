@@ -4,16 +4,18 @@
 --   strip-received   what is loaded is what the strip decoder takes
 --   strip-under      a cost that it found is a small number
 --   strip-refused    no answer is refusal 10
+--   strip-unread     of the cells that differ from it, those that were not read are some
 --   strip-reading    an answer, stored, is the reading of the one record within the radius
 --
 -- What this file is for: reading a strip is the reading that document 01 defines. Assumes nothing.
-use mathlib.Core.Path.{_≡_, sym, ap, _∙_}
+use mathlib.Core.Path.{_≡_, refl, sym, ap, ap₂, _∙_}
 use mathlib.Core.Logic.{_⊎_, inl}
-use mathlib.Core.Bool.{true, false}
+use mathlib.Core.Bool.{true, false, cond}
 use mathlib.Core.List.{List}
-use Prim.Native.Nat.{ℕ, suc, _*_, _-_, _%_, _^_, _<_}
+use Prim.Native.Nat.{ℕ, suc, _*_, _-_, _%_, _^_, _≤_, _<_}
 use native.Mathlib.Omega.{arith}
 use native.Mathlib.Decide.{decLt}
+use lib.Dec.{eqb}
 use lib.ListN.{length}
 use Rattle.bounded.specs.Bounded.{at, tab}
 use Rattle.bounded.proofs.Sum.{sum-eq}
@@ -21,9 +23,10 @@ use Rattle.bounded.proofs.Tab.{length-tab, tab-at}
 use Rattle.field.specs.Row.{row}
 use Rattle.field.proofs.Row.{row-at, row-of, beyond}
 use Rattle.definitions.specs.Plan.{modulus, side, degree, point}
-use Rattle.definitions.specs.Code.{strip, size, value}
+use Rattle.definitions.specs.Code.{strip, size, cells, value}
 use Rattle.definitions.specs.Cost.{full, unread, radius}
-use Rattle.definitions.specs.Calls.{changedOf, refused, readingOf}
+use Rattle.distance.specs.Cost.{hamming}
+use Rattle.definitions.specs.Calls.{refused}
 use Rattle.definitions.specs.Code.{IsRecord}
 use Rattle.definitions.specs.Reads.{Reads}
 use Rattle.polynomial.specs.declared.Grid.{Grid}
@@ -34,15 +37,15 @@ use Rattle.plan.specs.Says.{said, Says}
 use Rattle.plan.proofs.Ready.{point-at, ready}
 use Rattle.plan.proofs.Values.{strip-radius}
 use Rattle.distance.specs.Loaded.{Loaded}
-use Rattle.answers.specs.Summary.{summary}
+use Rattle.answers.specs.Summary.{unreadIn, summary}
+use Rattle.answers.proofs.Summary.{unread-within, summary-is}
 use Rattle.reed_solomon.specs.declared.axis.Axis.{Axis}
 use Rattle.reed_solomon.specs.declared.decoder.Decoded.{Decoded}
 use Rattle.reed_solomon.specs.Axis.{Received}
 use Rattle.reed_solomon.specs.Decoded.{StripDecoded}
 use Rattle.reading.proofs.StripReading.{strip-none, strip-cost, strip-found}
 use Rattle.reading.specs.Loading.{residue, Taken}
-use Rattle.reading.specs.Changed.{changedRow}
-use Rattle.reading.proofs.Loading.{residue-below, residue-loaded, residue-changed}
+use Rattle.reading.proofs.Loading.{residue-below, residue-loaded}
 
 -- the row points, as the strip decoder takes them
 abbrev pub axisOf : Grid → Axis
@@ -111,17 +114,21 @@ module _ {P s u B s′ u′ : List ℕ} (t : Taken strip P s u B) (es : s′ ≡
           )
           (ap (λ e. e % modulus P) (sum-eq (suc (degree P)) λ i m. ap (λ e. e * point P j ^ i) (sym (word-at i (omega arith)))))
 
-      changed-of : changedRow (length s) (at s) (at s′) (at (r .values)) ≡ changedOf strip P s W
-      changed-of = rw (t .photo .symbols) (sum-eq (side P) λ c l.
-          let k : c < 16 = omega (arith, t .photo .sound .most) in
-          rw (symbol-at c k, value-at c l) (residue-changed (at s c) (value strip P W c)))
+      differing-of : {seen : List ℕ} {n : ℕ} → seen ≡ row (at s) → n ≡ hamming (side P) (at seen) (at (r .values)) →
+          n ≡ hamming (cells strip P) (at s) (value strip P W)
+      differing-of e i = i ∙ sum-eq (side P) λ c l.
+          ap₂ (λ a b. cond (eqb a b) 0 1) (rw e (row-at (at s) c (omega (arith, t .photo .sound .most)))) (value-at c l)
 
-      reading-said : {n : ℕ} → n ≡ changedRow (length s) (at s) (at s′) (at (r .values)) →
+      unread-said : {seen : List ℕ} {n : ℕ} → seen ≡ row (at s) → n ≡ hamming (side P) (at seen) (at (r .values)) →
+          unreadIn s ≤ n
+      unread-said e i = unread-within W (t .photo) (differing-of e i)
+
+      reading-said : {seen : List ℕ} {n : ℕ} → seen ≡ row (at s) → n ≡ hamming (side P) (at seen) (at (r .values)) →
           Reads strip P s u B (summary (radius full strip P) (r .cost) n s) W
-      unfolding readingOf
-      reading-said e =
+      reading-said e i =
           let points = point-at (t .photo .sound) in
-          rw (e, changed-of, t .photo .symbols, strip-cost P s u B (t .clear) points loaded (D .strip) z W word word-at)
+          let paid = strip-cost P s u B (t .clear) points loaded (D .strip) z W word word-at in
+          rw (summary-is W (t .photo) (differing-of e i) refl paid)
           (strip-found P s u B (t .clear) points loaded (D .strip) z W word word-at)
 
   -- the same by the struct that says what the plan does
@@ -133,7 +140,12 @@ module _ {P s u B s′ u′ : List ℕ} (t : Taken strip P s u B) (es : s′ ≡
     pub strip-refused : r .found ≡ false → Reads strip P s u B (refused 10) B
     strip-refused z = refused-said (rw (says .fields) at D) z
 
-    pub strip-reading : {W : List ℕ} {n R : ℕ} → r .found ≡ true → W ≡ tab (length B) (at (r .message)) →
-        n ≡ changedRow (length s) (at s) (at s′) (at (r .values)) →
-        R ≡ plan .grid .full * 1 * (plan .grid .a - plan .grid .d) → Reads strip P s u B (summary R (r .cost) n s) W
-    strip-reading z stored e h = rw (strip-radius says h) (reading-said (rw (says .fields) at D) z stored e)
+    pub strip-unread : {W seen : List ℕ} {n : ℕ} → r .found ≡ true → W ≡ tab (length B) (at (r .message)) → seen ≡ row (at s) →
+        n ≡ hamming (plan .grid .a) (at seen) (at (r .values)) → unreadIn s ≤ n
+    strip-unread z stored i e = unread-said (rw (says .fields) at D) z stored i (rw (says .fields) at e)
+
+    pub strip-reading : {W seen : List ℕ} {n R : ℕ} → r .found ≡ true → W ≡ tab (length B) (at (r .message)) → seen ≡ row (at s) →
+        n ≡ hamming (plan .grid .a) (at seen) (at (r .values)) → R ≡ plan .grid .full * 1 * (plan .grid .a - plan .grid .d) →
+        Reads strip P s u B (summary R (r .cost) n s) W
+    strip-reading z stored i e h =
+        rw (strip-radius says h) (reading-said (rw (says .fields) at D) z stored i (rw (says .fields) at e))

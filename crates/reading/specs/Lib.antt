@@ -1,3 +1,3 @@
--- What the contracts of reading need beside the definitions: how photographs are taken and loaded, and the changed cells.
+-- What the contracts of reading need beside the definitions: how photographs are taken and loaded, and the cells that differ.
 pub mod Loading
-pub mod Changed
+pub mod Differing

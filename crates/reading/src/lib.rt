@@ -1,5 +1,4 @@
 // Reading marks and strips, where no refusal applies: what the calls do after their checks.
-pub mod changed;
 pub mod load;
 pub mod mark;
 pub mod strip;

@@ -1,7 +1,8 @@
 // Reading a photographed mark where refusals 1 to 8 do not apply, as `strip` reads a strip.
-use crate::changed;
 use crate::load;
 use definitions::Reading;
+use definitions::UNREAD;
+use distance::word;
 use field::bytes;
 use field::inverse::inverses;
 use plan::Plan;
@@ -9,13 +10,53 @@ use polynomial::limit;
 use reed_muller::decoder::decode;
 ghost use mathlib.Core.Path.{_≡_};
 ghost use mathlib.Core.List.{List};
-ghost use Prim.Native.Nat.{ℕ, _≤_};
+ghost use Prim.Native.Nat.{ℕ, _*_, _≤_};
 ghost use lib.ListN.{length};
 ghost use Rattle.bounded.specs.Bounded.{at, sum};
+ghost use Rattle.distance.specs.Cost.{hamming};
 ghost use Rattle.definitions.specs.Code.{square};
 ghost use Rattle.definitions.specs.Reads.{Reads};
 ghost use Rattle.plan.specs.Says.{Says};
 ghost use Rattle.reading.specs.Loading.{Taken};
+ghost use Rattle.reading.specs.Differing.{flag, differingCells};
+
+// Other than 0 for a cell that differs from the mark: it is unread, or something is left of its symbol.
+fn cell_flag(symbol: u16, left: u16) -> u16
+    ensures { λ r. ⌜ r ≡ flag symbol left ⌝ }
+{
+    if symbol == UNREAD as u16 {
+        return 1;
+    }
+    left
+}
+
+// How many cells of a row differ, from its symbols and what the decoder left of them.
+fn differing_in_row(symbols: &[u8], left: [u16; 16]) -> u32
+    requires { ⌜ length (now symbols) ≤ 16 ⌝ }
+    ensures { λ r. ⌜ (r ≡ hamming (length (now (symbols .entry))) (λ c. flag (at (now (symbols .entry)) c) (at left c)) (λ _. 0))
+        × (r ≤ 16) ⌝ }
+{
+    let mut sum = 0;
+    for i in 0..symbols.len() {
+        sum += word::differs(cell_flag(symbols[i] as u16, left[i]), 0);
+    }
+    sum
+}
+
+// The same of a mark of a rows of b cells.
+fn differing_cells(symbols: &[u8], a: usize, b: usize, left: &[[u16; 16]; 16]) -> u32
+    requires { ⌜ (a ≤ 16) × (b ≤ 16) × (length (now symbols) ≡ a * b) ⌝ }
+    ensures { λ r. ⌜ r ≡ differingCells a b (now (symbols .entry)) (now (left .entry)) ⌝ }
+{
+    let mut sum = 0;
+    let mut r = 0;
+    while r < a {
+        let at = r * b;
+        sum += differing_in_row(&symbols[at..at + b], left[r]);
+        r += 1;
+    }
+    sum
+}
 
 // The sum of the doubts: no record costs less. At most 256 bytes come to less than 2^16, which takes half the work of 32 bits.
 fn total(doubts: &[u8]) -> u32
@@ -48,8 +89,8 @@ fn decoded(plan: Plan, symbols: &[u8], doubts: &[u8], record: &mut [u8]) -> Read
         return answers::refused(10);
     }
     bytes::store(record, &message);
-    let changed = changed::in_rows(symbols, g.a, g.b, &left);
-    answers::reading(radius, cost, changed, symbols)
+    let differing = differing_cells(symbols, g.a, g.b, &left);
+    answers::reading(radius, cost, differing, symbols)
 }
 
 // The one record within the radius goes into the lent buffer; where there is none the buffer stays as it was, and the number is

@@ -1,6 +1,5 @@
 // Reading a photographed strip where refusals 1 to 8 do not apply: the one record within the radius goes into the lent
 // buffer; where there is none the buffer stays as it was, and the number is 10.
-use crate::changed;
 use crate::load;
 use definitions::Reading;
 use distance::word;
@@ -43,7 +42,7 @@ pub fn read_strip(plan: Plan, symbols: &[u8], doubts: &[u8], record: &mut [u8]) 
     let message = strip.message;
     let values = strip.values;
     bytes::store(record, &message);
-    let changed = changed::in_row(symbols, s, values);
+    let differing = word::differing(g.a, bytes::row(symbols), values);
     let radius = word::radius(g.full, 1, g.a, g.d);
-    answers::reading(radius, strip.cost, changed, symbols)
+    answers::reading(radius, strip.cost, differing, symbols)
 }

@@ -1,13 +1,39 @@
 -- `measuring::measure_mark` meets its contract: the plan's points are put in for X and for Y. Assumes nothing.
 use mathlib.Core.Path.{_∙_}
+use mathlib.Core.List.{List}
+use Prim.Native.Nat.{ℕ}
 use native.Mathlib.Omega.{arith}
-use Rattle.definitions.specs.Code.{square}
-use Rattle.definitions.proofs.Sound.{cells-most}
+use Rattle.bounded.specs.Bounded.{at}
+use Rattle.definitions.specs.Code.{square, cells, value}
+use Rattle.definitions.specs.Cost.{full}
+use Rattle.plan.specs.Says.{Says}
 use Rattle.plan.proofs.Ready.{ready}
 use Rattle.plan.proofs.Values.{record-word, same-points, mark-cells, mark-radius}
-use Rattle.measuring.proofs.Rows.{mark-measured, reading-is}
+use Rattle.answers.proofs.Summary.{few-cells, unread-within, summary-is}
+use Rattle.measuring.specs.Measured.{Measured}
+use Rattle.measuring.proofs.Rows.{mark-measured}
 use Rattle.measuring.proofs.measure_mark.Statement.{statement}
 use Rattle.measuring.proofs.measure_mark.Tie as tie
+
+-- the rows are measured
+module _ (c : tie.After-measure-rows) where
+  abbrev columns : tie.After-columns
+  columns = c .before .before .before
+
+  abbrev powers : tie.After-powers
+  powers = columns .before .before
+
+  abbrev start : tie.Start
+  start = powers .before .before .before .before .before .before
+
+  measured : {P : List ℕ} → Says P (start .args .plan) → Measured full (cells square P) (at (start .args .symbols .now))
+      (at (start .args .doubts .now)) (value square P (start .args .«record» .now)) (c .measure-rows .result .cost)
+      (c .measure-rows .result .differing)
+  measured says =
+      let g = start .args .plan .grid in
+      let made = powers .powers .ensures .1 in
+      mark-measured says (start .args .«record» .now) (c .measure-rows .ensures .1 (g .x) (g .y) _
+      (columns .columns .ensures .1 (g .x) made) (rw (same-points says) made))
 
 columns-requires : tie.Need-columns-requires
 columns-requires c κs =
@@ -22,7 +48,6 @@ measure-rows-requires c κs =
     let powers = columns .before .before in
     let (P, says, photo, given) = powers .before .before .before .before .before .before .pre in (
       ready says .fit,
-      omega (arith, ready says .byte),
       columns .columns .ensures .0,
       powers .powers .ensures .0,
       photo .symbols ∙ mark-cells says,
@@ -39,25 +64,18 @@ radius-requires c κs =
 reading-requires : tie.Need-reading-requires
 reading-requires c κs =
     let tally = c .before in
-    let columns = tally .before .before .before in
-    let powers = columns .before .before in
-    let (P, says, photo, given) = powers .before .before .before .before .before .before .pre in (
+    let (P, says, photo, given) = start tally .pre in (
       omega (arith, c .radius .ensures .1),
       omega (arith, tally .measure-rows .ensures .0),
-      omega (arith, photo .symbols, cells-most square (photo .sound)),
+      few-cells square photo,
+      unread-within _ photo (measured tally says .count),
     )
 
 returns : tie.Need-returns
 returns c = λ P says photo.
     let tally = c .before .before in
-    let columns = tally .before .before .before in
-    let powers = columns .before .before in
-    let given = powers .before .before .before .before .before .before .args in
-    let g = given .plan .grid in
-    let made = powers .powers .ensures .1 in
-    c .reading .ensures ∙ reading-is _ _ _ _ _ (mark-radius says (c .before .radius .ensures .0)) (photo .symbols)
-    (mark-measured says (given .«record» .now) (tally .measure-rows .ensures .1 (g .x) (g .y) _
-    (columns .columns .ensures .1 (g .x) made) (rw (same-points says) made)))
+    let m = measured tally says in
+    c .reading .ensures ∙ summary-is _ photo (m .count) (mark-radius says (c .before .radius .ensures .0)) (m .sum)
 
 pub measure-mark-spec : {M : Type 1} → statement M
 measure-mark-spec =

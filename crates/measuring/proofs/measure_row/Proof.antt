@@ -2,24 +2,22 @@
 use mathlib.Core.Path.{_≡_, refl}
 use Prim.Native.Nat.{_*_, _-_, _≤_}
 use native.Mathlib.Omega.{arith}
-use lib.Dec.{eqb}
 use lib.ListN.{length}
 use Rattle.bounded.specs.Bounded.{at}
 use Rattle.bounded.proofs.Sum.{sum-more}
-use Rattle.distance.specs.Cost.{cell}
-use Rattle.definitions.specs.Cost.{changedCell}
+use Rattle.distance.specs.Cost.{cell, differ}
 use Rattle.measuring.specs.Measured.{Measured}
 use borrow.Author.Needs.{needs}
 use Rattle.measuring.proofs.measure_row.Statement.{statement}
 use Rattle.measuring.proofs.measure_row.Tie as tie
 
 abbrev Inv-loop : tie.InvT-loop
-Inv-loop symbols doubts full values cost₀ changed₀ j₀ j-end cost changed j =
-    (j ≤ length symbols) × (j-end ≡ length symbols) × Measured full j (at symbols) (at doubts) (at values) cost changed
-    × (cost ≤ 510 * j) × (changed ≤ j)
+Inv-loop symbols doubts full values cost₀ differing₀ j₀ j-end cost differing j =
+    (j ≤ length symbols) × (j-end ≡ length symbols) × Measured full j (at symbols) (at doubts) (at values) cost differing
+    × (cost ≤ 131072 * j) × (differing ≤ j)
 
 abbrev μ-loop : tie.MeasureT-loop
-μ-loop symbols doubts full values cost₀ changed₀ j₀ j-end cost changed j = length symbols - j
+μ-loop symbols doubts full values cost₀ differing₀ j₀ j-end cost differing j = length symbols - j
 
 loop-holds : tie.Need-loop-holds Inv-loop μ-loop
 loop-holds c = (omega arith, refl, record { sum = refl; count = refl }, omega arith, omega arith)
@@ -38,15 +36,15 @@ loop-again c =
     let s = at (given .symbols .now) in
     let v = at (given .t3) in
     let more = sum-more (l .loop .j) (λ k. cell (given .full) (s k) (at (given .doubts .now) k) (v k)) in
-    let counted = sum-more (l .loop .j) (λ k. changedCell (s k) (eqb (s k) (v k))) in (
+    let counted = sum-more (l .loop .j) (λ k. differ (s k) (v k)) in (
       omega arith,
       refl,
       record {
         sum = omega (arith, more, l .loop .inv .2 .sum, paid .cell-cost .ensures .0);
-        count = omega (arith, counted, l .loop .inv .2 .count, c .cell-changed .ensures .0);
+        count = omega (arith, counted, l .loop .inv .2 .count, c .differs .ensures .0);
       },
       omega (arith, paid .cell-cost .ensures .1, l .loop .inv .3),
-      omega (arith, c .cell-changed .ensures .1),
+      omega (arith, c .differs .ensures .1),
     )
 
 returns : tie.Need-returns Inv-loop μ-loop
@@ -68,9 +66,7 @@ measure-row-spec =
     (λ c. omega (arith, c .shared-slice-known4 .given (c .before .before .before .loop .j)))
     (λ c. search needs) (λ c. search needs)
     cell-cost-requires
-    (λ c. omega (arith, c .cell-cost .ensures .1))
-    (λ c. omega (arith, c .cell-cost .ensures .1))
-    (λ c. search needs) (λ c. search needs) (λ c κs. search needs) (λ c. search needs) (λ c. search needs) (λ c. search needs)
+    (λ c. search needs) (λ c. search needs) (λ c. search needs) (λ c κs. search needs) (λ c. search needs) (λ c. search needs)
+    (λ c. search needs)
     loop-again
-    (λ c. search needs) (λ c. search needs)
     returns)

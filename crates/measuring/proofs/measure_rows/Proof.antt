@@ -16,12 +16,12 @@ use Rattle.measuring.proofs.measure_rows.Statement.{statement}
 use Rattle.measuring.proofs.measure_rows.Tie as tie
 
 abbrev Inv-loop : tie.InvT-loop
-Inv-loop g columns ys symbols doubts a b cost₀ changed₀ r₀ cost changed r = (r ≤ a) × (cost ≤ 8160 * r) × (changed ≤ 16 * r)
+Inv-loop g columns ys symbols doubts a b cost₀ differing₀ r₀ cost differing r = (r ≤ a) × (cost ≤ 2097152 * r) × (differing ≤ 16 * r)
     × ((x y F : List ℕ) → Columns (g .p) (g .d) x F columns → Powers (g .p) y (g .d) ys →
-    Measured (g .full) (r * b) (at symbols) (at doubts) (gridValue (g .p) (g .d) b (at x) (at y) F) cost changed)
+    Measured (g .full) (r * b) (at symbols) (at doubts) (gridValue (g .p) (g .d) b (at x) (at y) F) cost differing)
 
 abbrev μ-loop : tie.MeasureT-loop
-μ-loop g columns ys symbols doubts a b cost₀ changed₀ r₀ cost changed r = a - r
+μ-loop g columns ys symbols doubts a b cost₀ differing₀ r₀ cost differing r = a - r
 
 loop-holds : tie.Need-loop-holds Inv-loop μ-loop
 loop-holds c = (omega arith, omega arith, omega arith, λ x y F C P. rw zero-mul (record { sum = refl; count = refl }))
@@ -33,14 +33,14 @@ measure-row-requires c κs =
     let start = test .before .before .before .before in
     let b = start .args .g .b in
     let h = row-in r _ b (test .loop-test .taken) in
-    let s = part-length (r * b) b (start .args .symbols .now) (omega (arith, start .pre .4, h)) in
-    let u = part-length (r * b) b (start .args .doubts .now) (omega (arith, start .pre .5, h)) in (
+    let s = part-length (r * b) b (start .args .symbols .now) (omega (arith, start .pre .3, h)) in
+    let u = part-length (r * b) b (start .args .doubts .now) (omega (arith, start .pre .4, h)) in (
       omega (arith, s, start .pre .0 .columns),
       u ∙ sym s,
-      start .pre .1,
+      omega (arith, start .pre .0 .full),
       λ i l.
           let k = rw s at l in
-          rw (part-at (r * b) b (start .args .doubts .now) i k) (start .pre .6 (r * b + i) (omega (arith, h))),
+          rw (part-at (r * b) b (start .args .doubts .now) i k) (start .pre .5 (r * b + i) (omega (arith, h))),
     )
 
 loop-again : tie.Need-loop-again Inv-loop μ-loop
@@ -57,7 +57,7 @@ loop-again c =
       omega (arith, t .1, l .inv .1),
       omega (arith, t .2, l .inv .2),
       λ x y F C P. measured-more (g .b) (l .r) _ _ _ (l .inv .3 x y F C P)
-          (measured-part (l .r * g .b) (start .args .symbols .now) (start .args .doubts .now) (omega (arith, start .pre .4, h))
+          (measured-part (l .r * g .b) (start .args .symbols .now) (start .args .doubts .now) (omega (arith, start .pre .3, h))
           (grid-row (g .p) (g .d) (g .b) (l .r) x y F (start .pre .0 .columns) (values .row-values .ensures .1 x y F C P))
           (t .0)),
     )
@@ -78,7 +78,7 @@ measure-rows-spec =
     loop-holds
     (λ c κs.
     let b = c .before .before .before .before .pre in
-    (b .0 .reciprocal, b .2, b .3, omega (arith, b .0 .rows), omega (arith, b .0 .low, b .0 .rows)))
+    (b .0 .reciprocal, b .1, b .2, omega (arith, b .0 .rows), omega (arith, b .0 .low, b .0 .rows)))
     (λ c.
     let b = c .before .before .before .before .before .args .g .b in
     omega (arith, row-in _ _ b (c .before .loop-test .taken)))

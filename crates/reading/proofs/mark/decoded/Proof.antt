@@ -3,10 +3,10 @@
 use mathlib.Core.Path.{refl, sym, _∙_}
 use native.Mathlib.Omega.{arith}
 use Rattle.definitions.specs.Code.{square}
-use Rattle.definitions.proofs.Sound.{cells-most}
 use Rattle.plan.proofs.Ready.{ready}
 use Rattle.plan.proofs.Values.{mark-cells}
-use Rattle.reading.proofs.MarkLoaded.{mark-received, mark-refused, mark-reading, message-small, record-room}
+use Rattle.answers.proofs.Summary.{few-cells}
+use Rattle.reading.proofs.MarkLoaded.{mark-received, mark-refused, mark-unread, mark-reading, message-small, record-room}
 use borrow.Author.Needs.{needs}
 use Rattle.reading.proofs.mark.decoded.Statement.{statement}
 use Rattle.reading.proofs.mark.decoded.Tie as tie
@@ -46,8 +46,8 @@ store-requires c κs =
           (radius .radius .ensures .0) (omega (arith, c .before .before .if1 .left)),
     )
 
-in-rows-requires : tie.Need-in-rows-requires
-in-rows-requires c κs =
+differing-cells-requires : tie.Need-differing-cells-requires
+differing-cells-requires c κs =
     let decoded = c .before .before .before .before .before .before .before .before in
     let doubts = decoded .before .before .before .before .before .before in
     let (P, says, t) = doubts .before .before .before .before .before .pre in
@@ -56,26 +56,31 @@ in-rows-requires c κs =
 
 reading-requires : tie.Need-reading-requires
 reading-requires c κs =
-    let test = c .before .before .before .before .before .before .before in
+    let stored = c .before .before .before .before in
+    let test = stored .before .before .before in
     let radius = test .before in
-    let doubts = radius .before .before .before .before .before .before .before in
+    let decoded = radius .before in
+    let symbols = decoded .before .before .before .before in
+    let doubts = symbols .before .before in
     let (P, says, t) = doubts .before .before .before .before .before .pre in (
       omega (arith, radius .radius .ensures .1),
       omega (arith, radius .radius .ensures .1, test .if1 .left),
-      omega (arith, t .photo .symbols, cells-most square (t .photo .sound)),
+      few-cells square (t .photo),
+      mark-unread says t (symbols .residue-rows .ensures) (doubts .doubt-rows .ensures) (decoded .decode .ensures .0)
+          (radius .radius .ensures .0) (omega (arith, test .if1 .left)) (stored .store .ensures) (c .differing-cells .ensures),
     )
 
 returns-2 : tie.Need-returns-2
 returns-2 c = λ P says t.
-    let changed = c .before in
-    let stored = changed .before .before .before .before in
+    let compared = c .before in
+    let stored = compared .before .before .before .before in
     let test = stored .before .before .before in
     let radius = test .before in
     let decoded = radius .before in
     let symbols = decoded .before .before .before .before in
     rw (c .reading .ensures) (mark-reading says t (symbols .residue-rows .ensures) (symbols .before .before .doubt-rows .ensures)
     (decoded .decode .ensures .0) (radius .radius .ensures .0) (omega (arith, test .if1 .left)) (stored .store .ensures)
-    (changed .in-rows .ensures))
+    (compared .differing-cells .ensures))
 
 pub decoded-spec : {M : Type 1} → statement M
 decoded-spec =
@@ -99,7 +104,7 @@ decoded-spec =
     refuses
     (λ c. sym (c .before .before .before .before .decode .ensures .1))
     store-requires
-    in-rows-requires
+    differing-cells-requires
     reading-requires
     (λ c. search needs)
     returns-2)

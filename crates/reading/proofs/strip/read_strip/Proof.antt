@@ -1,9 +1,11 @@
 -- `reading::strip::read_strip` meets its contract: what is loaded is what the decoder asks for, and its answer is the reading.
 -- Assumes nothing.
 use native.Mathlib.Omega.{arith}
+use Rattle.definitions.specs.Code.{strip}
 use Rattle.plan.proofs.Ready.{ready}
+use Rattle.answers.proofs.Summary.{few-cells}
 use Rattle.reading.proofs.Loading.{negated}
-use Rattle.reading.proofs.StripLoaded.{strip-received, strip-refused, strip-reading, strip-under}
+use Rattle.reading.proofs.StripLoaded.{strip-received, strip-refused, strip-unread, strip-reading, strip-under}
 use borrow.Author.Needs.{needs}
 use Rattle.reading.proofs.strip.read_strip.Statement.{statement}
 use Rattle.reading.proofs.strip.read_strip.Tie as tie
@@ -52,33 +54,39 @@ store-requires c κs =
 
 radius-requires : tie.Need-radius-requires
 radius-requires c κs =
-    let (P, says, t) = start (doubts (decoded (c .before .before .before))) .pre in
+    let (P, says, t) = start (doubts (decoded (c .before .before .before .before))) .pre in
     let g = ready says .fit in
     (omega (arith, g .full), omega arith, g .rows, omega (arith, g .low))
 
 reading-requires : tie.Need-reading-requires
 reading-requires c κs =
-    let stored = c .before .before .before .before in
+    let compared = c .before in
+    let seen = compared .before in
+    let stored = seen .before .before .before in
     let test = stored .before .before .before .before .before in
     let read = decoded stored in
     let loaded = doubts read in
-    let (P, says, t) = start loaded .pre in (
+    let (P, says, t) = start loaded .pre in
+    let found = negated _ (test .if1 .left) in (
       c .radius .ensures .1,
-      strip-under t (symbols loaded .residue-row .ensures) (loaded .wide-row .ensures) says (read .decode .ensures)
-          (negated _ (test .if1 .left)),
-      omega (arith, t .photo .symbols, t .photo .sound .most),
+      strip-under t (symbols loaded .residue-row .ensures) (loaded .wide-row .ensures) says (read .decode .ensures) found,
+      few-cells strip (t .photo),
+      strip-unread t (symbols loaded .residue-row .ensures) (loaded .wide-row .ensures) says (read .decode .ensures) found
+          (stored .store .ensures) (seen .row .ensures) (compared .differing .ensures .0),
     )
 
 returns-2 : tie.Need-returns-2
 returns-2 c = λ P says t.
-    let changed = c .before .before in
-    let stored = changed .before .before .before in
+    let compared = c .before .before in
+    let seen = compared .before in
+    let stored = seen .before .before .before in
     let test = stored .before .before .before .before .before in
     let read = decoded stored in
     let loaded = doubts read in
     rw (c .reading .ensures)
     (strip-reading t (symbols loaded .residue-row .ensures) (loaded .wide-row .ensures) says (read .decode .ensures)
-    (negated _ (test .if1 .left)) (stored .store .ensures) (changed .in-row .ensures .0) (c .before .radius .ensures .0))
+    (negated _ (test .if1 .left)) (stored .store .ensures) (seen .row .ensures) (compared .differing .ensures .0)
+    (c .before .radius .ensures .0))
 
 pub read-strip-spec : {M : Type 1} → statement M
 read-strip-spec =
@@ -102,6 +110,9 @@ read-strip-spec =
     (λ c κs.
     let (P, says, t) = start (doubts (decoded (c .before .before))) .pre in
     omega (arith, t .photo .symbols, t .photo .sound .most))
+    (λ c κs.
+    let (P, says, t) = start (doubts (decoded (c .before .before .before))) .pre in
+    ready says .fit .rows)
     radius-requires
     reading-requires
     (λ c. search needs)

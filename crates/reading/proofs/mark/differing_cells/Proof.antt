@@ -1,19 +1,19 @@
--- `reading::changed::in_rows` meets its contract: the rows before r are counted. Assumes nothing.
+-- `reading::mark::differing_cells` meets its contract: the rows before r are counted. Assumes nothing.
 use mathlib.Core.Path.{_≡_, refl}
 use Prim.Native.Nat.{_*_, _-_, _≤_}
 use native.Mathlib.Omega.{arith}
 use Rattle.bounded.proofs.Part.{row-in}
-use Rattle.reading.specs.Changed.{changedRows}
-use Rattle.reading.proofs.Square.{product-small, changed-more}
+use Rattle.reading.specs.Differing.{differingCells}
+use Rattle.reading.proofs.Square.{product-small, differing-more}
 use borrow.Author.Needs.{needs}
-use Rattle.reading.proofs.changed.in_rows.Statement.{statement}
-use Rattle.reading.proofs.changed.in_rows.Tie as tie
+use Rattle.reading.proofs.mark.differing_cells.Statement.{statement}
+use Rattle.reading.proofs.mark.differing_cells.Tie as tie
 
 abbrev Inv-loop : tie.InvT-loop
-Inv-loop symbols a b left count₀ r₀ count r = (r ≤ a) × (count ≡ changedRows r b symbols left) × (count ≤ 16 * r)
+Inv-loop symbols a b left sum₀ r₀ sum r = (r ≤ a) × (sum ≡ differingCells r b symbols left) × (sum ≤ 16 * r)
 
 abbrev μ-loop : tie.MeasureT-loop
-μ-loop symbols a b left count₀ r₀ count r = a - r
+μ-loop symbols a b left sum₀ r₀ sum r = a - r
 
 loop-holds : tie.Need-loop-holds Inv-loop μ-loop
 loop-holds c = (omega arith, refl, omega arith)
@@ -25,9 +25,9 @@ loop-again c =
     let start = here .before .before .before in
     let given = start .args in
     let inside = row-in (l .r) (given .a) (given .b) (here .loop-test .taken) in
-    let more = changed-more (given .b) (l .r) (given .symbols .now) (given .left .now) (omega (arith, start .pre .2, inside))
-    (c .in-row .ensures .0) in
-    (omega arith, omega (arith, more, l .inv .1), omega (arith, c .in-row .ensures .1))
+    let more = differing-more (given .b) (l .r) (given .symbols .now) (given .left .now) (omega (arith, start .pre .2, inside))
+    (c .differing-in-row .ensures .0) in
+    (omega arith, omega (arith, more, l .inv .1), omega (arith, c .differing-in-row .ensures .1))
 
 returns : tie.Need-returns Inv-loop μ-loop
 returns c =
@@ -35,8 +35,8 @@ returns c =
     let e : l .r ≡ c .before .before .before .args .a = omega arith in
     rw e at (l .inv .1)
 
-pub in-rows-spec : {M : Type 1} → statement M
-in-rows-spec =
+pub differing-cells-spec : {M : Type 1} → statement M
+differing-cells-spec =
     tie.close
     (tie.spec
     Inv-loop
