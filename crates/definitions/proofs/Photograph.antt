@@ -6,10 +6,10 @@
 -- What this file is for: what a call that is not refused may rely on. Assumes nothing.
 use mathlib.Core.Path.{_≡_, refl, sym, ap, _∙_}
 use mathlib.Core.Logic.{_⊎_, inl, inr}
-use mathlib.Core.Bool.{Bool, true, false, not, _&&_, true≢false}
+use mathlib.Core.Bool.{Bool, true, false, not, _&&_, _||_, true≢false}
 use mathlib.Core.List.{List}
 use Prim.Native.Nat.{ℕ, zero, suc, _<_}
-use lib.Dec.{eqb, leb}
+use lib.Dec.{eqb, ltb, leb}
 use lib.ListN.{length}
 use borrow.Author.Tests.{eqb-true, ltb-false, leb-false, eq-eqb, le-ltb, lt-leb}
 use Rattle.bounded.specs.Bounded.{at}
@@ -18,7 +18,7 @@ use Rattle.definitions.specs.Refusals.{Refusal, first, accepted}
 use Rattle.definitions.specs.Plan.{modulus, planRows, checkNumber}
 use Rattle.definitions.specs.Code.{Code, cells, size}
 use Rattle.definitions.specs.Cost.{full, unread}
-use Rattle.definitions.specs.Calls.{strange, excessive, halfRead, photoTests, photoRows}
+use Rattle.definitions.specs.Calls.{strange, misdoubted, photoTests, photoRows}
 use Rattle.definitions.specs.Photograph.{Photograph}
 use Rattle.definitions.proofs.Sound.{checked, sound}
 use Rattle.definitions.proofs.Refusals.{first-append, first-at, first-clear, testAt, equal}
@@ -36,13 +36,17 @@ module _ (C : Code) (P s u B : List ℕ) where
   both-false true b h = h refl
   both-false false b h = refl
 
+  neither : (a b : Bool) → a || b ≡ false → (a ≡ false) × (b ≡ false)
+  neither true b e = absurd (true≢false e)
+  neither false b e = (refl, e)
+
   not-both : (a b : Bool) → a && b ≡ false → a ≡ true → b ≡ false
   not-both true b e h = e
   not-both false b e h = absurd (true≢false (sym h))
 
   pub photo-accepted : Photograph C P s u → length B ≡ size C P → first (photoRows C P s u B) ≡ 0
-  photo-accepted h l = split ∙ ap (λ k. accepted k (first rest) k) (checked P (h .sound)) ∙ sym (first-at rest 6
-      (equal _ _ (h .symbols), (equal _ _ (h .doubts), (equal _ _ l, (symbol, (doubt, (erased, tt)))))))
+  photo-accepted h l = split ∙ ap (λ k. accepted k (first rest) k) (checked P (h .sound)) ∙ sym (first-at rest 5
+      (equal _ _ (h .symbols), (equal _ _ (h .doubts), (equal _ _ l, (symbol, (doubt, tt))))))
     where
       symbol : strange (modulus P) s (cells C P) ≡ false
       symbol = none-any _ _ λ c m. one c (h .symbol c m)
@@ -52,11 +56,8 @@ module _ (C : Code) (P s u B : List ℕ) where
               absurd (true≢false (sym t ∙ lt-leb _ _ k))
           one c (inr k) = both-false (leb (modulus P) (at s c)) (not (eqb (at s c) unread)) λ t. equal (at s c) unread k
 
-      doubt : excessive full u (cells C P) ≡ false
-      doubt = none-any _ _ λ c m. le-ltb _ _ (h .doubt c m)
-
-      erased : halfRead full s u (cells C P) ≡ false
-      erased = none-any _ _ λ c m. both-false _ _ λ t. equal _ _ (h .erased c m (eqb-true _ _ t))
+      doubt : misdoubted full s u (cells C P) ≡ false
+      doubt = none-any _ _ λ c m. rw (le-ltb _ _ (h .doubt c m)) (both-false _ _ λ t. equal _ _ (h .erased c m (eqb-true _ _ t)))
 
   module _ (e : first (photoRows C P s u B) ≡ 0) where
     passed : checkNumber P ≡ 0
@@ -79,14 +80,18 @@ module _ (C : Code) (P s u B : List ℕ) where
       symbols = eqb-true _ _ (not-not _ (clear 0));
       doubts = eqb-true _ _ (not-not _ (clear 1));
       symbol = λ c m. one c (leb (modulus P) (at s c)) refl (any-none _ _ (clear 3) c m);
-      doubt = λ c m. ltb-false _ _ (any-none _ _ (clear 4) c m);
-      erased = λ c m k. eqb-true _ _ (not-not _ (not-both _ _ (any-none _ _ (clear 5) c m) (eq-eqb _ _ k)));
+      doubt = λ c m. ltb-false _ _ (doubted c m .0);
+      erased = λ c m k. eqb-true _ _ (not-not _ (not-both _ _ (doubted c m .1) (eq-eqb _ _ k)));
     }
       where
         one : (c : ℕ) (b : Bool) → leb (modulus P) (at s c) ≡ b → b && not (eqb (at s c) unread) ≡ false →
             (at s c < modulus P) ⊎ (at s c ≡ unread)
         one c true t h = inr (eqb-true _ _ (not-not _ h))
         one c false t h = inl (leb-false _ _ t)
+
+        doubted : (c : ℕ) → c < cells C P →
+            (ltb full (at u c) ≡ false) × (eqb (at s c) unread && not (eqb (at u c) full) ≡ false)
+        doubted c m = neither (ltb full (at u c)) (eqb (at s c) unread && not (eqb (at u c) full)) (any-none _ _ (clear 4) c m)
 
     pub accepted-buffer : length B ≡ size C P
     accepted-buffer = eqb-true _ _ (not-not _ (clear 2))

@@ -7,7 +7,7 @@
 --
 -- What this file is for: the contracts of the calls are equalities with these.
 -- Checking is `checkNumber` of Plan, finding is Finder.
-use mathlib.Core.Bool.{Bool, true, false, not, _&&_}
+use mathlib.Core.Bool.{Bool, true, false, not, _&&_, _||_}
 use mathlib.Core.List.{List, [], _∷_, _++_}
 use mathlib.Core.Option.{Option, some, none}
 use Prim.Native.Nat.{ℕ}
@@ -31,12 +31,9 @@ lengthRow B n = 6 when not (eqb (length B) n)
 abbrev pub strange : (p : ℕ) (s : List ℕ) (n : ℕ) → Bool
 strange p s n = any n λ c. leb p (at s c) && not (eqb (at s c) unread)
 
--- refusal 8, of n doubts, for the full doubt f: one is above f; an unread cell's is not f
-abbrev pub excessive : (f : ℕ) (u : List ℕ) (n : ℕ) → Bool
-excessive f u n = any n λ c. ltb f (at u c)
-
-abbrev pub halfRead : (f : ℕ) (s u : List ℕ) (n : ℕ) → Bool
-halfRead f s u n = any n λ c. eqb (at s c) unread && not (eqb (at u c) f)
+-- refusal 8, of n doubts, for the full doubt f: one is above f, or an unread cell's is not f
+abbrev pub misdoubted : (f : ℕ) (s u : List ℕ) (n : ℕ) → Bool
+misdoubted f s u n = any n λ c. ltb f (at u c) || (eqb (at s c) unread && not (eqb (at u c) f))
 
 -- refusal 9, of n coefficients: one is p or more
 abbrev pub overflowing : (p : ℕ) (F : List ℕ) (n : ℕ) → Bool
@@ -52,8 +49,7 @@ photoTests p f s u F n k =
     ∷ lengthRow u n
     ∷ lengthRow F k
     ∷ (7 when strange p s n)
-    ∷ (8 when excessive f u n)
-    ∷ (8 when halfRead f s u n)
+    ∷ (8 when misdoubted f s u n)
     ∷ []
 
 unfoldable pub photoRows : Code → (P s u F : List ℕ) → List Refusal

@@ -1,19 +1,18 @@
 -- Marks and strips, and the checks that they share.
 --
---   photo-at, write-at               under a sound plan, the number of the test at which a check stops is the call's
---   doubts-reached, record-reached   what `field::bytes::reaches` answered of doubts and of a record is the answer to their tests
+--   photo-at, write-at   under a sound plan, the number of the test at which a check stops is the call's
+--   record-reached       what `field::bytes::reaches` answered of a record is the answer to its test
 --
 -- What this file is for: the checks give the definitions' numbers. Assumes nothing.
 use mathlib.Core.Path.{_≡_, refl, _∙_}
 use mathlib.Core.Bool.{Bool, true, false}
 use mathlib.Core.List.{List}
-use Prim.Native.Nat.{ℕ, _+_}
-use native.Mathlib.Numerals.{add-one}
+use Prim.Native.Nat.{ℕ}
 use lib.ListN.{length}
 use Rattle.field.specs.Word.{reached}
 use Rattle.definitions.specs.Refusals.{first}
 use Rattle.definitions.specs.Code.{size, cells}
-use Rattle.definitions.specs.Calls.{excessive, overflowing, photoTests, photoRows, writeTests, writeNumber}
+use Rattle.definitions.specs.Calls.{overflowing, photoTests, photoRows, writeTests, writeNumber}
 use Rattle.definitions.proofs.Refusals.{Stops, numberAt, first-at, answered}
 use Rattle.definitions.proofs.Sound.{checked}
 use Rattle.definitions.proofs.Accepted.{photo-passes, write-passes}
@@ -48,10 +47,6 @@ module _ (mark : Bool) {P : List ℕ} {plan : Plan} (says : Says P plan) {n k : 
       first-at (writeTests (plan .grid .p) F B n k) i t
       ∙ rw (e ∙ cells-said mark says, h ∙ size-said mark says, says .fields)
       (write-passes (codeOf mark) P F B (checked P (says .sound)))
-
-pub doubts-reached : {r t : Bool} {n : ℕ} (f : ℕ) (u : List ℕ) → length u ≡ n → r ≡ reached (f + 1) u → r ≡ t →
-    excessive f u n ≡ t
-doubts-reached f u l e = answered (rw (add-one f, l) at e)
 
 pub record-reached : {r t : Bool} {k : ℕ} (p : ℕ) (F : List ℕ) → length F ≡ k → r ≡ reached p F → r ≡ t → overflowing p F k ≡ t
 record-reached p F l e = answered (rw l at e)

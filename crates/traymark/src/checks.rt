@@ -7,15 +7,15 @@ use plan::Plan;
 use polynomial::Grid;
 use polynomial::bivariate::start;
 ghost use mathlib.Core.Path.{_≡_};
-ghost use mathlib.Core.Bool.{not, _&&_};
+ghost use mathlib.Core.Bool.{not, _&&_, _||_};
 ghost use mathlib.Core.List.{List};
 ghost use Prim.Native.Nat.{ℕ};
-ghost use lib.Dec.{eqb, leb};
+ghost use lib.Dec.{eqb, ltb, leb};
 ghost use lib.ListN.{length};
 ghost use Rattle.polynomial.specs.Fit.{Fit};
 ghost use Rattle.definitions.specs.Refusals.{first};
 ghost use Rattle.definitions.specs.Cost.{unread};
-ghost use Rattle.definitions.specs.Calls.{strange, halfRead, photoRows, writeNumber, measureNumber};
+ghost use Rattle.definitions.specs.Calls.{strange, misdoubted, photoRows, writeNumber, measureNumber};
 ghost use Rattle.plan.specs.Says.{Says, Ready};
 ghost use Rattle.traymark.specs.Kind.{codeOf, sizeOf, cellsOf};
 
@@ -64,10 +64,7 @@ pub(crate) fn photo_refusal(
     if is_strange(g.p as u8, symbols, n) {
         return 7;
     }
-    if bytes::reaches(doubts, g.full as u8 + 1) {
-        return 8;
-    }
-    if is_half_read(g.full as u8, symbols, doubts, n) {
+    if is_misdoubted(g.full as u8, symbols, doubts, n) {
         return 8;
     }
     0
@@ -140,24 +137,24 @@ fn is_strange(p: u8, symbols: &[u8], n: usize) -> bool
     found
 }
 
-// Whether a cell is unread and its doubt not the full doubt.
-fn is_half_read_cell(full: u8, symbol: u8, doubt: u8) -> bool
-    ensures { λ r. ⌜ r ≡ (eqb symbol unread && not (eqb doubt full)) ⌝ }
+// Whether a doubt is above the full doubt, or an unread cell's is not the full doubt.
+fn is_misdoubted_cell(full: u8, symbol: u8, doubt: u8) -> bool
+    ensures { λ r. ⌜ r ≡ (ltb full doubt || (eqb symbol unread && not (eqb doubt full))) ⌝ }
 {
-    if symbol != UNREAD {
-        return false;
+    if symbol == UNREAD {
+        return doubt != full;
     }
-    doubt != full
+    full < doubt
 }
 
 // Whether one of the n cells is such.
-fn is_half_read(full: u8, symbols: &[u8], doubts: &[u8], n: usize) -> bool
+fn is_misdoubted(full: u8, symbols: &[u8], doubts: &[u8], n: usize) -> bool
     requires { ⌜ (length (now symbols) ≡ n) × (length (now doubts) ≡ n) ⌝ }
-    ensures { λ r. ⌜ r ≡ halfRead full (now (symbols .entry)) (now (doubts .entry)) n ⌝ }
+    ensures { λ r. ⌜ r ≡ misdoubted full (now (symbols .entry)) (now (doubts .entry)) n ⌝ }
 {
     let mut found = false;
     for c in 0..n {
-        found = found | is_half_read_cell(full, symbols[c], doubts[c]);
+        found = found | is_misdoubted_cell(full, symbols[c], doubts[c]);
     }
     found
 }

@@ -2,12 +2,12 @@
 -- Assumes nothing.
 use mathlib.Core.Path.{refl}
 use Rattle.definitions.proofs.Refusals.{equal, unequal, answered}
-use Rattle.traymark.proofs.Kind.{photo-at, doubts-reached}
+use Rattle.traymark.proofs.Kind.{photo-at}
 use borrow.Author.Needs.{needs}
 use Rattle.traymark.proofs.checks.photo_refusal.Statement.{statement}
 use Rattle.traymark.proofs.checks.photo_refusal.Tie as tie
 
-ruleset tests = (doubts-reached, answered, equal, unequal)
+ruleset tests = (answered, equal, unequal)
 
 -- both lengths are known
 module _ (c : tie.After-record-size) where
@@ -37,15 +37,8 @@ returns-5 c P says =
 
 returns-6 : tie.Need-returns-6
 returns-6 c P says =
-    let strange = c .before .before .before .before .before .before .before in
-    let size = strange .before .before .before in
+    let size = c .before .before .before .before .before .before .before in
     photo-at _ says _ _ _ 5 (count size .cell-count .ensures) (size .record-size .ensures) (search tests depth 16)
-
-returns-7 : tie.Need-returns-7
-returns-7 c P says =
-    let strange = c .before .before .before .before .before .before .before in
-    let size = strange .before .before .before in
-    photo-at _ says _ _ _ 6 (count size .cell-count .ensures) (size .record-size .ensures) (search tests depth 16)
 
 pub photo-refusal-spec : {M : Type 1} → statement M
 photo-refusal-spec =
@@ -58,8 +51,6 @@ photo-refusal-spec =
     returns-3
     (λ c. search needs) (λ c κs. search needs)
     returns-4
-    (λ c. search needs) (λ c. search needs) (λ c κs. search needs)
-    returns-5
     (λ c. search needs) (λ c κs. search needs)
-    returns-6
-    returns-7)
+    returns-5
+    returns-6)
