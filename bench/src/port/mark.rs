@@ -1,7 +1,7 @@
 //! The mark reader: the record under the radius, and what is counted of it.
 
 use super::checks::UNREAD;
-use super::field::{Reduction, Row, Square, INVERSES_251};
+use super::field::{Reduction, Square, INVERSES_251};
 use super::plan::Plan;
 use super::polynomial::{put_record, Powers};
 use super::steps::Steps;
@@ -37,10 +37,8 @@ fn load(bytes: &[u8], n: usize, number: impl Fn(u8) -> u8) -> Square {
     square
 }
 
-/// How many cells are unread, or have something left of their symbols. A row is counted in the width of its numbers.
+/// How many cells are unread, or have something left of their symbols.
 fn differing(symbols: &[u8], n: usize, left: &Square) -> u32 {
-    let in_row = |(symbols, left): (&[u8], &Row)| {
-        symbols.iter().zip(left).map(|(&symbol, &left)| u16::from((symbol == UNREAD) | (left != 0))).sum::<u16>()
-    };
-    symbols.chunks_exact(n).zip(left).map(|row| u32::from(in_row(row))).sum()
+    let cells = symbols.chunks_exact(n).zip(left).flat_map(|(symbols, left)| symbols.iter().zip(left));
+    cells.map(|(&symbol, &left)| u32::from((symbol == UNREAD) | (left != 0))).sum()
 }

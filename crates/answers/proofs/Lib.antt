@@ -1,4 +1,3 @@
 -- The laws of the answers.
 pub mod Difference
-pub mod Unread
 pub mod Summary

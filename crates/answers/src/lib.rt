@@ -9,36 +9,22 @@ ghost use Rattle.definitions.specs.Cost.{unreadCell, margin as marginOf, class}
 ghost use Rattle.answers.specs.Summary.{unreadIn, summary};
 
 // 1 for a cell that was not read.
-fn cell_unread(symbol: u8) -> u8
+fn cell_unread(symbol: u8) -> u16
     ensures { λ r. ⌜ (r ≡ unreadCell symbol) × (r ≤ 1) ⌝ }
 {
     if symbol == UNREAD { 1 } else { 0 }
 }
 
-// How many cells of a part were not read. A byte has the count, so that sixteen cells are counted at once.
-fn unread_in_part(symbols: &[u8]) -> u8
-    requires { ⌜ length (now symbols) ≤ 255 ⌝ }
-    ensures { λ r. ⌜ (r ≡ unreadIn (now (symbols .entry))) × (r ≤ length (now (symbols .entry))) ⌝ }
-{
-    let mut count = 0u8;
-    for i in 0..symbols.len() {
-        count += cell_unread(symbols[i]);
-    }
-    count
-}
-
-// How many cells were not read, part by part.
+// How many cells were not read. 16 bits have the count, which takes half the work of 32.
 fn unread_cells(symbols: &[u8]) -> u32
     requires { ⌜ length (now symbols) ≤ 65535 ⌝ }
     ensures { λ r. ⌜ r ≡ unreadIn (now (symbols .entry)) ⌝ }
 {
-    let mut count = 0;
-    let mut at = 0;
-    while symbols.len() - at > 128 {
-        count += unread_in_part(&symbols[at..at + 128]) as u32;
-        at += 128;
+    let mut count = 0u16;
+    for i in 0..symbols.len() {
+        count += cell_unread(symbols[i]);
     }
-    count + unread_in_part(&symbols[at..]) as u32
+    count as u32
 }
 
 // The class of a changed count.

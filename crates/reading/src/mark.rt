@@ -30,17 +30,18 @@ fn cell_flag(symbol: u16, left: u16) -> u16
     left
 }
 
-// How many cells of a row differ, from its symbols and what the decoder left of them.
+// How many cells of a row differ, from its symbols and what the decoder left of them. 16 bits have the count, which takes half
+// the work of 32.
 fn differing_in_row(symbols: &[u8], left: [u16; 16]) -> u32
     requires { ⌜ length (now symbols) ≤ 16 ⌝ }
     ensures { λ r. ⌜ (r ≡ hamming (length (now (symbols .entry))) (λ c. flag (at (now (symbols .entry)) c) (at left c)) (λ _. 0))
         × (r ≤ 16) ⌝ }
 {
-    let mut sum = 0;
+    let mut sum = 0u16;
     for i in 0..symbols.len() {
-        sum += word::differs(cell_flag(symbols[i] as u16, left[i]), 0);
+        sum += word::differs(cell_flag(symbols[i] as u16, left[i]), 0) as u16;
     }
-    sum
+    sum as u32
 }
 
 // The same of a mark of a rows of b cells.

@@ -45,7 +45,9 @@ differing-in-row-spec =
     loop-holds
     (λ c. search needs)
     (λ c. omega (arith, c .shared-slice-known2 .given (c .before .before .loop .i)))
-    (λ c. search needs) (λ c. search needs) (λ c κs. search needs) (λ c κs. search needs) (λ c. search needs)
+    (λ c. search needs) (λ c. search needs) (λ c κs. search needs) (λ c κs. search needs)
+    (λ c. omega (arith, c .differs .ensures .1)) (λ c. omega (arith, c .differs .ensures .1))
     (λ c. search needs) (λ c. search needs)
     loop-again
+    (λ c. search needs)
     returns)
