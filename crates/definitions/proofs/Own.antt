@@ -8,7 +8,7 @@
 --   own-read                  read back, it is the record
 --
 -- What this file is for: demand 2 follows from demand 3. Assumes nothing.
-use mathlib.Core.Path.{_≡_, refl, ap, _∙_}
+use mathlib.Core.Path.{_≡_, ap, _∙_}
 use mathlib.Core.Logic.{inl}
 use mathlib.Core.Bool.{true}
 use mathlib.Core.List.{List}

@@ -2,7 +2,7 @@
 --
 --   said P m      the plan P as a struct; m stands for the reciprocal of its prime
 --   Says P plan   the plan P is sound, and the struct says what it does
---   Ready plan    the numbers of its grid fit together, and the full doubt is a byte's, and not the highest
+--   Ready plan    the numbers of its grid fit together, and the full doubt is a byte's
 --
 -- What this file is for: the contract of `parse`; and what the functions that take the struct rest on.
 use mathlib.Core.Path.{_≡_}
@@ -38,4 +38,4 @@ pub record Says (P : List ℕ) (plan : Plan) : Type 0 where
 
 pub record Ready (plan : Plan) : Type 0 where
   pub fit : Fit (plan .grid)
-  pub byte : plan .grid .full < 255
+  pub byte : plan .grid .full < 256
