@@ -1,7 +1,6 @@
 -- The laws of tables: the lists of f 0 .. f (n - 1).
 --
 --   length-tab, tab-at   a table has n entries, and entry i is f i
---   zeros-at             a list of zeros is 0 everywhere, beyond its end too
 --   list-eq              lists of one length with the same entries are one list
 --   tab-is               a list of n entries f i is the table
 --   tab-eq               tables of the same entries are one
@@ -17,7 +16,7 @@ use native.Mathlib.Numerals.{add-one}
 use native.Mathlib.Omega.{arith}
 use native.Mathlib.Decide.{ℕ-discrete}
 use native.Mathlib.Nat.{add-zero, add-suc}
-use lib.ListN.{length, set, drop, replicate, getD, length-append, List·getD-append}
+use lib.ListN.{length, set, drop, getD, length-append, List·getD-append}
 use lib.Seq.{getD-at, set-at, drop-cons, drop-length}
 use Rattle.bounded.specs.Bounded.{at, tab}
 
@@ -33,11 +32,6 @@ tab-at (suc n) f i l = elim (ℕ-discrete i n) [
   | yes e ↦ rw e (getD-at (tab n f) (f n) [] 0 n (length-tab n f))
   | no e ↦ List·getD-append (tab n f) _ 0 i (omega (arith, length-tab n f)) ∙ tab-at n f i (omega arith)
 ]
-
-pub zeros-at : (n i : ℕ) → at (replicate n 0) i ≡ 0
-zeros-at zero i = refl
-zeros-at (suc n) zero = refl
-zeros-at (suc n) (suc i) = zeros-at n i
 
 -- two lists of one length with the same bytes are one
 pub list-eq : (v w : List ℕ) → length v ≡ length w → ((i : ℕ) → i < length v → at v i ≡ at w i) → v ≡ w

@@ -1,27 +1,26 @@
 -- A record against its own mark with all doubts 0.
 --
---   own-cost                  it costs 0
---   own-differing             no cell differs
+--   own-cost, own-differing   it costs 0, and no cell differs
 --   own-reading               so its reading is clean
 --   own-photo                 the mark is a photograph of the plan
 --   radius-positive           the radius is above 0
 --   own-read                  read back, it is the record
 --
 -- What this file is for: demand 2 follows from demand 3. Assumes nothing.
-use mathlib.Core.Path.{_≡_, ap, _∙_}
+use mathlib.Core.Path.{_≡_, refl, ap, _∙_}
 use mathlib.Core.Logic.{inl}
 use mathlib.Core.Bool.{true}
 use mathlib.Core.List.{List}
-use Prim.Native.Nat.{ℕ, _-_, _<_}
+use Prim.Native.Nat.{ℕ, zero, suc, _-_, _<_}
 use native.Mathlib.Omega.{arith}
 use native.Mathlib.Nat.{add-zero, mul-le-mul}
 use lib.Dec.{eqb}
 use lib.IntN.{pos}
-use lib.ListN.{length-replicate}
+use lib.ListN.{length, replicate}
 use borrow.Author.Tests.{eq-eqb}
 use Rattle.bounded.specs.Bounded.{at, sum}
 use Rattle.bounded.proofs.Sum.{sum-eq, sum-const}
-use Rattle.bounded.proofs.Tab.{length-tab, tab-at, zeros-at}
+use Rattle.bounded.proofs.Tab.{length-tab, tab-at}
 use Rattle.definitions.specs.Plan.{side, degree}
 use Rattle.definitions.specs.Code.{Code, strip, square, cells, value, mark}
 use Rattle.definitions.specs.Cost.{full, radius, margin}
@@ -32,6 +31,15 @@ use Rattle.definitions.specs.Sound.{Sound}
 use Rattle.definitions.specs.Photograph.{Photograph, sure}
 use Rattle.definitions.specs.Demands.{Nearest, clean}
 use Rattle.definitions.proofs.Counts.{value-below, differing-split}
+
+zeros-at : (n c : ℕ) → at (replicate n 0) c ≡ 0
+zeros-at zero c = refl
+zeros-at (suc n) zero = refl
+zeros-at (suc n) (suc c) = zeros-at n c
+
+zeros-length : (n : ℕ) → length {A = ℕ} (replicate n 0) ≡ n
+zeros-length zero = refl
+zeros-length (suc n) = ap suc (zeros-length n)
 
 module _ (C : Code) (P F : List ℕ) where
   mark-at : (c : ℕ) → c < cells C P → at (mark C P F) c ≡ value C P F c
@@ -59,7 +67,7 @@ module _ (P : List ℕ) (S : Sound P) where
   own-photo C F = record {
     sound = S;
     symbols = length-tab (cells C P) (value C P F);
-    doubts = length-replicate {A = ℕ} (cells C P) 0;
+    doubts = zeros-length (cells C P);
     symbol = λ c l. inl (rw (mark-at C P F c l) (value-below S C F c));
     doubt = λ c l. omega (arith, zeros-at (cells C P) c);
     erased = λ c l z. absurd (omega (arith, z, mark-at C P F c l, value-below S C F c, S .small));

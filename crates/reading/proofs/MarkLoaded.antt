@@ -206,7 +206,8 @@ module _ {P s u B : List ℕ} {left u′ : List (List ℕ)} {plan : Plan} (says 
 
     pub mark-unread : {W : List ℕ} {k : ℕ} → c < R → W ≡ tab (length B) (at w) → k ≡ differingCells (g .a) (g .b) s after →
         unreadIn s ≤ k
-    mark-unread l stored e = unread-said t (sides .0) (sides .1) (rw (says .fields) at D) (omega (arith, mark-radius says h)) stored
+    mark-unread l stored e =
+        unread-said t (sides .0) (sides .1) (rw (says .fields) at D) (omega (arith, mark-radius says h)) stored
         (rw (says .fields) at e)
 
     pub mark-reading : {W : List ℕ} {k : ℕ} → c < R → W ≡ tab (length B) (at w) → k ≡ differingCells (g .a) (g .b) s after →

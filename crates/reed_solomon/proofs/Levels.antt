@@ -29,7 +29,6 @@ use borrow.Author.Tests.{leb-true, leb-false}
 use lib.Seq.{getD-set-same, getD-set-other}
 use Rattle.bounded.specs.Bounded.{at, sum}
 use Rattle.bounded.proofs.Sum.{sum-eq, sum-le, sum-add, sum-const}
-use Rattle.bounded.proofs.Tab.{zeros-at}
 use Rattle.field.specs.Row.{row}
 use Rattle.field.proofs.Row.{row-at}
 use Rattle.distance.specs.Level.{erased, weight}
@@ -40,7 +39,7 @@ use Rattle.welch_berlekamp.specs.declared.newton.Newton.{Newton}
 use Rattle.welch_berlekamp.specs.Order.{taken, key, Placed, Least, Entering}
 use Rattle.welch_berlekamp.specs.Pairs.{Pairs, Enters}
 use Rattle.welch_berlekamp.specs.Newton.{pairsOf}
-use Rattle.welch_berlekamp.proofs.Cursor.{key-in, key-out, keys-placed, without-most, left-most, next-cell}
+use Rattle.welch_berlekamp.proofs.Cursor.{zeros-at, key-in, key-out, keys-placed, without-most, left-most, next-cell}
 use Rattle.welch_berlekamp.proofs.Cursor.{entered-below, left-above, entering-next}
 use Rattle.welch_berlekamp.proofs.State.{zeros-row}
 use Rattle.reed_solomon.specs.declared.axis.Axis.{Axis}

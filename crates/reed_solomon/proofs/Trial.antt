@@ -31,7 +31,7 @@ use borrow.Author.Tests.{eq-eqb, ne-eqb, lt-ltb}
 use lib.ListN.{length, replicate}
 use Rattle.bounded.specs.Bounded.{at, sum}
 use Rattle.bounded.proofs.Sum.{sum-eq, sum-le, sum-const, sum-short}
-use Rattle.bounded.proofs.Tab.{length-tab, tab-eq, zeros-at}
+use Rattle.bounded.proofs.Tab.{length-tab, tab-eq}
 use Rattle.field.specs.Prime.{Prime}
 use Rattle.field.specs.Row.{row}
 use Rattle.field.proofs.Congruence.{same, ~sym, _⨾_, remainder, below-eq, cancel, mod-cong, cong-mod}
@@ -46,7 +46,7 @@ use Rattle.welch_berlekamp.specs.declared.newton.Newton.{Newton}
 use Rattle.welch_berlekamp.specs.Order.{taken, key}
 use Rattle.welch_berlekamp.specs.Pairs.{Pairs, pairs, Holds}
 use Rattle.welch_berlekamp.specs.Newton.{Enough, Coefficients}
-use Rattle.welch_berlekamp.proofs.Cursor.{key-in, key-out, keys-placed, marked-placed}
+use Rattle.welch_berlekamp.proofs.Cursor.{zeros-at, key-in, key-out, keys-placed, marked-placed}
 use Rattle.welch_berlekamp.proofs.State.{ones-at}
 use Rattle.reed_solomon.specs.declared.axis.Axis.{Axis}
 use Rattle.reed_solomon.specs.declared.decoder.Decoded.{Decoded}

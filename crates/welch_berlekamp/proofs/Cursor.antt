@@ -1,5 +1,6 @@
 -- Keys: 16 times a doubt and the place, `taken` where there is none.
 --
+--   zeros-at                        a place of zeros
 --   key-in, key-out                 the key of a cell, and of what is none
 --   keys-start, keys-more           the keys of no cell, and of one more
 --   keys-most, keys-placed          they are at most `taken`, and tell their places
@@ -15,7 +16,7 @@ use mathlib.Core.Logic.{_≢_}
 use mathlib.Core.Path.{_≡_, refl, sym, ap, _∙_}
 use mathlib.Core.Bool.{Bool, true, false, cond}
 use mathlib.Core.List.{List}
-use Prim.Native.Nat.{ℕ, _+_, _*_, _%_, _≤_, _<_, min}
+use Prim.Native.Nat.{ℕ, zero, suc, _+_, _*_, _%_, _≤_, _<_, min}
 use native.Mathlib.Omega.{arith}
 use native.Mathlib.Decide.{ℕ-discrete, decLt}
 use native.Mathlib.Nat.{mod-lt}
@@ -25,11 +26,17 @@ use lib.ListN.{length, set, length-set, replicate, getD-replicate}
 use lib.Seq.{getD-set-same, getD-set-other}
 use Rattle.bounded.specs.Bounded.{at}
 use Rattle.bounded.proofs.Sum.{cell-column}
-use Rattle.bounded.proofs.Tab.{length-tab, zeros-at}
+use Rattle.bounded.proofs.Tab.{length-tab}
 use Rattle.field.specs.Loop.{Upto}
 use Rattle.field.specs.Row.{row}
 use Rattle.field.proofs.Row.{row-at, beyond}
 use Rattle.welch_berlekamp.specs.Order.{taken, key, Placed, Least, Entering}
+
+-- a row of zeros, and beyond it
+pub zeros-at : (n j : ℕ) → at (replicate n 0) j ≡ 0
+zeros-at zero j = refl
+zeros-at (suc n) zero = refl
+zeros-at (suc n) (suc j) = zeros-at n j
 
 -- the key of a cell
 pub key-in : (n u j : ℕ) → j < n → key n u j ≡ u * 16 + j

@@ -28,7 +28,6 @@ use lib.ListN.{set, length-set, replicate}
 use lib.Seq.{getD-set-same, getD-set-other}
 use Rattle.bounded.specs.Bounded.{at}
 use Rattle.bounded.proofs.Sum.{sum-eq, sum-le, sum-const}
-use Rattle.bounded.proofs.Tab.{zeros-at}
 use Rattle.field.specs.Congruence.{Cong, Agree}
 use Rattle.field.specs.Row.{row, Row}
 use Rattle.field.proofs.Congruence.{same, ~sym, _⨾_, ~add, ~mul, less, nonzero, mod-cong}
@@ -40,7 +39,7 @@ use Rattle.welch_berlekamp.specs.Order.{taken, Least}
 use Rattle.welch_berlekamp.specs.Interpolation.{Entered}
 use Rattle.welch_berlekamp.specs.Pairs.{Ratio}
 use Rattle.welch_berlekamp.specs.Newton.{base, form, Enough, Fits, Coefficients}
-use Rattle.welch_berlekamp.proofs.Cursor.{next-cell, left-above, entering-start, entering-next}
+use Rattle.welch_berlekamp.proofs.Cursor.{zeros-at, next-cell, left-above, entering-start, entering-next}
 use Rattle.welch_berlekamp.proofs.Degrees.{shifted, mixed, degrees-start}
 use Rattle.welch_berlekamp.proofs.Entry.{freed1}
 use Rattle.welch_berlekamp.proofs.State.{minus, Times, Plus, reduced, plus, times, ones-at, zeros-row, ones-row}

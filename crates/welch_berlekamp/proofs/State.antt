@@ -18,7 +18,6 @@ use native.Mathlib.Numerals.{add-one}
 use lib.ListN.{length, set, length-set, replicate, getD-replicate}
 use lib.Seq.{getD-set-same, getD-set-other}
 use Rattle.bounded.specs.Bounded.{at}
-use Rattle.bounded.proofs.Tab.{zeros-at}
 use Rattle.field.specs.Congruence.{Cong, Agree}
 use Rattle.field.specs.Prime.{Inverse}
 use Rattle.field.specs.Row.{row, Row}
@@ -26,6 +25,7 @@ use Rattle.field.proofs.Congruence.{same, ~sym, _⨾_, ~add, ~mul, ~mul-right, 
 use Rattle.field.proofs.Row.{row-of, result-row, result-cong}
 use Rattle.welch_berlekamp.specs.Interpolation.{Entered}
 use Rattle.welch_berlekamp.specs.Pairs.{Pairs, pairs, Ratio, Shaped, State, Enters}
+use Rattle.welch_berlekamp.proofs.Cursor.{zeros-at}
 use Rattle.welch_berlekamp.proofs.Degrees.{shifted, mixed}
 use Rattle.welch_berlekamp.proofs.Entry.{kept1, kept2, freed1, freed2}
 

@@ -16,7 +16,8 @@ use Rattle.measuring.proofs.measure_rows.Statement.{statement}
 use Rattle.measuring.proofs.measure_rows.Tie as tie
 
 abbrev Inv-loop : tie.InvT-loop
-Inv-loop g columns ys symbols doubts a b cost₀ differing₀ r₀ cost differing r = (r ≤ a) × (cost ≤ 2097152 * r) × (differing ≤ 16 * r)
+Inv-loop g columns ys symbols doubts a b cost₀ differing₀ r₀ cost differing r =
+    (r ≤ a) × (cost ≤ 2097152 * r) × (differing ≤ 16 * r)
     × ((x y F : List ℕ) → Columns (g .p) (g .d) x F columns → Powers (g .p) y (g .d) ys →
     Measured (g .full) (r * b) (at symbols) (at doubts) (gridValue (g .p) (g .d) b (at x) (at y) F) cost differing)
 
