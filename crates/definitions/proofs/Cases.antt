@@ -1,4 +1,4 @@
--- The cases of document 01 and further ones hold of the definitions.
+-- The cases of document 01, with unread cells counted apart, and further ones hold of the definitions.
 --
 --   cases-hold                    cases a to l
 --   more-cases-hold               the further cases

@@ -1,4 +1,4 @@
--- Cases a to l of the table "Edges", as rows of one list.
+-- Cases a to l of the table "Edges" of document 01, unread cells counted apart as document 02 asks, as rows of one list.
 --
 --   call ⟹ reading leaving bytes    a call, what it returns, and what its last buffer then holds
 --   effect                           the same by the definitions
@@ -119,7 +119,9 @@ cases =
 -- not of the table: a strip written and read, a plan with several faults at once, a record of total degree 2 at the corners; each
 -- of the bytes 21 to 23 filled; symbol and doubt wrong at once, doubt and coefficient wrong at once; an unread cell in doubt 99;
 -- p 1; n 0, n 17 and n above p; a point that is p, and an unused point byte that is not 0; a wrong cell and an unread one in a
--- mark and in a strip, read and measured; an unread cell where the record's value is 0
+-- mark and in a strip, read and measured; an unread cell where the record's value is 0; the example of docs/SPECIFICATION.md;
+-- read cells in doubt 100, wrong and right; an unread first cell of a strip beside a wrong one in doubt 100; an unread last cell;
+-- an unread cell in doubt 101; four wrong cells and seventeen unread; an unread cell and a coefficient that is too large
 abbrev pub moreCases : List Case
 moreCases =
     (write strip planA (3 ∷ 1 ∷ []) (nines 3) ⟹ only 0 leaving 4 ∷ 5 ∷ 0 ∷ [])
@@ -146,4 +148,13 @@ moreCases =
     ∷ (read strip (plan 7 3 0 1 2 4) (5 ∷ 255 ∷ 4 ∷ []) (0 ∷ 100 ∷ 1 ∷ []) (nines 1) ⟹ gives 299 1 1 1 1 leaving 5 ∷ [])
     ∷ (measure strip (plan 7 3 0 1 2 4) (5 ∷ 255 ∷ 4 ∷ []) (0 ∷ 100 ∷ 1 ∷ []) (5 ∷ []) ⟹ gives 299 1 1 1 1 leaving 5 ∷ [])
     ∷ (read square planA (set mark₁ 3 255) (set (sure 9) 3 100) (nines 3) ⟹ gives 100 500 0 1 0 leaving record₁)
+    ∷ (read square planA (6 ∷ 1 ∷ 3 ∷ 0 ∷ 255 ∷ 6 ∷ 2 ∷ 0 ∷ 1 ∷ []) (0 ∷ 20 ∷ 0 ∷ 0 ∷ 100 ∷ 0 ∷ 0 ∷ 90 ∷ 5 ∷ []) (nines 3)
+    ⟹ gives 435 165 2 1 1 leaving record₁)
+    ∷ (read square planA (0 ∷ drop 1 mark₁) (100 ∷ 100 ∷ sure 7) (nines 3) ⟹ gives 200 400 1 0 1 leaving record₁)
+    ∷ (measure strip planA (255 ∷ 5 ∷ 1 ∷ []) (100 ∷ 0 ∷ 100 ∷ []) (3 ∷ 1 ∷ []) ⟹ gives 200 0 1 1 1 leaving 3 ∷ 1 ∷ [])
+    ∷ (read square planA (set mark₁ 8 255) (set (sure 9) 8 100) (nines 3) ⟹ gives 100 500 0 1 0 leaving record₁)
+    ∷ (read square planA (hidden 1) (101 ∷ sure 8) (nines 3) ⟹ only 8 leaving nines 3)
+    ∷ (measure square (set (set (plan 7 5 0 0 1 2) 8 3) 9 4) (replicate 17 255 ++ replicate 4 4 ++ replicate 4 5)
+    (replicate 17 100 ++ sure 8) (5 ∷ []) ⟹ gives 2500 0 4 17 2 leaving 5 ∷ [])
+    ∷ (measure square planA (hidden 1) (doubts 1) (3 ∷ 1 ∷ 7 ∷ []) ⟹ only 9 leaving 3 ∷ 1 ∷ 7 ∷ [])
     ∷ []

@@ -7,10 +7,10 @@
 --   passed-zeros, passed-rest   rows that are set one by one, the others being zeros
 --   residues-set              the residues of some bytes, set in a row of zeros
 --   residues-part, no-residues   those of a row from its own part of the bytes; below the grid there are none
---   differing-more              a row more of the cells that differ
+--   differing-more            a row more of the cells that differ
 --   flag-differ               a cell's flag says whether its symbol is the value
 --
--- What this file is for: loading a mark, and counting its cells that differ from what the decoder left. Assumes nothing.
+-- What this file is for: loading a mark, and counting, from what the decoder left, the cells that differ. Assumes nothing.
 use mathlib.Core.Path.{_≡_, refl, sym, ap, _∙_}
 use mathlib.Core.Logic.{_⊎_, inl, inr}
 use mathlib.Core.Bool.{Bool, true, false, cond}

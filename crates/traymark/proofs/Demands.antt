@@ -65,7 +65,7 @@ pub demand-2-written : (C : Code) (P F B : List ℕ) → writeNumber C P F B ≡
 demand-2-written C P F B e = rw (← write-fills C P F B refl e) (mark-written C P F)
 
 -- Demand 2, reading what was written: for every plan, record and buffer that the writer accepts, reading what it wrote with all
--- doubts 0 gives the same record at cost 0, with no cell changed; so does measuring it.
+-- doubts 0 gives the same record at cost 0, with no cell changed or unread; so does measuring it.
 pub demand-2 : (C : Code) (P F B B′ : List ℕ) → writeNumber C P F B ≡ 0 → length B′ ≡ size C P → RoundTrip C P F B B′
 demand-2 C P F B B′ e l =
     let w = accepted-writing C P F B e in

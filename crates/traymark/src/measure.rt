@@ -7,8 +7,9 @@ ghost use Rattle.definitions.specs.Calls.{measureReading};
 
 // Measures a record against a photographed mark, from Rattle and from C. All four are any bytes of any length, and are only read.
 //
-// Returns number 0, the record's cost D, the margin R - D, the changed count and its class. A margin of 0 or below is returned as
-// such: measuring never gives 10. Else all but the number is 0, and that is the lowest that applies of
+// Returns number 0, the record's cost D, the margin R - D, the changed and the unread count, and the class by the changed count.
+// A margin of 0 or below is returned as such: measuring never gives 10. Else all but the number is 0, and that is the lowest that
+// applies of
 //   1 to 5  the plan is refused, as by `traymark_check_plan`
 //   6       `symbols` or `doubts` has not n times n bytes, or `record` has not (d + 1)(d + 2) / 2
 //   7       a symbol is p or more and not 255

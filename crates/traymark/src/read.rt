@@ -8,9 +8,9 @@ ghost use Rattle.definitions.specs.Calls.{readReading, readBuffer};
 // Reads a photographed mark, from Rattle and from C.
 // `plan`, `symbols` and `doubts` are any bytes of any length, and are only read.
 //
-// Returns number 0 with the cost, the margin, the changed count and the class of the one record that costs under 100 n (n - d),
-// and has filled `record` with its (d + 1)(d + 2) / 2 coefficients, by total degree and then by rising power of Y. Else leaves
-// `record` as it was, and all but the number is 0; that is the lowest that applies of
+// Returns number 0 with the cost, the margin, the changed and the unread count and the class of the one record that costs under
+// 100 n (n - d), and has filled `record` with its (d + 1)(d + 2) / 2 coefficients, by total degree and then by rising power of Y.
+// Else leaves `record` as it was, and all but the number is 0; that is the lowest that applies of
 //   1 to 5  the plan is refused, as by `traymark_check_plan`
 //   6       `symbols` or `doubts` has not n times n bytes, or `record` has not (d + 1)(d + 2) / 2
 //   7       a symbol is p or more and not 255

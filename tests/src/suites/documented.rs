@@ -8,7 +8,7 @@ use traymark_tests::calls::{hold, Arguments, Call, Outcome};
 use traymark_tests::counts::Counts;
 use traymark_tests::random::Random;
 
-pub const CASES: u64 = 39;
+pub const CASES: u64 = 41;
 
 /// A call and its outcome as the document says it.
 struct Row {
@@ -46,6 +46,7 @@ fn rows() -> Vec<Row> {
     let (unread_5, unread_6) = (unread(MARK, 0..5), unread(MARK, 0..6));
     let wrong_and_unread = unread([0, 1, 5, 0, 2, 6, 2, 4, 1], 1..2);
     let unread_0 = unread(MARK, 3..4);
+    let (wrong_first, full_doubts) = ([0, 1, 5, 0, 2, 6, 2, 4, 1], [100, 100, 0, 0, 0, 0, 0, 0, 0]);
     let one_read = unread([7; 256], 1..256);
     let few_read = unread(from_fn::<u8, 256, _>(|cell| if cell < 16 { 8 } else { 7 }), 33..256);
     vec![
@@ -73,6 +74,9 @@ fn rows() -> Vec<Row> {
         measure(Mark, &plan_a, &[0, 0, 0], &wrong_and_unread.0, &wrong_and_unread.1, [1_300, -700, 6, 1, 2]),
         read(Mark, &plan_a, &unread_0.0, &unread_0.1, Ok((&[3, 1, 2], [100, 500, 0, 1, 0]))),
         measure(Mark, &plan_a, &[3, 1, 2], &unread_0.0, &unread_0.1, [100, 500, 0, 1, 0]),
+        // read cells in doubt 100, a wrong one and a right one: neither is unread
+        read(Mark, &plan_a, &wrong_first, &full_doubts, Ok((&[3, 1, 2], [200, 400, 1, 0, 1]))),
+        measure(Mark, &plan_a, &[3, 1, 2], &wrong_first, &full_doubts, [200, 400, 1, 0, 1]),
         // a strip, written, with its last cell unread, and measured
         write(Strip, &plan_a, &[3, 1], 3, Ok(&[4, 5, 0])),
         read(Strip, &plan_a, &[4, 5, 255], &[0, 0, 100], Ok((&[3, 1], [100, 100, 0, 1, 0]))),

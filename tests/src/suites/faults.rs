@@ -146,9 +146,9 @@ const FAULTS: &[&Fault] = &[
     fault!("symbol above p", "a symbol", 7, ON_PHOTO, |g, plan, r| *even(&mut g.symbols, r) = large(plan, r).min(254)),
     fault!("doubt 101", "a doubt", 8, ON_PHOTO, |g, _, r| *odd(&mut g.doubts, r) = 101),
     fault!("doubt above 100", "a doubt", 8, ON_PHOTO, |g, _, r| *odd(&mut g.doubts, r) = r.between(101, 255) as u8),
-    fault!("unread with doubt 99", "a doubt", 8, ON_PHOTO, |g, _, r| half_read(g, 99, r)),
-    fault!("unread with doubt 0", "a doubt", 8, ON_PHOTO, |g, _, r| half_read(g, 0, r)),
-    fault!("unread with doubt 101", "a doubt", 8, ON_PHOTO, |g, _, r| half_read(g, 101, r)),
+    fault!("unread with doubt 99", "a doubt", 8, ON_PHOTO, |g, _, r| misdoubted(g, 99, r)),
+    fault!("unread with doubt 0", "a doubt", 8, ON_PHOTO, |g, _, r| misdoubted(g, 0, r)),
+    fault!("unread with doubt 101", "a doubt", 8, ON_PHOTO, |g, _, r| misdoubted(g, 101, r)),
     fault!("coefficient p", "a coefficient", 9, GIVEN_RECORD, |g, plan, r| *any(&mut g.record, r) = plan.p as u8),
     fault!("coefficient above p", "a coefficient", 9, GIVEN_RECORD, |g, plan, r| *any(&mut g.record, r) = large(plan, r)),
     fault!("at the radius", "a photograph", 10, READING, |g, plan, r| photographed(g, plan, g.code.radius(plan), r)),
@@ -165,7 +165,7 @@ fn large(plan: &Plan, random: &mut Random) -> u8 {
     random.between(plan.p, 255) as u8
 }
 
-fn half_read(given: &mut Arguments, doubt: u8, random: &mut Random) {
+fn misdoubted(given: &mut Arguments, doubt: u8, random: &mut Random) {
     let cell = 1 + 2 * random.below(given.symbols.len() / 2);
     given.symbols[cell] = 255;
     given.doubts[cell] = doubt;
