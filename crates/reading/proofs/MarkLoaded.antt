@@ -5,8 +5,8 @@
 --   mark-received   what is loaded is what the mark decoder takes
 --   mark-refused    its outcome over the radius is refusal 10
 --   message-small   under the radius the numbers of its message are bytes
---   mark-unread     of the cells that differ from its mark, those that were not read are some
---   mark-reading    and the message, stored, is the reading of the one record within the radius
+--   mark-reading    and the message, stored, is the reading of the one record within the radius; of the cells that differ from
+--                   its mark, those that were not read are some
 --
 -- What this file is for: reading a mark is the reading that document 01 defines. Assumes nothing.
 use mathlib.Core.Path.{_≡_, refl, sym, ap, _∙_}
@@ -169,17 +169,17 @@ module _ {P s u B : List ℕ} {left u′ : List (List ℕ)} (t : Taken square P 
       differing-of : differingCells (side P) (side P) s after ≡ hamming (cells square P) (at s) (value square P W)
       differing-of = sym (sum-rows (side P) (side P) _ ∙ sum-eq (side P) λ r l. sum-eq (side P) λ c m. sym (cell-differs r c l m))
 
-      unread-said : {k : ℕ} → k ≡ differingCells (side P) (side P) s after → unreadIn s ≤ k
-      unread-said e = unread-within W (t .photo) (e ∙ differing-of)
-
       reading-said : {k : ℕ} → k ≡ differingCells (side P) (side P) s after →
-          Reads square P s u B (summary (radius full square P) g k s) W
+          (unreadIn s ≤ k) × Reads square P s u B (summary (radius full square P) g k s) W
       reading-said e =
           let z = found h in
           let points = point-at (t .photo .sound) in
           let paid = mark-cost P s u B (t .clear) points loaded w (D .decoded) z W word-length word-at in
-          rw (summary-is W (t .photo) (e ∙ differing-of) refl paid)
-          (mark-found P s u B (t .clear) points loaded w (D .decoded) z W word-length word-at)
+          let differing = e ∙ differing-of in (
+            unread-within W (t .photo) differing,
+            rw (summary-is W (t .photo) differing refl paid)
+                (mark-found P s u B (t .clear) points loaded w (D .decoded) z W word-length word-at),
+          )
 
 -- the same by the struct that says what the plan does
 module _ {P s u B : List ℕ} {left u′ : List (List ℕ)} {plan : Plan} (says : Says P plan) (t : Taken square P s u B)
@@ -204,14 +204,8 @@ module _ {P s u B : List ℕ} {left u′ : List (List ℕ)} {plan : Plan} (says 
     pub message-small : c < R → (j : ℕ) → j < length B → at w j < 256
     message-small l = small-said t (sides .0) (sides .1) (rw (says .fields) at D) (omega (arith, mark-radius says h))
 
-    pub mark-unread : {W : List ℕ} {k : ℕ} → c < R → W ≡ tab (length B) (at w) → k ≡ differingCells (g .a) (g .b) s after →
-        unreadIn s ≤ k
-    mark-unread l stored e =
-        unread-said t (sides .0) (sides .1) (rw (says .fields) at D) (omega (arith, mark-radius says h)) stored
-        (rw (says .fields) at e)
-
     pub mark-reading : {W : List ℕ} {k : ℕ} → c < R → W ≡ tab (length B) (at w) → k ≡ differingCells (g .a) (g .b) s after →
-        Reads square P s u B (summary R c k s) W
+        (unreadIn s ≤ k) × Reads square P s u B (summary R c k s) W
     mark-reading l stored e = rw (mark-radius says h)
         (reading-said t (sides .0) (sides .1) (rw (says .fields) at D) (omega (arith, mark-radius says h)) stored
         (rw (says .fields) at e))

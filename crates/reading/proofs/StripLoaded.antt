@@ -4,8 +4,8 @@
 --   strip-received   what is loaded is what the strip decoder takes
 --   strip-under      a cost that it found is a small number
 --   strip-refused    no answer is refusal 10
---   strip-unread     of the cells that differ from it, those that were not read are some
---   strip-reading    an answer, stored, is the reading of the one record within the radius
+--   strip-reading    an answer, stored, is the reading of the one record within the radius; of the cells that differ from its
+--                    strip, those that were not read are some
 --
 -- What this file is for: reading a strip is the reading that document 01 defines. Assumes nothing.
 use mathlib.Core.Path.{_≡_, refl, sym, ap, ap₂, _∙_}
@@ -119,17 +119,16 @@ module _ {P s u B s′ u′ : List ℕ} (t : Taken strip P s u B) (es : s′ ≡
       differing-of e i = i ∙ sum-eq (side P) λ c l.
           ap₂ (λ a b. cond (eqb a b) 0 1) (rw e (row-at (at s) c (omega (arith, t .photo .sound .most)))) (value-at c l)
 
-      unread-said : {seen : List ℕ} {n : ℕ} → seen ≡ row (at s) → n ≡ hamming (side P) (at seen) (at (r .values)) →
-          unreadIn s ≤ n
-      unread-said e i = unread-within W (t .photo) (differing-of e i)
-
       reading-said : {seen : List ℕ} {n : ℕ} → seen ≡ row (at s) → n ≡ hamming (side P) (at seen) (at (r .values)) →
-          Reads strip P s u B (summary (radius full strip P) (r .cost) n s) W
+          (unreadIn s ≤ n) × Reads strip P s u B (summary (radius full strip P) (r .cost) n s) W
       reading-said e i =
           let points = point-at (t .photo .sound) in
           let paid = strip-cost P s u B (t .clear) points loaded (D .strip) z W word word-at in
-          rw (summary-is W (t .photo) (differing-of e i) refl paid)
-          (strip-found P s u B (t .clear) points loaded (D .strip) z W word word-at)
+          let differing = differing-of e i in (
+            unread-within W (t .photo) differing,
+            rw (summary-is W (t .photo) differing refl paid)
+                (strip-found P s u B (t .clear) points loaded (D .strip) z W word word-at),
+          )
 
   -- the same by the struct that says what the plan does
   module _ {plan : Plan} (says : Says P plan) {r : Decoded} (D : StripDecoded (axisOf (plan .grid)) s′ u′ r) where
@@ -140,12 +139,8 @@ module _ {P s u B s′ u′ : List ℕ} (t : Taken strip P s u B) (es : s′ ≡
     pub strip-refused : r .found ≡ false → Reads strip P s u B (refused 10) B
     strip-refused z = refused-said (rw (says .fields) at D) z
 
-    pub strip-unread : {W seen : List ℕ} {n : ℕ} → r .found ≡ true → W ≡ tab (length B) (at (r .message)) → seen ≡ row (at s) →
-        n ≡ hamming (plan .grid .a) (at seen) (at (r .values)) → unreadIn s ≤ n
-    strip-unread z stored i e = unread-said (rw (says .fields) at D) z stored i (rw (says .fields) at e)
-
     pub strip-reading : {W seen : List ℕ} {n R : ℕ} → r .found ≡ true → W ≡ tab (length B) (at (r .message)) → seen ≡ row (at s) →
         n ≡ hamming (plan .grid .a) (at seen) (at (r .values)) → R ≡ plan .grid .full * 1 * (plan .grid .a - plan .grid .d) →
-        Reads strip P s u B (summary R (r .cost) n s) W
+        (unreadIn s ≤ n) × Reads strip P s u B (summary R (r .cost) n s) W
     strip-reading z stored i e h =
         rw (strip-radius says h) (reading-said (rw (says .fields) at D) z stored i (rw (says .fields) at e))

@@ -57,8 +57,7 @@ measure-rows-requires c κs =
 
 radius-requires : tie.Need-radius-requires
 radius-requires c κs =
-    let powers = c .before .before .before .before .before in
-    let (P, says, photo, given) = powers .before .before .before .before .before .before .pre in
+    let (P, says, photo, given) = start c .pre in
     ready says .fit
 
 reading-requires : tie.Need-reading-requires

@@ -85,7 +85,7 @@ measure-strip-spec =
     values-requires
     measure-row-requires
     (λ c κs.
-    let (P, says, photo, given) = start (c .before .before .before .before) .pre in
+    let (P, says, photo, given) = start (xs c) .pre in
     let g = ready says .fit in
     (omega (arith, g .full), omega arith, g .rows, omega (arith, g .low)))
     reading-requires

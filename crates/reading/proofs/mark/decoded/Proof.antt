@@ -6,10 +6,27 @@ use Rattle.definitions.specs.Code.{square}
 use Rattle.plan.proofs.Ready.{ready}
 use Rattle.plan.proofs.Values.{mark-cells}
 use Rattle.answers.proofs.Summary.{few-cells}
-use Rattle.reading.proofs.MarkLoaded.{mark-received, mark-refused, mark-unread, mark-reading, message-small, record-room}
+use Rattle.reading.proofs.MarkLoaded.{mark-received, mark-refused, mark-reading, message-small, record-room}
 use borrow.Author.Needs.{needs}
 use Rattle.reading.proofs.mark.decoded.Statement.{statement}
 use Rattle.reading.proofs.mark.decoded.Tie as tie
+
+-- the cells are compared
+module _ (c : tie.After-differing-cells) where
+  abbrev stored : tie.After-store
+  stored = c .before .before .before .before
+
+  abbrev radius : tie.After-radius
+  radius = stored .before .before .before .before
+
+  abbrev decoded : tie.After-decode
+  decoded = radius .before
+
+  abbrev symbols : tie.After-residue-rows
+  symbols = decoded .before .before .before .before
+
+  abbrev doubts : tie.After-doubt-rows
+  doubts = symbols .before .before
 
 decode-requires : tie.Need-decode-requires
 decode-requires c κs =
@@ -56,31 +73,22 @@ differing-cells-requires c κs =
 
 reading-requires : tie.Need-reading-requires
 reading-requires c κs =
-    let stored = c .before .before .before .before in
-    let test = stored .before .before .before in
-    let radius = test .before in
-    let decoded = radius .before in
-    let symbols = decoded .before .before .before .before in
-    let doubts = symbols .before .before in
-    let (P, says, t) = doubts .before .before .before .before .before .pre in (
-      omega (arith, radius .radius .ensures .1),
-      omega (arith, radius .radius .ensures .1, test .if1 .left),
+    let under = stored c .before .before .before .if1 .left in
+    let (P, says, t) = doubts c .before .before .before .before .before .pre in (
+      omega (arith, radius c .radius .ensures .1),
+      omega (arith, radius c .radius .ensures .1, under),
       few-cells square (t .photo),
-      mark-unread says t (symbols .residue-rows .ensures) (doubts .doubt-rows .ensures) (decoded .decode .ensures .0)
-          (radius .radius .ensures .0) (omega (arith, test .if1 .left)) (stored .store .ensures) (c .differing-cells .ensures),
+      mark-reading says t (symbols c .residue-rows .ensures) (doubts c .doubt-rows .ensures) (decoded c .decode .ensures .0)
+          (radius c .radius .ensures .0) (omega (arith, under)) (stored c .store .ensures) (c .differing-cells .ensures) .0,
     )
 
 returns-2 : tie.Need-returns-2
 returns-2 c = λ P says t.
-    let compared = c .before in
-    let stored = compared .before .before .before .before in
-    let test = stored .before .before .before in
-    let radius = test .before in
-    let decoded = radius .before in
-    let symbols = decoded .before .before .before .before in
-    rw (c .reading .ensures) (mark-reading says t (symbols .residue-rows .ensures) (symbols .before .before .doubt-rows .ensures)
-    (decoded .decode .ensures .0) (radius .radius .ensures .0) (omega (arith, test .if1 .left)) (stored .store .ensures)
-    (compared .differing-cells .ensures))
+    let d = c .before in
+    let under = stored d .before .before .before .if1 .left in
+    rw (c .reading .ensures)
+    (mark-reading says t (symbols d .residue-rows .ensures) (doubts d .doubt-rows .ensures) (decoded d .decode .ensures .0)
+    (radius d .radius .ensures .0) (omega (arith, under)) (stored d .store .ensures) (d .differing-cells .ensures) .1)
 
 pub decoded-spec : {M : Type 1} → statement M
 decoded-spec =

@@ -5,7 +5,7 @@ use Rattle.definitions.specs.Code.{strip}
 use Rattle.plan.proofs.Ready.{ready}
 use Rattle.answers.proofs.Summary.{few-cells}
 use Rattle.reading.proofs.Loading.{negated}
-use Rattle.reading.proofs.StripLoaded.{strip-received, strip-refused, strip-unread, strip-reading, strip-under}
+use Rattle.reading.proofs.StripLoaded.{strip-received, strip-refused, strip-reading, strip-under}
 use borrow.Author.Needs.{needs}
 use Rattle.reading.proofs.strip.read_strip.Statement.{statement}
 use Rattle.reading.proofs.strip.read_strip.Tie as tie
@@ -71,8 +71,8 @@ reading-requires c κs =
       c .radius .ensures .1,
       strip-under t (symbols loaded .residue-row .ensures) (loaded .wide-row .ensures) says (read .decode .ensures) found,
       few-cells strip (t .photo),
-      strip-unread t (symbols loaded .residue-row .ensures) (loaded .wide-row .ensures) says (read .decode .ensures) found
-          (stored .store .ensures) (seen .row .ensures) (compared .differing .ensures .0),
+      strip-reading t (symbols loaded .residue-row .ensures) (loaded .wide-row .ensures) says (read .decode .ensures) found
+          (stored .store .ensures) (seen .row .ensures) (compared .differing .ensures .0) (c .radius .ensures .0) .0,
     )
 
 returns-2 : tie.Need-returns-2
@@ -86,7 +86,7 @@ returns-2 c = λ P says t.
     rw (c .reading .ensures)
     (strip-reading t (symbols loaded .residue-row .ensures) (loaded .wide-row .ensures) says (read .decode .ensures)
     (negated _ (test .if1 .left)) (stored .store .ensures) (seen .row .ensures) (compared .differing .ensures .0)
-    (c .before .radius .ensures .0))
+    (c .before .radius .ensures .0) .1)
 
 pub read-strip-spec : {M : Type 1} → statement M
 read-strip-spec =
