@@ -3,7 +3,7 @@
 --   cases-hold                    cases a to l
 --   more-cases-hold               the further cases
 --   class-bounds                  the class at each of its bounds
---   finder-cases                  the finder's numbers
+--   finder-cases                  what the finder hands back
 --   published-case                a published distance
 --   never-over-zero               nothing is a multiple of a fraction over 0
 --   tray-cases                    case c as `trayread` reads it
@@ -18,10 +18,10 @@ use Prim.Native.Nat.{ℕ}
 use native.Mathlib.Omega.{arith}
 use lib.IntN.{pos, negsuc}
 use lib.ListN.{drop, set}
-use Rattle.bounded.specs.Bounded.{at}
+use Rattle.bounded.specs.Bounded.{at, index}
 use Rattle.definitions.specs.Cost.{class}
 use Rattle.definitions.specs.Photograph.{sure}
-use Rattle.definitions.specs.Finder.{findRows, findNumber}
+use Rattle.definitions.specs.Finder.{findRows, findNumber, findOffset, findBytes}
 use Rattle.definitions.specs.Published.{_over_, _is_times_, distance, weighted}
 use Rattle.definitions.specs.Tray.{trayReading, trayRecord}
 use Rattle.definitions.specs.Printed.{decimal, signed, spaced, readLine, recordLine, refusedLine, answerText, trayText}
@@ -39,12 +39,22 @@ more-cases-hold = refl
 pub class-bounds : map class (0 ∷ 1 ∷ 3 ∷ 4 ∷ 15 ∷ 16 ∷ 256 ∷ []) ≡ 0 ∷ 1 ∷ 1 ∷ 2 ∷ 2 ∷ 3 ∷ 3 ∷ []
 class-bounds = refl
 
--- plans of the seasons 12 and 268: both are found, 269 is not; nothing in an empty file; a byte too few, and half a plan
+-- the number, the offset and the bytes
+abbrev found : List ℕ → ℕ → ℕ × ℕ × List ℕ
+found file y = (findNumber file y, findOffset file y, findBytes file y)
+
+-- plans of the seasons 268, 12 with p 9, 12, 268 with d 0, 13
+abbrev planFile : List ℕ
+planFile = set planA 0 1 ++ set planA 2 9 ++ planA ++ set (set planA 0 1) 4 0 ++ set planA 1 13
+
+-- of several the first, sound or not; at the start of the file and at its end; seasons that stand in no plan, or only inside and
+-- across plans; an empty file; a byte too many, a byte too few, and half a plan
 pub finder-cases :
-    map (findNumber (planA ++ set planA 0 1)) (12 ∷ 268 ∷ 269 ∷ [])
-    ++ findNumber [] 12 ∷ findNumber (drop 1 planA) 12 ∷ findNumber (drop 12 planA) 12 ∷ []
-    ≡ 0 ∷ 0 ∷ 12 ∷ 12 ∷ 11 ∷ 11 ∷ []
-unfolding effect findNumber findRows
+    map (found planFile) (12 ∷ 268 ∷ 13 ∷ 269 ∷ 516 ∷ 0 ∷ [])
+    ++ found [] 12 ∷ found (planFile ++ 0 ∷ []) 12 ∷ found (drop 1 planFile) 12 ∷ found (drop 12 planA) 12 ∷ []
+    ≡ (0, 24, set planA 2 9) ∷ (0, 0, set planA 0 1) ∷ (0, 96, set planA 1 13) ∷ (12, 0, []) ∷ (12, 0, []) ∷ (12, 0, [])
+    ∷ (12, 0, []) ∷ (11, 0, []) ∷ (11, 0, []) ∷ (11, 0, []) ∷ []
+unfolding effect index findNumber findRows findOffset findBytes
 finder-cases = refl
 
 -- a wrong cell without doubt, and a right one with the doubt 50: 1 and a quarter

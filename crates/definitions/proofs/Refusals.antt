@@ -9,6 +9,7 @@
 --   first-none, first-applies     0 where no row applies, else the number of one that does
 --   rising k rows, first-lowest   where the numbers rise, from k on, it is the lowest
 --   absent k rows, first-absent   a number that no row has is not the first
+--   other                         what a call that is refused does
 --   equal, unequal                a code's test of two numbers
 --   answered, answered-not        a test that a function has answered
 --   not-true, not-false           a test turned round
@@ -135,6 +136,11 @@ first-absent k [] z h e = z (sym e)
 first-absent k ((j when true) ∷ rows) z h e =
     false≢true (rw (eq-eqb j k e) at (both (not (eqb j k)) (absent k rows) h .0))
 first-absent k ((j when false) ∷ rows) z h e = first-absent k rows z (both (not (eqb j k)) (absent k rows) h .1) e
+
+-- what a refused call does
+pub other : {A : Type 0} (k : ℕ) (a b : A) → k ≢ 0 → b ≡ accepted k a b
+other zero a b h = absurd (h refl)
+other (suc k) a b h = refl
 
 -- a code's tests as the definitions' tests; `search tests` finds them in what is known at a return
 pub equal : (a b : ℕ) → a ≡ b → not (eqb a b) ≡ false

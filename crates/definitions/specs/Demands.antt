@@ -1,7 +1,8 @@
 -- The customer's demands, and what document 01 says of every answer, as statements over the definitions. The crate `traymark`
 -- proves them.
 --
---   RefusalsKeep            demand 1: a refused call gives its number and zeros, and leaves the buffer lent for its result
+--   RefusalsKeep            demand 1: a refused call gives its number and zeros or an empty part, and leaves the buffer lent for
+--                           its result
 --   Written C P F b         demand 2: in b each cell has the value, modulo p, of the polynomial of F at its row and column
 --                           points, or of a strip at its point
 --   RoundTrip C P F B B′    demand 2: reading what was written of F into B, with all doubts 0, gives F into B′ at cost 0, with
@@ -15,11 +16,12 @@
 --   MarkMargins             a mark's margin is from -49,600 to 25,600, and both ends are reached
 --   LowestGiven             the lowest number that applies is given, over those that concern the call
 --   Measures C P s u F      measuring never gives 10: every record of a photograph's plan is measured, whatever its margin
+--   FirstOfSeason file y    what the finder hands back is a plan of the file, whole, of the season y, and no plan before it is
 --
 -- Signed numbers are the kit's (lib.IntN, lib.Signed): pos n is n, negℤ (pos n) is -n, ≤ℤ their order.
 -- What this file is for: the sentences that a user relies on, each as one statement whose parts are named.
 use mathlib.Core.Path.{_≡_}
-use mathlib.Core.List.{List}
+use mathlib.Core.List.{List, []}
 use mathlib.Core.Logic.{_≢_, _↔_}
 use Prim.Native.Nat.{ℕ, _+_, _*_, _≤_, _<_}
 use lib.IntN.{ℤ, pos, negℤ, _-ℤ_}
@@ -28,7 +30,7 @@ use lib.ListN.{length}
 use Rattle.bounded.specs.Bounded.{at}
 use Rattle.definitions.specs.declared.Reading.{Reading}
 use Rattle.definitions.specs.Refusals.{Lowest}
-use Rattle.definitions.specs.Plan.{modulus, side, degree, point, planRows, checkNumber}
+use Rattle.definitions.specs.Plan.{season, modulus, side, degree, point, planRows, checkNumber}
 use Rattle.definitions.specs.Code.{Code, strip, square, cells, value}
 use Rattle.polynomial.specs.Record.{valueX, valueXY}
 use Rattle.definitions.specs.Cost.{full, unread, radius}
@@ -38,7 +40,7 @@ use Rattle.definitions.specs.Calls as calls
 use Rattle.definitions.specs.Calls.{costOf, readingOf, writeRows, writeNumber, writeBuffer}
 use Rattle.definitions.specs.Calls.{measureRows, measureNumber, measureReading}
 use Rattle.definitions.specs.Calls.{readRows, readNumber, readReading, readBuffer}
-use Rattle.definitions.specs.Finder.{findRows, findNumber}
+use Rattle.definitions.specs.Finder.{plans, planAt, findRows, findNumber, findOffset, findBytes}
 use Rattle.definitions.specs.Code.{IsRecord}
 use Rattle.definitions.specs.Photograph.{Photograph, sure}
 
@@ -48,6 +50,7 @@ pub record RefusalsKeep : Type 0 where
       measureReading C P s u F ≡ calls.refused (measureNumber C P s u F)
   pub read : (C : Code) (P s u B : List ℕ) → readNumber C P s u B ≢ 0 →
       (readReading C P s u B ≡ calls.refused (readNumber C P s u B)) × (readBuffer C P s u B ≡ B)
+  pub find : (file : List ℕ) (y : ℕ) → findNumber file y ≢ 0 → (findOffset file y ≡ 0) × (findBytes file y ≡ [])
 
 abbrev pub Written : Code → (P F b : List ℕ) → Type 0
 Written strip P F b = (length b ≡ side P) × ((j : ℕ) → j < side P → at b j ≡ valueX (modulus P) (degree P) F (point P j))
@@ -117,3 +120,14 @@ pub record LowestGiven : Type 0 where
 pub record Measures (C : Code) (P s u F : List ℕ) : Type 0 where
   pub never : measureNumber C P s u F ≢ 10
   pub each : Photograph C P s u → IsRecord C P F → measureNumber C P s u F ≡ 0
+
+pub record FirstOfSeason (file : List ℕ) (y : ℕ) : Type 0 where
+  -- it is plan k of the file
+  pub k : ℕ
+  pub inside : k < plans file
+  pub offset : findOffset file y ≡ k * 24
+  pub bytes : findBytes file y ≡ planAt file k
+  pub whole : length (findBytes file y) ≡ 24
+  -- which has the season, and no plan before it has
+  pub same : season (findBytes file y) ≡ y
+  pub none : (i : ℕ) → i < k → season (planAt file i) ≢ y

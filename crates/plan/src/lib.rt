@@ -6,10 +6,11 @@ use field::rows::reciprocal;
 use polynomial::Grid;
 ghost use mathlib.Core.Path.{_≡_};
 ghost use Prim.Native.Nat.{_+_, _*_, _-_, _≤_, _<_};
+ghost use denote.Ref.{ptr};
 ghost use lib.ListN.{length};
 ghost use Rattle.definitions.specs.Plan.{unordered, checkNumber, side};
 ghost use Rattle.definitions.specs.Sound.{Sound};
-ghost use Rattle.definitions.specs.Finder.{Finding, FindingAt};
+ghost use Rattle.definitions.specs.Finder.{findNumber, findOffset, findBytes, addressAt};
 ghost use Rattle.plan.specs.Says.{Says};
 
 // What a sound plan says. Its marks are on the grid, its strips over the grid's row points; the places beyond the points are 0.
@@ -99,11 +100,12 @@ pub fn parse(plan: &[u8]) -> Plan
     }
 }
 
-// Where a record of the season begins in the plan file: answers 0 and sets the offset, a multiple of 24. Of several it is the
-// first, which nobody may count on. Refusals: 11 for a file of broken records, 12 where no record has the season; then the
-// offset is 0. Only the season bytes are compared; the plan is not checked.
+// Where the first record of the season begins in the plan file: answers 0 and sets the offset, a multiple of 24. Refusals: 11 for
+// a file of broken records, 12 where no record has the season; then the offset is 0. Only the season bytes are compared; the plan
+// is not checked.
 pub fn locate(file: &[u8], season: u16, offset: &mut usize) -> u32
-    ensures { λ r. ⌜ FindingAt (now (file .entry)) season r (now (offset .exit)) ⌝ }
+    ensures number { λ r. ⌜ r ≡ findNumber (now (file .entry)) season ⌝ }
+    ensures offset { λ r. ⌜ now (offset .exit) ≡ findOffset (now (file .entry)) season ⌝ }
 {
     *offset = 0;
     if file.len() % 24 != 0 {
@@ -129,7 +131,9 @@ fn season_of(high: u8, low: u8) -> u16
 
 // The same, as the record itself: 24 bytes of the lent file and no copy, or an empty part of it where the number is not 0.
 pub fn find<'a>(file: &'a [u8], season: u16, number: &mut u32) -> &'a [u8]
-    ensures { λ r. ⌜ Finding (file .entry) season (now (number .exit)) r ⌝ }
+    ensures number { λ r. ⌜ now (number .exit) ≡ findNumber (now (file .entry)) season ⌝ }
+    ensures address { λ r. ⌜ ptr r ≡ addressAt (file .entry) (findOffset (now (file .entry)) season) ⌝ }
+    ensures bytes { λ r. ⌜ now r ≡ findBytes (now (file .entry)) season ⌝ }
 {
     let mut at = 0;
     *number = locate(file, season, &mut at);

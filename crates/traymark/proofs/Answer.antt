@@ -18,14 +18,11 @@ use Rattle.definitions.specs.Code.{Code, mark}
 use Rattle.definitions.specs.Calls.{refused, readingOf, photoRows, writeNumber, writeBuffer, measureNumber, measureReading}
 use Rattle.definitions.specs.Calls.{readNumber, readReading, readBuffer}
 use Rattle.definitions.specs.Reads.{Reads}
+use Rattle.definitions.proofs.Refusals.{other}
 use Rattle.definitions.proofs.Nearest.{reads-refused}
 use Rattle.definitions.proofs.Accepted.{photo-refused, write-refused, measure-refused}
 use Rattle.reading.specs.Loading.{Taken}
 use Rattle.reading.proofs.Loading.{taken}
-
-other : {A : Type 0} (k : ℕ) (a b : A) → (k ≡ 0 → ⊥) → b ≡ accepted k a b
-other zero a b h = absurd (h refl)
-other (suc k) a b h = refl
 
 module _ (C : Code) (P F B : List ℕ) {k : ℕ} (e : k ≡ writeNumber C P F B) where
   pub write-keeps : (k ≡ 0 → ⊥) → B ≡ writeBuffer C P F B

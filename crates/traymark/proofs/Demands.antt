@@ -7,6 +7,7 @@
 --   demand-3                             demand 3
 --   unread-costs, mark-margins           "Photographed mark and cost"
 --   lowest-given, measures               "What is returned"
+--   first-found                          document 02, request 2: which plan of a season is found
 --
 -- What this file is for: the customer's sentences as theorems over the definitions that the calls' contracts repeat. The names in
 -- the statements are of `definitions/specs`. Assumes nothing.
@@ -26,8 +27,9 @@ use Rattle.definitions.specs.Finder.{findRows, findNumber}
 use Rattle.definitions.specs.Sound.{Sound}
 use Rattle.definitions.specs.Photograph.{Photograph, sure}
 use Rattle.definitions.specs.Demands.{RefusalsKeep, Written, RoundTrip, Weighed, Nearest}
-use Rattle.definitions.specs.Demands.{UnreadCosts, MarkMargins, LowestGiven, Measures}
+use Rattle.definitions.specs.Demands.{UnreadCosts, MarkMargins, LowestGiven, Measures, FirstOfSeason}
 use Rattle.definitions.proofs.Refusals.{first-lowest, first-absent}
+use Rattle.definitions.proofs.Finder.{nowhere, first-of-season}
 use Rattle.definitions.proofs.Sound.{sound, checked}
 use Rattle.definitions.proofs.Demands.{nearest-one}
 use Rattle.definitions.proofs.Accepted.{accepted-writing, accepted-measuring, accepted-reading, measuring-accepted}
@@ -44,12 +46,14 @@ use Rattle.writing.proofs.Written.{mark-written}
 pub sound-exactly : (P : List ℕ) → Sound P ↔ (checkNumber P ≡ 0)
 sound-exactly P = (checked P, sound P)
 
--- Demand 1: a refused call gives its number and zeros, and leaves the buffer that was lent for its result as it was.
+-- Demand 1: a refused call gives its number and zeros, or an empty part, and leaves the buffer that was lent for its result as it
+-- was.
 pub demand-1 : RefusalsKeep
 demand-1 = record {
   write = λ C P F B n. sym (write-keeps C P F B refl n);
   measure = λ C P s u F n. sym (measure-refuses C P s u F refl n);
   read = read-keeps;
+  find = nowhere;
 }
 
 -- Demand 3. For every sound plan and every photograph in buffers of the right lengths, whatever the points, symbols and doubts:
@@ -116,3 +120,8 @@ measures C P s u F = record {
   never = first-absent 10 (measureRows C P s u F) (λ e. omega arith) refl;
   each = measuring-accepted C P s u F;
 }
+
+-- For every file and season of which the finder gives 0: what it hands back, as a part or as an offset, is a whole plan of the
+-- file, it has the season, and no plan before it in the file has.
+pub first-found : (file : List ℕ) (season : ℕ) → findNumber file season ≡ 0 → FirstOfSeason file season
+first-found = first-of-season

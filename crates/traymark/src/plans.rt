@@ -1,7 +1,8 @@
 // Season plans: checking one, and finding one in a plan file.
 ghost use mathlib.Core.Path.{_≡_};
+ghost use denote.Ref.{ptr};
 ghost use Rattle.definitions.specs.Plan.{checkNumber};
-ghost use Rattle.definitions.specs.Finder.{Finding, FindingAt};
+ghost use Rattle.definitions.specs.Finder.{findNumber, findOffset, findBytes, addressAt};
 
 // Checks a plan, from Rattle and from C. `plan` is any bytes of any length, and is only read.
 //
@@ -21,12 +22,14 @@ pub extern "C" fn traymark_check_plan(plan: &[u8]) -> u32
 // Finds the plan of a season in a plan file, for Rattle. `file` is 24-byte records one after another, and is only read; only
 // their season bytes are looked at, so the plan that is found may be unsound. `number` is set, whatever it was.
 //
-// Sets the number to 0 and returns the 24 bytes of a record of that season, a part of `file` itself at a multiple of 24. Where
-// several records have the season it may be any of them. Else returns an empty part and sets the number to the lowest of
+// Sets the number to 0 and returns the 24 bytes of the first record of that season, in the order of the file: a part of `file`
+// itself, at a multiple of 24. Else returns an empty part, at the start of `file`, and sets the number to the lowest of
 //   11  the file's length is no multiple of 24
 //   12  no record has the season; so for an empty file
 pub fn find_plan<'a>(file: &'a [u8], season: u16, number: &mut u32) -> &'a [u8]
-    ensures { λ r. ⌜ Finding (file .entry) season (now (number .exit)) r ⌝ }
+    ensures number { λ r. ⌜ now (number .exit) ≡ findNumber (now (file .entry)) season ⌝ }
+    ensures address { λ r. ⌜ ptr r ≡ addressAt (file .entry) (findOffset (now (file .entry)) season) ⌝ }
+    ensures bytes { λ r. ⌜ now r ≡ findBytes (now (file .entry)) season ⌝ }
 {
     plan::find(file, season, number)
 }
@@ -35,7 +38,8 @@ pub fn find_plan<'a>(file: &'a [u8], season: u16, number: &mut u32) -> &'a [u8]
 // `file`. On a refusal `offset` is set to 0.
 #[no_mangle]
 pub extern "C" fn traymark_find_plan(file: &[u8], season: u16, offset: &mut usize) -> u32
-    ensures { λ r. ⌜ FindingAt (now (file .entry)) season r (now (offset .exit)) ⌝ }
+    ensures number { λ r. ⌜ r ≡ findNumber (now (file .entry)) season ⌝ }
+    ensures offset { λ r. ⌜ now (offset .exit) ≡ findOffset (now (file .entry)) season ⌝ }
 {
     plan::locate(file, season, offset)
 }

@@ -1,21 +1,21 @@
 -- `plan::locate` meets its contract: none of the first k records has the season. Assumes nothing.
 use mathlib.Core.Path.{_≡_, refl, sym, _∙_}
 use mathlib.Core.Bool.{false}
-use Prim.Native.Nat.{_-_, _/_, _≤_, _<_}
+use Prim.Native.Nat.{_-_, _≤_, _<_}
 use native.Mathlib.Omega.{arith}
-use lib.ListN.{length}
 use borrow.Author.Tests.{eq-eqb, ne-eqb}
+use Rattle.bounded.specs.Bounded.{any}
 use Rattle.bounded.proofs.Any.{some-any, any-more, any-start}
 use Rattle.definitions.specs.Plan.{season}
-use Rattle.definitions.specs.Finder.{planAt, listed, findRows}
+use Rattle.definitions.specs.Finder.{plans, planAt, ofSeason, findRows}
 use Rattle.definitions.proofs.Refusals.{equal, unequal, not-true, not-false}
-use Rattle.definitions.proofs.Finder.{season-at, find-at}
+use Rattle.definitions.proofs.Finder.{season-at, find-at, offset-refused, offset-found}
 use borrow.Author.Needs.{needs}
 use Rattle.plan.proofs.locate.Statement.{statement}
 use Rattle.plan.proofs.locate.Tie as tie
 
 abbrev Inv-loop : tie.InvT-loop
-Inv-loop file season offset₀ n k₀ offset k = (k ≤ n) × (listed file season k ≡ false) × (offset ≡ 0)
+Inv-loop file season offset₀ n k₀ offset k = (k ≤ n) × (any k (ofSeason file season) ≡ false) × (offset ≡ 0)
 
 abbrev μ-loop : tie.MeasureT-loop
 μ-loop file season offset₀ n k₀ offset k = n - k
@@ -23,7 +23,7 @@ abbrev μ-loop : tie.MeasureT-loop
 returns : tie.Need-returns Inv-loop μ-loop
 unfolding findRows
 returns c =
-    record { decided = find-at _ _ 0 (unequal _ _ (c .if1 .taken)); found = λ e. absurd (omega arith); nowhere = λ e. refl }
+    let e = find-at _ _ 0 (unequal _ _ (c .if1 .taken)) in (e, offset-refused _ _ e (λ z. omega arith))
 
 loop-holds : tie.Need-loop-holds Inv-loop μ-loop
 loop-holds c = (search needs, any-start _, search needs)
@@ -32,14 +32,13 @@ returns-2 : tie.Need-returns-2 Inv-loop μ-loop
 unfolding findRows
 returns-2 c =
     let b = c .before .before .before .before .before in
-    let l : b .loop .k < length (b .before .before .before .args .file .now) / 24 = omega arith in
-    let e : season (planAt (b .before .before .before .args .file .now) (b .loop .k)) ≡ b .before .before .before .args .season =
-    season-at _ (b .loop .k) ∙ sym (c .before .season-of .ensures) ∙ c .if2 .taken in
-    record {
-      decided = find-at _ _ 2 (equal _ _ (b .before .if1 .left), (not-true (some-any _ _ (b .loop .k) l (eq-eqb _ _ e)), tt));
-      found = λ z. record { k = b .loop .k; inside = l; start = refl; same = e };
-      nowhere = λ z. absurd (z refl);
-    }
+    let file = b .before .before .before .args .file .now in
+    let k = b .loop .k in
+    let l : k < plans file = omega arith in
+    let s : season (planAt file k) ≡ b .before .before .before .args .season =
+    season-at _ k ∙ sym (c .before .season-of .ensures) ∙ c .if2 .taken in
+    let e = find-at _ _ 2 (equal _ _ (b .before .if1 .left), (not-true (some-any _ _ k l (eq-eqb _ _ s)), tt)) in
+    (e, offset-found _ _ k l (b .loop .inv .1) s e)
 
 loop-again : tie.Need-loop-again Inv-loop μ-loop
 loop-again c =
@@ -53,12 +52,10 @@ loop-again c =
 returns-3 : tie.Need-returns-3 Inv-loop μ-loop
 unfolding findRows
 returns-3 c =
-    let e : c .before .loop .k ≡ length (c .before .before .before .before .args .file .now) / 24 = omega arith in
-    record {
-      decided = find-at _ _ 1 (equal _ _ (c .before .before .if1 .left), not-false (rw e at (c .before .loop .inv .1)));
-      found = λ z. absurd (omega arith);
-      nowhere = λ z. c .before .loop .inv .2;
-    }
+    let l = c .before .loop in
+    let n : l .k ≡ plans (c .before .before .before .before .args .file .now) = omega arith in
+    let e = find-at _ _ 1 (equal _ _ (c .before .before .if1 .left), not-false (rw n at (l .inv .1))) in
+    (e, l .inv .2 ∙ offset-refused _ _ e (λ z. omega arith))
 
 pub locate-spec : {M : Type 1} → statement M
 locate-spec =
