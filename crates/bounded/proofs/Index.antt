@@ -37,16 +37,16 @@ pub index-within : (n : ℕ) (f : ℕ → Bool) → any n f ≡ true → index n
 index-within n f e =
     let (i, l, t) = any-some n f e in
     elim (decLt (index n f) n) [
-      yes h ↦ h
-    | no h ↦ absurd (false≢true (sym (index-before n f i (omega arith)) ∙ t))
+      | yes h ↦ h
+      | no h ↦ absurd (false≢true (sym (index-before n f i (omega arith)) ∙ t))
     ]
 
 pub index-is : (n : ℕ) (f : ℕ → Bool) (k : ℕ) → k < n → any k f ≡ false → f k ≡ true → index n f ≡ k
 index-is n f k l e t =
     elim (decLt (index n f) k) [
-      yes h ↦ absurd (false≢true (sym (any-none k f e (index n f) h) ∙ index-holds n f (omega arith)))
-    | no h ↦ elim (decLt k (index n f)) [
-        yes g ↦ absurd (false≢true (sym (index-before n f k g) ∙ t))
-      | no g ↦ omega arith
+      | yes h ↦ absurd (false≢true (sym (any-none k f e (index n f) h) ∙ index-holds n f (omega arith)))
+      | no h ↦ elim (decLt k (index n f)) [
+        | yes g ↦ absurd (false≢true (sym (index-before n f k g) ∙ t))
+        | no g ↦ omega arith
       ]
     ]
