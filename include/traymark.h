@@ -70,12 +70,13 @@ typedef struct {
 uint32_t traymark_check_plan(const uint8_t *plan, size_t plan_len);
 
 /*
- * Finds a plan by its season in a plan file, which is plans of 24 bytes one after another with no header.
- * Only the season bytes are compared; the plan found is not checked. An empty file has no plan.
+ * Finds the first plan of a season in a plan file, which is plans of 24 bytes one after another with no header.
+ * Only the season bytes are compared; the plan found is not checked. An empty file has no plan. So a plan is corrected
+ * by putting the right one ahead of it in the file.
  *
  *   file     read
- *   offset   always written: where the number is 0, the place of the plan in the file, a multiple of 24, so that the
- *            plan is the 24 bytes from file + *offset; else 0. Where several have the season it may be any of them.
+ *   offset   always written: where the number is 0, the place in the file of the first plan of the season, a multiple
+ *            of 24, so that the plan is the 24 bytes from file + *offset; else 0
  *   result   0; refusals 11 12
  */
 uint32_t traymark_find_plan(const uint8_t *file, size_t file_len, uint16_t season, size_t *offset);

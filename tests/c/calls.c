@@ -97,16 +97,20 @@ static void check_plan(void)
 
 static void find_plan(void)
 {
-    uint8_t file[72] = {0, 30};
+    /* plans of the seasons 30, 12 with p 9, 12 * 256, 12 */
+    uint8_t file[96] = {0, 30};
     size_t offset = 77;
     memcpy(file + 24, plan_a, 24);
+    file[26] = 9;
     file[48] = 12;
+    memcpy(file + 72, plan_a, 24);
     EXPECT(traymark_find_plan(ALL(file), 12, &offset) == 0 && offset == 24);
+    EXPECT(traymark_find_plan(file + 48, 48, 12, &offset) == 0 && offset == 24);
     EXPECT(traymark_find_plan(ALL(file), 30, &offset) == 0 && offset == 0);
     EXPECT(traymark_find_plan(ALL(file), 12 * 256, &offset) == 0 && offset == 48);
     EXPECT(traymark_find_plan(ALL(file), 13, &offset) == 12 && offset == 0);
     offset = 77;
-    EXPECT(traymark_find_plan(file, 71, 12, &offset) == 11 && offset == 0);
+    EXPECT(traymark_find_plan(file, 95, 12, &offset) == 11 && offset == 0);
     EXPECT(traymark_find_plan(file, 0, 12, &offset) == 12 && offset == 0);
 }
 

@@ -20,6 +20,8 @@ pub struct Counts {
     pub above: u64,
     /// marks and strips read by both of the independent methods
     pub twice: u64,
+    /// plans found that others of their season stand behind
+    pub first_of_several: u64,
     /// answers by number, and accepted readings and measurements by class
     pub numbers: [u64; 13],
     pub classes: [u64; 4],
@@ -60,6 +62,7 @@ impl Counts {
         self.at += other.at;
         self.above += other.above;
         self.twice += other.twice;
+        self.first_of_several += other.first_of_several;
         self.numbers.iter_mut().zip(other.numbers).for_each(|(sum, n)| *sum += n);
         self.classes.iter_mut().zip(other.classes).for_each(|(sum, n)| *sum += n);
     }
@@ -73,6 +76,7 @@ impl Counts {
             (self.mixed_strips < 5_000, "fewer than 5,000 strips read with changed and unread cells"),
             ([self.below, self.at, self.above].into_iter().any(|n| n < 5_000), "few costs around the radius"),
             (self.twice < 5_000, "few readings by both independent methods"),
+            (self.first_of_several < 1_500, "fewer than 1,500 plans found before others of their season"),
             (self.numbers.contains(&0), "a number that was never answered"),
             (self.classes.contains(&0), "a class that was never answered"),
         ]
@@ -87,7 +91,7 @@ impl fmt::Display for Counts {
         write!(
             f,
             "{} calls, {} marks, {} strips; changed and unread at once: {} {}; cost R - 1, R, R + 1: {} {} {}; \
-             both methods: {}; numbers: {}; classes: {}",
+             both methods: {}; first of several plans: {}; numbers: {}; classes: {}",
             self.calls,
             self.marks,
             self.strips,
@@ -97,6 +101,7 @@ impl fmt::Display for Counts {
             self.at,
             self.above,
             self.twice,
+            self.first_of_several,
             list(&self.numbers),
             list(&self.classes)
         )

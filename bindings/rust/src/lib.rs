@@ -55,7 +55,7 @@ pub fn check_plan(plan: &[u8]) -> Result<(), Refusal> {
     accepted(unsafe { ffi::traymark_check_plan(plan.as_ptr(), plan.len()) })
 }
 
-/// A plan of the season: 24 bytes of `file` itself, at a multiple of 24; any of them where several have the season.
+/// The first plan of the season, in the order of the file: 24 bytes of `file` itself, at a multiple of 24.
 /// Only the season bytes are compared; the plan is not checked. Refusals 11 and 12.
 pub fn find_plan(file: &[u8], season: u16) -> Result<&[u8], Refusal> {
     let mut offset = 0;

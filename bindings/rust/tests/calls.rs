@@ -54,9 +54,10 @@ fn check_plan() {
 fn find_plan() {
     let mut file = [0; 72];
     file[24..48].copy_from_slice(&PLAN);
+    file[48..].copy_from_slice(&PLAN);
     let found = traymark::find_plan(&file, 12).unwrap();
     assert_eq!(found, PLAN);
-    assert_eq!(found.as_ptr(), file[24..].as_ptr(), "the part of the file itself, no copy");
+    assert_eq!(found.as_ptr(), file[24..].as_ptr(), "the first, and the part of the file itself, no copy");
     assert_eq!(traymark::find_plan(&file, 13), Err(Refusal::NoSuchSeason));
     assert_eq!(traymark::find_plan(&file[..71], 12), Err(Refusal::FileLength));
     assert_eq!(traymark::find_plan(&[], 12), Err(Refusal::NoSuchSeason));

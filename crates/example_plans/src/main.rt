@@ -15,16 +15,18 @@ fn main() {
     changed(b"l points 1 1 4", 6, 1);
     changed(b"byte 20 is 1", 20, 1);
 
-    // Two records: season 11, and then 12 with all else 0, which is found all the same.
-    let mut file = [0u8; 48];
+    // Three records: season 11, then 12 corrected, p 2 with the one point 0, and last 12 as it was, with all else 0.
+    let mut file = [0u8; 72];
     file[1] = 11;
     file[25] = 12;
+    file[26] = 2;
+    file[27] = 1;
+    file[49] = 12;
     find(b"season 12", &file, 12);
     find(b"season 13", &file, 13);
-    find(b"season 12 in 47 bytes", &file[..47], 12);
-    let mut number: u32 = 0;
-    let found = find_plan(&file, 12, &mut number);
-    line(b"the plan of season 12", traymark_check_plan(found));
+    find(b"season 12 in 71 bytes", &file[..71], 12);
+    found(b"the plan of season 12", &file);
+    found(b"the plan of season 12 as it was", &file[48..]);
 }
 
 // Plan A: season 12, p 7, three points, degree 1, points 1 2 4.
@@ -56,6 +58,12 @@ fn find(name: &[u8], file: &[u8], season: u16) {
     text(name, number as u64);
     text(b", offset", offset as u64);
     io::write_all(1, b"\n");
+}
+
+// The number of the plan of season 12 that is found; of an empty part it is 1.
+fn found(name: &[u8], file: &[u8]) {
+    let mut number: u32 = 0;
+    line(name, traymark_check_plan(find_plan(file, 12, &mut number)));
 }
 
 fn line(name: &[u8], number: u32) {

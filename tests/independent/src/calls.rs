@@ -33,17 +33,13 @@ pub fn check_plan(plan: &[u8]) -> u32 {
     Plan::parse(plan).err().unwrap_or(0)
 }
 
-/// The places of all plans of the season.
-pub fn find_plan(file: &[u8], season: u16) -> Result<Vec<usize>, u32> {
+/// The place of the first plan of the season.
+pub fn find_plan(file: &[u8], season: u16) -> Result<usize, u32> {
     if !file.len().is_multiple_of(24) {
         return Err(11);
     }
-    let places: Vec<usize> =
-        (0..file.len()).step_by(24).filter(|&place| file[place..place + 2] == season.to_be_bytes()).collect();
-    if places.is_empty() {
-        return Err(12);
-    }
-    Ok(places)
+    let first = file.chunks(24).position(|plan| plan[..2] == season.to_be_bytes());
+    first.map(|k| k * 24).ok_or(12)
 }
 
 pub fn write(code: Code, plan: &[u8], record: &[u8], mark: &mut [u8]) -> u32 {

@@ -1,24 +1,31 @@
 //! Finding plans in files: seasons that are there never, once or often, lengths that are no multiple of 24, seasons
-//! that stand only across or inside plans.
+//! that stand only across or inside plans; long files with plans of the season at known places.
 
-use independent::find_plan;
+use independent::{check_plan, find_plan};
 use traymark_tests::counts::Counts;
-use traymark_tests::library::find;
+use traymark_tests::library;
+use traymark_tests::plans::{plan, shapes};
 use traymark_tests::random::Random;
 
 pub fn case(_: u64, random: &mut Random, counts: &mut Counts) -> Result<(), String> {
     let file = file(random);
     let season = season(&file, random);
-    let (number, offset) = find(&file, season, random).map_err(|what| format!("find {what}; {season} {file:?}"))?;
-    counts.number(number);
-    let right = match find_plan(&file, season) {
-        Ok(places) => number == 0 && places.contains(&offset),
-        Err(refusal) => number == refusal && offset == 0,
-    };
-    if !right {
-        return Err(format!("find gave {number}, offset {offset}; season {season} in {file:?}"));
-    }
+    find(&file, season, random, counts).map_err(|what| format!("{what} in {file:?}"))?;
     Ok(())
+}
+
+/// The number and the offset, which are those of a plain search.
+fn find(file: &[u8], season: u16, random: &mut Random, counts: &mut Counts) -> Result<(u32, usize), String> {
+    let found = library::find(file, season, random).map_err(|what| format!("find {what}; season {season}"))?;
+    counts.number(found.0);
+    let expected = find_plan(file, season);
+    if let Ok(offset) = expected {
+        counts.first_of_several += u64::from(find_plan(&file[offset + 24..], season).is_ok());
+    }
+    if found != expected.map_or_else(|number| (number, 0), |offset| (0, offset)) {
+        return Err(format!("find gave {found:?}, not {expected:?}; season {season}"));
+    }
+    Ok(found)
 }
 
 /// Mostly few different bytes, so that seasons repeat and stand at other places too; else any bytes.
@@ -39,5 +46,62 @@ fn season(file: &[u8], random: &mut Random) -> u16 {
         1 if file.len() >= 24 => two(random.below(file.len() / 24) * 24).swap_bytes(),
         2 if file.len() >= 2 => two(random.below(file.len() - 1)),
         _ => random.number() as u16,
+    }
+}
+
+/// How many plans a file has.
+const PLANS: [usize; 6] = [1, 2, 3, 50, 1_000, 10_000];
+
+/// Each length, the first plan of the season at the front, at the end or anywhere, sound or not, three times.
+pub const PLACED: u64 = 6 * 3 * 2 * 3;
+
+/// The first plan of the season is unsound and those behind it are sound, or the other way round.
+pub fn placed(seed: u64, random: &mut Random, counts: &mut Counts) -> Result<(), String> {
+    let seed = seed as usize;
+    let plans = PLANS[seed % 6];
+    let first = [0, plans - 1, random.below(plans)][seed / 6 % 3];
+    let sound = seed / 18 % 2 == 0;
+    let season = random.number() as u16;
+    let shapes = shapes();
+    let made = |season: u16, sound: bool, random: &mut Random| {
+        let mut bytes = plan(random.pick(&shapes), random).bytes();
+        bytes[..2].copy_from_slice(&season.to_be_bytes());
+        bytes[2] = if sound { bytes[2] } else { 9 };
+        bytes
+    };
+    let file: Vec<u8> = (0..plans)
+        .flat_map(|k| match k == first || k > first && random.one_in(3) {
+            true => made(season, (k == first) == sound, random),
+            false => made(other(season, random), true, random),
+        })
+        .collect();
+    let offset = first * 24;
+    if (check_plan(&file[offset..offset + 24]) == 0) != sound {
+        return Err(format!("plan {first} is not as it was made"));
+    }
+    let tries = [
+        (&file[..], (0, offset)),
+        (&file[offset..], (0, 0)),
+        (&file[..offset + 24], (0, offset)),
+        (&file[..offset], (12, 0)),
+        (&file[..file.len() - 1], (11, 0)),
+        (&file[1..], (11, 0)),
+    ];
+    for (file, expected) in tries {
+        let found = find(file, season, random, counts)?;
+        if found != expected {
+            return Err(format!("found {found:?}, not {expected:?}; season {season}, plan {first} of {plans}"));
+        }
+    }
+    Ok(())
+}
+
+/// Another season, often one that differs in one byte or in the order of its bytes.
+fn other(season: u16, random: &mut Random) -> u16 {
+    let any = random.number() as u16;
+    let other = random.pick(&[season ^ 1, season ^ 0x100, season.swap_bytes(), any]);
+    match other == season {
+        true => !season,
+        false => other,
     }
 }

@@ -22,6 +22,7 @@ pub fn all() -> Vec<Suite> {
         Suite { name: "plan-fields", cases: 256, case: plans::fields },
         Suite { name: "plan-bytes", cases: 60, case: plans::bytes },
         Suite { name: "files", cases: 20_000, case: files::case },
+        Suite { name: "placed", cases: files::PLACED, case: files::placed },
         Suite { name: "faults-alone", cases: 1_000, case: faults::alone },
         Suite { name: "faults-together", cases: 20_000, case: faults::together },
         Suite { name: "lengths", cases: 1_000, case: lengths::case },
