@@ -7,7 +7,7 @@
 --   index n f    the first i below n for which f i is true, and n where there is none
 --
 -- What this file is for: contracts and laws speak of arrays and of loops in these five words. Sums, tests and tables recurse at
--- their end, as a loop does; a search stops at its start where it can.
+-- their end, as a loop does, and a search from its start.
 use mathlib.Core.Bool.{Bool, false, _||_, cond}
 use mathlib.Core.List.{List, [], _∷_, _++_}
 use Prim.Native.Nat.{ℕ, zero, suc, _+_}

@@ -66,7 +66,7 @@ module _ (file : List ℕ) (y : ℕ) where
     bytes = rw e;
     whole = rw e (length-take-le 24 (drop (place file y * 24) file) room);
     same = rw e (eqb-true _ _ (index-holds (plans file) (ofSeason file y) inside));
-    none = λ i l. eqb-false _ _ (index-before (plans file) (ofSeason file y) i l);
+    before = λ i l. eqb-false _ _ (index-before (plans file) (ofSeason file y) i l);
   }
     where
       inside : place file y < plans file

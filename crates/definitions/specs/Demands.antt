@@ -130,4 +130,4 @@ pub record FirstOfSeason (file : List ℕ) (y : ℕ) : Type 0 where
   pub whole : length (findBytes file y) ≡ 24
   -- which has the season, and no plan before it has
   pub same : season (findBytes file y) ≡ y
-  pub none : (i : ℕ) → i < k → season (planAt file i) ≢ y
+  pub before : (i : ℕ) → i < k → season (planAt file i) ≢ y
