@@ -3,6 +3,7 @@
 --   cases-hold                    cases a to l
 --   more-cases-hold               the further cases
 --   class-bounds                  the class at each of its bounds
+--   index-cases                   the first number that passes a test
 --   finder-cases                  what the finder hands back
 --   published-case                a published distance
 --   never-over-zero               nothing is a multiple of a fraction over 0
@@ -17,7 +18,8 @@ use mathlib.Core.List.{List, [], _∷_, _++_, map}
 use Prim.Native.Nat.{ℕ}
 use native.Mathlib.Omega.{arith}
 use lib.IntN.{pos, negsuc}
-use lib.ListN.{drop, set}
+use lib.Dec.{leb}
+use lib.ListN.{replicate, drop, set}
 use Rattle.bounded.specs.Bounded.{at, index}
 use Rattle.definitions.specs.Cost.{class}
 use Rattle.definitions.specs.Photograph.{sure}
@@ -39,6 +41,11 @@ more-cases-hold = refl
 pub class-bounds : map class (0 ∷ 1 ∷ 3 ∷ 4 ∷ 15 ∷ 16 ∷ 256 ∷ []) ≡ 0 ∷ 1 ∷ 1 ∷ 2 ∷ 2 ∷ 3 ∷ 3 ∷ []
 class-bounds = refl
 
+-- the first number from 3 on, below 0, 3, 4 and 9
+pub index-cases : map (λ n. index n (leb 3)) (0 ∷ 3 ∷ 4 ∷ 9 ∷ []) ≡ 0 ∷ 3 ∷ 3 ∷ 3 ∷ []
+unfolding index
+index-cases = refl
+
 -- the number, the offset and the bytes
 abbrev found : List ℕ → ℕ → ℕ × ℕ × List ℕ
 found file y = (findNumber file y, findOffset file y, findBytes file y)
@@ -48,11 +55,15 @@ abbrev planFile : List ℕ
 planFile = set planA 0 1 ++ set planA 2 9 ++ planA ++ set (set planA 0 1) 4 0 ++ set planA 1 13
 
 -- of several the first, sound or not; at the start of the file and at its end; seasons that stand in no plan, or only inside and
--- across plans; an empty file; a byte too many, a byte too few, and half a plan
+-- across plans; one plan alone; the last of eleven; plans of nothing but 255 and 0; an empty file; a byte too many, a byte too few,
+-- and half a plan
 pub finder-cases :
     map (found planFile) (12 ∷ 268 ∷ 13 ∷ 269 ∷ 516 ∷ 0 ∷ [])
-    ++ found [] 12 ∷ found (planFile ++ 0 ∷ []) 12 ∷ found (drop 1 planFile) 12 ∷ found (drop 12 planA) 12 ∷ []
+    ++ found planA 12 ∷ found (planFile ++ planFile ++ set planA 1 14) 14
+    ∷ found (planA ++ replicate 24 255) 65535 ∷ found (planA ++ planA ++ replicate 24 0) 0
+    ∷ found [] 12 ∷ found (planFile ++ 0 ∷ []) 12 ∷ found (drop 1 planFile) 12 ∷ found (drop 12 planA) 12 ∷ []
     ≡ (0, 24, set planA 2 9) ∷ (0, 0, set planA 0 1) ∷ (0, 96, set planA 1 13) ∷ (12, 0, []) ∷ (12, 0, []) ∷ (12, 0, [])
+    ∷ (0, 0, planA) ∷ (0, 240, set planA 1 14) ∷ (0, 24, replicate 24 255) ∷ (0, 48, replicate 24 0)
     ∷ (12, 0, []) ∷ (11, 0, []) ∷ (11, 0, []) ∷ (11, 0, []) ∷ []
 unfolding effect index findNumber findRows findOffset findBytes
 finder-cases = refl

@@ -16,17 +16,19 @@
 --   MarkMargins             a mark's margin is from -49,600 to 25,600, and both ends are reached
 --   LowestGiven             the lowest number that applies is given, over those that concern the call
 --   Measures C P s u F      measuring never gives 10: every record of a photograph's plan is measured, whatever its margin
---   FirstOfSeason file y    what the finder hands back is a plan of the file, whole, of the season y, and no plan before it is
+--   FoundExactly file y     the finder gives 11 where the file's length is no multiple of 24, else 0 where some plan of the file has
+--                           the season y, else 12
+--   FirstOfSeason file y    what it finds is a whole plan of the file, with the season y, and no plan before it has that season
 --
 -- Signed numbers are the kit's (lib.IntN, lib.Signed): pos n is n, negℤ (pos n) is -n, ≤ℤ their order.
 -- What this file is for: the sentences that a user relies on, each as one statement whose parts are named.
 use mathlib.Core.Path.{_≡_}
 use mathlib.Core.List.{List, []}
 use mathlib.Core.Logic.{_≢_, _↔_}
-use Prim.Native.Nat.{ℕ, _+_, _*_, _≤_, _<_}
+use Prim.Native.Nat.{ℕ, _+_, _*_, _%_, _≤_, _<_}
 use lib.IntN.{ℤ, pos, negℤ, _-ℤ_}
 use lib.Signed.{_≤ℤ_}
-use lib.ListN.{length}
+use lib.ListN.{length, take, drop}
 use Rattle.bounded.specs.Bounded.{at}
 use Rattle.definitions.specs.declared.Reading.{Reading}
 use Rattle.definitions.specs.Refusals.{Lowest}
@@ -40,7 +42,7 @@ use Rattle.definitions.specs.Calls as calls
 use Rattle.definitions.specs.Calls.{costOf, readingOf, writeRows, writeNumber, writeBuffer}
 use Rattle.definitions.specs.Calls.{measureRows, measureNumber, measureReading}
 use Rattle.definitions.specs.Calls.{readRows, readNumber, readReading, readBuffer}
-use Rattle.definitions.specs.Finder.{plans, planAt, findRows, findNumber, findOffset, findBytes}
+use Rattle.definitions.specs.Finder.{findRows, findNumber, findOffset, findBytes}
 use Rattle.definitions.specs.Code.{IsRecord}
 use Rattle.definitions.specs.Photograph.{Photograph, sure}
 
@@ -121,13 +123,19 @@ pub record Measures (C : Code) (P s u F : List ℕ) : Type 0 where
   pub never : measureNumber C P s u F ≢ 10
   pub each : Photograph C P s u → IsRecord C P F → measureNumber C P s u F ≡ 0
 
+-- a plan of the file begins at k * 24, and its season is in the first two bytes there
+pub record FoundExactly (file : List ℕ) (y : ℕ) : Type 0 where
+  pub broken : length file % 24 ≢ 0 → findNumber file y ≡ 11
+  pub found : length file % 24 ≡ 0 → (k : ℕ) → k * 24 < length file → season (drop (k * 24) file) ≡ y → findNumber file y ≡ 0
+  pub absent : length file % 24 ≡ 0 → ((k : ℕ) → k * 24 < length file → season (drop (k * 24) file) ≢ y) →
+      findNumber file y ≡ 12
+
 pub record FirstOfSeason (file : List ℕ) (y : ℕ) : Type 0 where
-  -- it is plan k of the file
+  -- it is plan k, whole
   pub k : ℕ
-  pub inside : k < plans file
   pub offset : findOffset file y ≡ k * 24
-  pub bytes : findBytes file y ≡ planAt file k
-  pub whole : length (findBytes file y) ≡ 24
+  pub inside : k * 24 + 24 ≤ length file
+  pub bytes : findBytes file y ≡ take 24 (drop (k * 24) file)
   -- which has the season, and no plan before it has
   pub same : season (findBytes file y) ≡ y
-  pub before : (i : ℕ) → i < k → season (planAt file i) ≢ y
+  pub before : (i : ℕ) → i < k → season (drop (i * 24) file) ≢ y

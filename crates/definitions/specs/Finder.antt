@@ -1,8 +1,8 @@
 -- Finding a season's plan in a plan file: the first in file order. Everything is decided from the file and the season alone.
 --
 --   plans file, planAt file k     how many plans the file has, and plan k: 24 bytes at k * 24
---   place file y                  the first plan of the season y, counted from 0
---   findNumber                    0, or refusal 11 or 12
+--   ofSeason, place file y        that a plan has the season y, and which is the first that has, counted from 0
+--   findRows, findNumber          refusals 11 and 12; 0 where neither applies
 --   findOffset                    where that plan begins in the file, and 0 on a refusal
 --   findBytes                     its bytes, and none on a refusal
 --   addressAt                     the address of an offset in what is lent: there the part lies that Rattle callers get
@@ -25,7 +25,6 @@ plans file = length file / 24
 abbrev pub planAt : List ℕ → ℕ → List ℕ
 planAt file k = take 24 (drop (k * 24) file)
 
--- plan k of the file has the season y
 abbrev pub ofSeason : List ℕ → (y k : ℕ) → Bool
 ofSeason file y k = eqb (season (planAt file k)) y
 

@@ -100,6 +100,13 @@ pub fn parse(plan: &[u8]) -> Plan
     }
 }
 
+// A season's two bytes, the high one first.
+fn season_of(high: u8, low: u8) -> u16
+    ensures { λ r. ⌜ r ≡ high * 256 + low ⌝ }
+{
+    high as u16 * 256 + low as u16
+}
+
 // Where the first record of the season begins in the plan file: answers 0 and sets the offset, a multiple of 24. Refusals: 11 for
 // a file of broken records, 12 where no record has the season; then the offset is 0. Only the season bytes are compared; the plan
 // is not checked.
@@ -120,13 +127,6 @@ pub fn locate(file: &[u8], season: u16, offset: &mut usize) -> u32
         }
     }
     12
-}
-
-// A season's two bytes, the high one first.
-fn season_of(high: u8, low: u8) -> u16
-    ensures { λ r. ⌜ r ≡ high * 256 + low ⌝ }
-{
-    high as u16 * 256 + low as u16
 }
 
 // The same, as the record itself: 24 bytes of the lent file and no copy, or an empty part of it where the number is not 0.

@@ -7,7 +7,7 @@
 --   demand-3                             demand 3
 --   unread-costs, mark-margins           "Photographed mark and cost"
 --   lowest-given, measures               "What is returned"
---   first-found                          document 02, request 2: which plan of a season is found
+--   found-exactly, first-found           document 02, request 2: when a plan of a season is found, and which
 --
 -- What this file is for: the customer's sentences as theorems over the definitions that the calls' contracts repeat. The names in
 -- the statements are of `definitions/specs`. Assumes nothing.
@@ -27,9 +27,9 @@ use Rattle.definitions.specs.Finder.{findRows, findNumber}
 use Rattle.definitions.specs.Sound.{Sound}
 use Rattle.definitions.specs.Photograph.{Photograph, sure}
 use Rattle.definitions.specs.Demands.{RefusalsKeep, Written, RoundTrip, Weighed, Nearest}
-use Rattle.definitions.specs.Demands.{UnreadCosts, MarkMargins, LowestGiven, Measures, FirstOfSeason}
+use Rattle.definitions.specs.Demands.{UnreadCosts, MarkMargins, LowestGiven, Measures, FoundExactly, FirstOfSeason}
 use Rattle.definitions.proofs.Refusals.{first-lowest, first-absent}
-use Rattle.definitions.proofs.Finder.{nowhere, first-of-season}
+use Rattle.definitions.proofs.Finder as finder
 use Rattle.definitions.proofs.Sound.{sound, checked}
 use Rattle.definitions.proofs.Demands.{nearest-one}
 use Rattle.definitions.proofs.Accepted.{accepted-writing, accepted-measuring, accepted-reading, measuring-accepted}
@@ -53,7 +53,7 @@ demand-1 = record {
   write = λ C P F B n. sym (write-keeps C P F B refl n);
   measure = λ C P s u F n. sym (measure-refuses C P s u F refl n);
   read = read-keeps;
-  find = nowhere;
+  find = finder.nowhere;
 }
 
 -- Demand 3. For every sound plan and every photograph in buffers of the right lengths, whatever the points, symbols and doubts:
@@ -121,7 +121,12 @@ measures C P s u F = record {
   each = measuring-accepted C P s u F;
 }
 
--- For every file and season of which the finder gives 0: what it hands back, as a part or as an offset, is a whole plan of the
--- file, it has the season, and no plan before it in the file has.
+-- The finder gives 11 where the length of the file is no multiple of 24, else 0 where some plan of the file has the season, sound
+-- or not, else 12.
+pub found-exactly : (file : List ℕ) (season : ℕ) → FoundExactly file season
+found-exactly = finder.found-exactly
+
+-- Where it gives 0, what it hands back, as a part or as an offset, is a whole plan of the file, it has the season, and no plan
+-- before it in the file has.
 pub first-found : (file : List ℕ) (season : ℕ) → findNumber file season ≡ 0 → FirstOfSeason file season
-first-found = first-of-season
+first-found = finder.first-of-season

@@ -1,5 +1,5 @@
 -- `plan::locate` meets its contract: none of the first k records has the season. Assumes nothing.
-use mathlib.Core.Path.{_≡_, refl, sym, _∙_}
+use mathlib.Core.Path.{_≡_, sym, _∙_}
 use mathlib.Core.Bool.{false}
 use Prim.Native.Nat.{_-_, _≤_, _<_}
 use native.Mathlib.Omega.{arith}
@@ -9,7 +9,7 @@ use Rattle.bounded.proofs.Any.{some-any, any-more, any-start}
 use Rattle.definitions.specs.Plan.{season}
 use Rattle.definitions.specs.Finder.{plans, planAt, ofSeason, findRows}
 use Rattle.definitions.proofs.Refusals.{equal, unequal, not-true, not-false}
-use Rattle.definitions.proofs.Finder.{season-at, find-at, offset-refused, offset-found}
+use Rattle.definitions.proofs.Finder.{season-at, find-at, nowhere, offset-found}
 use borrow.Author.Needs.{needs}
 use Rattle.plan.proofs.locate.Statement.{statement}
 use Rattle.plan.proofs.locate.Tie as tie
@@ -23,7 +23,7 @@ abbrev μ-loop : tie.MeasureT-loop
 returns : tie.Need-returns Inv-loop μ-loop
 unfolding findRows
 returns c =
-    let e = find-at _ _ 0 (unequal _ _ (c .if1 .taken)) in (e, offset-refused _ _ e (λ z. omega arith))
+    let e = find-at _ _ 0 (unequal _ _ (c .if1 .taken)) in (e, sym (nowhere _ _ (λ z. omega (arith, e, z)) .0))
 
 loop-holds : tie.Need-loop-holds Inv-loop μ-loop
 loop-holds c = (search needs, any-start _, search needs)
@@ -55,7 +55,7 @@ returns-3 c =
     let l = c .before .loop in
     let n : l .k ≡ plans (c .before .before .before .before .args .file .now) = omega arith in
     let e = find-at _ _ 1 (equal _ _ (c .before .before .if1 .left), not-false (rw n at (l .inv .1))) in
-    (e, l .inv .2 ∙ offset-refused _ _ e (λ z. omega arith))
+    (e, l .inv .2 ∙ sym (nowhere _ _ (λ z. omega (arith, e, z)) .0))
 
 pub locate-spec : {M : Type 1} → statement M
 locate-spec =
