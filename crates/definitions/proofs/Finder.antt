@@ -28,16 +28,15 @@ use Rattle.definitions.specs.Finder.{plans, planAt, ofSeason, place, fin
 use Rattle.definitions.specs.Demands.{FoundExactly, FirstOfSeason}
 use Rattle.definitions.proofs.Refusals.{Stops, numberAt, first-at, first-clear, other, equal, unequal, not-true, not-false}
 
--- byte i of plan k
-plan-byte : (file : List ℕ) (k i : ℕ) → T (ltb i 24) → at (planAt file k) i ≡ at (drop (k * 24) file) i
-plan-byte file k i l = getD-take 24 (drop (k * 24) file) i 0 (ltb→lt i 24 l)
-
--- the season of plan k, in the bytes from its first on, and in the file
-whose : (file : List ℕ) (k : ℕ) → season (planAt file k) ≡ season (drop (k * 24) file)
-whose file k = ap₂ (λ a b. a * 256 + b) (plan-byte file k 0 tt) (plan-byte file k 1 tt)
+-- the season of plan k is in the bytes from its first on
+season-from : (file : List ℕ) (k : ℕ) → season (planAt file k) ≡ season (drop (k * 24) file)
+season-from file k = ap₂ (λ a b. a * 256 + b) (byte 0 tt) (byte 1 tt)
+  where
+    byte : (i : ℕ) → T (ltb i 24) → at (planAt file k) i ≡ at (drop (k * 24) file) i
+    byte i l = getD-take 24 (drop (k * 24) file) i 0 (ltb→lt i 24 l)
 
 pub season-at : (file : List ℕ) (k : ℕ) → season (planAt file k) ≡ at file (k * 24) * 256 + at file (k * 24 + 1)
-season-at file k = whose file k ∙ ap₂ (λ a b. a * 256 + b) (byte 0 ∙ ap (at file) (add-zero (k * 24))) (byte 1)
+season-at file k = season-from file k ∙ ap₂ (λ a b. a * 256 + b) (byte 0 ∙ ap (at file) (add-zero (k * 24))) (byte 1)
   where
     byte : (i : ℕ) → at (drop (k * 24) file) i ≡ at file (k * 24 + i)
     byte i = getD-drop (k * 24) file i 0
@@ -51,10 +50,13 @@ module _ (file : List ℕ) (y : ℕ) where
   unfolding findRows
   found-exactly = record {
     broken = λ h. sym (find-at 0 (unequal _ _ h));
-    found = λ e k l s. sym (find-at 2 (equal _ _ e, (not-true (some-any _ _ k (omega arith) (eq-eqb _ _ (whose file k ∙ s))), tt)));
+    found = λ e k l s. sym (find-at 2 (
+      equal _ _ e,
+      (not-true (some-any _ _ k (omega arith) (eq-eqb _ _ (season-from file k ∙ s))), tt),
+    ));
     absent = λ e h. sym (find-at 1 (
       equal _ _ e,
-      not-false (none-any _ _ λ k l. ne-eqb _ _ λ s. h k (omega arith) (sym (whose file k) ∙ s)),
+      not-false (none-any _ _ λ k l. ne-eqb _ _ λ s. h k (omega arith) (sym (season-from file k) ∙ s)),
     ));
   }
 
@@ -75,7 +77,7 @@ module _ (file : List ℕ) (y : ℕ) where
     inside = omega (arith, within);
     bytes = rw e;
     same = rw e (eqb-true _ _ (index-holds (plans file) (ofSeason file y) within));
-    before = λ i l s. eqb-false _ _ (index-before (plans file) (ofSeason file y) i l) (whose file i ∙ s);
+    before = λ i l s. eqb-false _ _ (index-before (plans file) (ofSeason file y) i l) (season-from file i ∙ s);
   }
     where
       within : place file y < plans file

@@ -16,8 +16,8 @@
 --   MarkMargins             a mark's margin is from -49,600 to 25,600, and both ends are reached
 --   LowestGiven             the lowest number that applies is given, over those that concern the call
 --   Measures C P s u F      measuring never gives 10: every record of a photograph's plan is measured, whatever its margin
---   FoundExactly file y     the finder gives 11 where the file's length is no multiple of 24, else 0 where some plan of the file has
---                           the season y, else 12
+--   FoundExactly file y     the finder gives 11 where the file's length is no multiple of 24, else 0 where some plan of the file
+--                           has the season y, else 12
 --   FirstOfSeason file y    what it finds is a whole plan of the file, with the season y, and no plan before it has that season
 --
 -- Signed numbers are the kit's (lib.IntN, lib.Signed): pos n is n, negℤ (pos n) is -n, ≤ℤ their order.
