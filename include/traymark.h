@@ -71,8 +71,8 @@ uint32_t traymark_check_plan(const uint8_t *plan, size_t plan_len);
 
 /*
  * Finds the first plan of a season in a plan file, which is plans of 24 bytes one after another with no header.
- * Only the season bytes are compared; the plan found is not checked. An empty file has no plan. So a plan is corrected
- * by putting the right one ahead of it in the file.
+ * So a plan is corrected by putting the right one ahead of it in the file. Only the season bytes are compared; the plan
+ * found is not checked. An empty file has no plan.
  *
  *   file     read
  *   offset   always written: where the number is 0, the place in the file of the first plan of the season, a multiple
