@@ -2,7 +2,7 @@
 --
 --   season-at         the season of plan k is that of two bytes of the file
 --   find-at           a search that stops at row i of its refusals has that row's number
---   found-exactly     which number is given, by the bytes of the file
+--   find-exactly      which number is given, by the bytes of the file
 --   nowhere           what a refused search hands back
 --   offset-found      one that finds nothing before plan k, and then that, gives its offset
 --   first-of-season   what is found is the first plan of the season
@@ -24,7 +24,7 @@ use Rattle.bounded.specs.Bounded.{at, any}
 use Rattle.bounded.proofs.Any.{some-any, none-any}
 use Rattle.bounded.proofs.Index.{index-before, index-holds, index-within, index-is}
 use Rattle.definitions.specs.Plan.{season}
-use Rattle.definitions.specs.Finder.{plans, planAt, ofSeason, place, findRows, findNumber, findOffset, findBytes}
+use Rattle.definitions.specs.Finder.{plans, planAt, ofSeason, firstPlan, findRows, findNumber, findOffset, findBytes}
 use Rattle.definitions.specs.Demands.{FoundExactly, FirstOfSeason}
 use Rattle.definitions.proofs.Refusals.{Stops, numberAt, first-at, first-clear, other, equal, unequal, not-true, not-false}
 
@@ -46,9 +46,9 @@ module _ (file : List ℕ) (y : ℕ) where
   unfolding findNumber
   find-at i h = first-at (findRows file y) i h
 
-  pub found-exactly : FoundExactly file y
+  pub find-exactly : FoundExactly file y
   unfolding findRows
-  found-exactly = record {
+  find-exactly = record {
     broken = λ h. sym (find-at 0 (unequal _ _ h));
     found = λ e k l s. sym (find-at 2 (
       equal _ _ e,
@@ -62,7 +62,7 @@ module _ (file : List ℕ) (y : ℕ) where
 
   pub nowhere : findNumber file y ≢ 0 → (findOffset file y ≡ 0) × (findBytes file y ≡ [])
   unfolding findOffset findBytes
-  nowhere h = (sym (other (findNumber file y) _ _ h), sym (other (findNumber file y) _ _ h))
+  nowhere h = (other (findNumber file y) _ _ h, other (findNumber file y) _ _ h)
 
   pub offset-found : (k : ℕ) → k < plans file → any k (ofSeason file y) ≡ false → season (planAt file k) ≡ y →
       0 ≡ findNumber file y → k * 24 ≡ findOffset file y
@@ -72,7 +72,7 @@ module _ (file : List ℕ) (y : ℕ) where
   pub first-of-season : findNumber file y ≡ 0 → FirstOfSeason file y
   unfolding findNumber findRows findOffset findBytes
   first-of-season e = record {
-    k = place file y;
+    k = firstPlan file y;
     offset = rw e;
     inside = omega (arith, within);
     bytes = rw e;
@@ -80,5 +80,5 @@ module _ (file : List ℕ) (y : ℕ) where
     before = λ i l s. eqb-false _ _ (index-before (plans file) (ofSeason file y) i l) (season-from file i ∙ s);
   }
     where
-      within : place file y < plans file
+      within : firstPlan file y < plans file
       within = index-within (plans file) (ofSeason file y) (passed _ (first-clear (findRows file y) tt e 1))

@@ -138,7 +138,7 @@ first-absent k ((j when true) ∷ rows) z h e =
 first-absent k ((j when false) ∷ rows) z h e = first-absent k rows z (both (not (eqb j k)) (absent k rows) h .1) e
 
 -- what a refused call does
-pub other : {A : Type 0} (k : ℕ) (a b : A) → k ≢ 0 → b ≡ accepted k a b
+pub other : {A : Type 0} (k : ℕ) (a b : A) → k ≢ 0 → accepted k a b ≡ b
 other zero a b h = absurd (h refl)
 other (suc k) a b h = refl
 

@@ -1,7 +1,7 @@
 -- Finding a season's plan in a plan file: the first in file order. Everything is decided from the file and the season alone.
 --
 --   plans file, planAt file k     how many plans the file has, and plan k: 24 bytes at k * 24
---   ofSeason, place file y        that a plan has the season y, and which is the first that has, counted from 0
+--   ofSeason, firstPlan           that a plan has the season, and which is the first that has, counted from 0
 --   findRows, findNumber          refusals 11 and 12; 0 where neither applies
 --   findOffset                    where that plan begins in the file, and 0 on a refusal
 --   findBytes                     its bytes, and none on a refusal
@@ -28,8 +28,8 @@ planAt file k = take 24 (drop (k * 24) file)
 abbrev pub ofSeason : List ℕ → (y k : ℕ) → Bool
 ofSeason file y k = eqb (season (planAt file k)) y
 
-abbrev pub place : List ℕ → ℕ → ℕ
-place file y = index (plans file) (ofSeason file y)
+abbrev pub firstPlan : List ℕ → ℕ → ℕ
+firstPlan file y = index (plans file) (ofSeason file y)
 
 unfoldable pub findRows : List ℕ → ℕ → List Refusal
 findRows file y =
@@ -41,10 +41,10 @@ unfoldable pub findNumber : List ℕ → ℕ → ℕ
 findNumber file y = first (findRows file y)
 
 unfoldable pub findOffset : List ℕ → ℕ → ℕ
-findOffset file y = accepted (findNumber file y) (place file y * 24) 0
+findOffset file y = accepted (findNumber file y) (firstPlan file y * 24) 0
 
 unfoldable pub findBytes : List ℕ → ℕ → List ℕ
-findBytes file y = accepted (findNumber file y) (planAt file (place file y)) []
+findBytes file y = accepted (findNumber file y) (planAt file (firstPlan file y)) []
 
 -- a block of memory, and an offset in it
 abbrev pub addressAt : RefT (List ℕ) → ℕ → ℕ × ℕ

@@ -27,7 +27,7 @@ use Rattle.reading.proofs.Loading.{taken}
 module _ (C : Code) (P F B : List ℕ) {k : ℕ} (e : k ≡ writeNumber C P F B) where
   pub write-keeps : (k ≡ 0 → ⊥) → B ≡ writeBuffer C P F B
   unfolding writeBuffer
-  write-keeps h = other k (mark C P F) B h ∙ ap (λ k. accepted k (mark C P F) B) e
+  write-keeps h = sym (other k (mark C P F) B h) ∙ ap (λ k. accepted k (mark C P F) B) e
 
   pub write-fills : k ≡ 0 → mark C P F ≡ writeBuffer C P F B
   unfolding writeBuffer
@@ -40,7 +40,8 @@ write-unsound C P F B {k} e h = let n = write-refused C P F B k e h in (n, write
 module _ (C : Code) (P s u F : List ℕ) {k : ℕ} (e : k ≡ measureNumber C P s u F) where
   pub measure-refuses : (k ≡ 0 → ⊥) → refused k ≡ measureReading C P s u F
   unfolding measureReading
-  measure-refuses h = other k (readingOf C P s u F) (refused k) h ∙ ap (λ k. accepted k (readingOf C P s u F) (refused k)) e
+  measure-refuses h =
+      sym (other k (readingOf C P s u F) (refused k) h) ∙ ap (λ k. accepted k (readingOf C P s u F) (refused k)) e
 
   pub measure-gives : k ≡ 0 → readingOf C P s u F ≡ measureReading C P s u F
   unfolding measureReading
@@ -68,7 +69,7 @@ read-unsound C P s u B {k} e h = read-refuses C P s u B (photo-refused C P s u B
 pub read-keeps : (C : Code) (P s u B : List ℕ) → (readNumber C P s u B ≡ 0 → ⊥) →
     (readReading C P s u B ≡ refused (readNumber C P s u B)) × (readBuffer C P s u B ≡ B)
 unfolding readReading readBuffer
-read-keeps C P s u B h = (sym (other (readNumber C P s u B) _ _ h), sym (other (readNumber C P s u B) _ _ h))
+read-keeps C P s u B h = (other (readNumber C P s u B) _ _ h, other (readNumber C P s u B) _ _ h)
 
 -- the reading is that of the record in the buffer
 pub read-gives : (C : Code) (P s u B : List ℕ) → readNumber C P s u B ≡ 0 →

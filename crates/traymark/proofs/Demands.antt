@@ -124,7 +124,7 @@ measures C P s u F = record {
 -- The finder gives 11 where the length of the file is no multiple of 24, else 0 where some plan of the file has the season, sound
 -- or not, else 12.
 pub found-exactly : (file : List ℕ) (season : ℕ) → FoundExactly file season
-found-exactly = finder.found-exactly
+found-exactly = finder.find-exactly
 
 -- Where it gives 0, what it hands back, as a part or as an offset, is a whole plan of the file, it has the season, and no plan
 -- before it in the file has.

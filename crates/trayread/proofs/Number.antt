@@ -4,16 +4,12 @@
 --   read-text      the two lines of a reading
 --
 -- What this file is for: the program tests the number, the definition chooses by it. Assumes nothing.
-use mathlib.Core.Path.{_≡_, refl}
+use mathlib.Core.Path.{_≡_}
 use mathlib.Core.List.{List, _++_}
-use Prim.Native.Nat.{ℕ, zero, suc}
+use Prim.Native.Nat.{ℕ}
 use Rattle.definitions.specs.declared.Reading.{Reading}
-use Rattle.definitions.specs.Refusals.{accepted}
 use Rattle.definitions.specs.Printed.{readLine, recordLine, refusedLine, answerText}
-
-other : (k : ℕ) (a b : List ℕ) → (k ≡ 0 → ⊥) → accepted k a b ≡ b
-other zero a b h = absurd (h refl)
-other (suc k) a b h = refl
+use Rattle.definitions.proofs.Refusals.{other}
 
 module _ (y : ℕ) (r : Reading) (F : List ℕ) where
   pub refused-text : (r .number ≡ 0 → ⊥) → answerText y r F ≡ refusedLine (r .number)
