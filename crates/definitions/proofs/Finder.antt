@@ -6,6 +6,7 @@
 --   nowhere           what a refused search hands back
 --   offset-found      one that finds nothing before plan k, and then that, gives its offset
 --   first-of-season   what is found is the first plan of the season
+--   found-part        the 24 bytes at its offset are in the file, and are its bytes
 --
 -- What this file is for: the finder's number by the row at which it stops, its offset by the plan at which it stops, and what
 -- they say to a user. Assumes nothing.
@@ -13,11 +14,11 @@ use mathlib.Core.Path.{_≡_, sym, ap, ap₂, _∙_}
 use mathlib.Core.Logic.{_≢_}
 use mathlib.Core.Bool.{false}
 use mathlib.Core.List.{List, []}
-use Prim.Native.Nat.{ℕ, _+_, _*_, _<_}
+use Prim.Native.Nat.{ℕ, _+_, _*_, _-_, _≤_, _<_}
 use native.Mathlib.Omega.{arith}
-use native.Mathlib.Nat.{add-zero}
+use native.Mathlib.Nat.{add-zero, add-sub-cancel-left}
 use lib.Dec.{T, ltb, ltb→lt}
-use lib.ListN.{drop}
+use lib.ListN.{length, take, drop}
 use lib.Seq.{getD-take, getD-drop}
 use borrow.Author.Tests.{eq-eqb, ne-eqb, eqb-true, eqb-false, not-false as passed}
 use Rattle.bounded.specs.Bounded.{at, any}
@@ -82,3 +83,9 @@ module _ (file : List ℕ) (y : ℕ) where
     where
       within : firstPlan file y < plans file
       within = index-within (plans file) (ofSeason file y) (passed _ (first-clear (findRows file y) tt e 1))
+
+  pub found-part : {n a : ℕ} → n ≡ findNumber file y → n ≡ 0 → a ≡ findOffset file y →
+      (a + 24 ≤ length file) × (take (a + 24 - a) (drop a file) ≡ findBytes file y)
+  found-part {n} {a} e z o =
+      let f = first-of-season (sym e ∙ z) in
+      (omega (arith, f .inside, f .offset), rw (add-sub-cancel-left a 24, o, f .offset) (sym (f .bytes)))
