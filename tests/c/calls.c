@@ -95,23 +95,28 @@ static void check_plan(void)
     EXPECT(traymark_check_plan(ALL(plan)) == 1);
 }
 
+/* the number, with the offset that is always written beside it */
+static int finds(in file, size_t length, uint16_t season, uint32_t number, size_t place)
+{
+    size_t offset = 77;
+    return traymark_find_plan(file, length, season, &offset) == number && offset == place;
+}
+
 static void find_plan(void)
 {
     /* plans of the seasons 30, 12 with p 9, 12 * 256, 12 */
     uint8_t file[96] = {0, 30};
-    size_t offset = 77;
     memcpy(file + 24, plan_a, 24);
     file[26] = 9;
     file[48] = 12;
     memcpy(file + 72, plan_a, 24);
-    EXPECT(traymark_find_plan(ALL(file), 12, &offset) == 0 && offset == 24);
-    EXPECT(traymark_find_plan(file + 48, 48, 12, &offset) == 0 && offset == 24);
-    EXPECT(traymark_find_plan(ALL(file), 30, &offset) == 0 && offset == 0);
-    EXPECT(traymark_find_plan(ALL(file), 12 * 256, &offset) == 0 && offset == 48);
-    EXPECT(traymark_find_plan(ALL(file), 13, &offset) == 12 && offset == 0);
-    offset = 77;
-    EXPECT(traymark_find_plan(file, 95, 12, &offset) == 11 && offset == 0);
-    EXPECT(traymark_find_plan(file, 0, 12, &offset) == 12 && offset == 0);
+    EXPECT(finds(ALL(file), 12, 0, 24));
+    EXPECT(finds(file + 48, 48, 12, 0, 24));
+    EXPECT(finds(ALL(file), 30, 0, 0));
+    EXPECT(finds(ALL(file), 12 * 256, 0, 48));
+    EXPECT(finds(ALL(file), 13, 12, 0));
+    EXPECT(finds(file, 95, 12, 11, 0));
+    EXPECT(finds(file, 0, 12, 12, 0));
 }
 
 static void write_and_measure(void)

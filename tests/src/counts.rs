@@ -20,8 +20,9 @@ pub struct Counts {
     pub above: u64,
     /// marks and strips read by both of the independent methods
     pub twice: u64,
-    /// plans found that others of their season stand behind
+    /// plans found that others of their season stand behind, and of these unsound ones before sound ones
     pub first_of_several: u64,
+    pub unsound_first: u64,
     /// answers by number, and accepted readings and measurements by class
     pub numbers: [u64; 13],
     pub classes: [u64; 4],
@@ -63,6 +64,7 @@ impl Counts {
         self.above += other.above;
         self.twice += other.twice;
         self.first_of_several += other.first_of_several;
+        self.unsound_first += other.unsound_first;
         self.numbers.iter_mut().zip(other.numbers).for_each(|(sum, n)| *sum += n);
         self.classes.iter_mut().zip(other.classes).for_each(|(sum, n)| *sum += n);
     }
@@ -77,6 +79,7 @@ impl Counts {
             ([self.below, self.at, self.above].into_iter().any(|n| n < 5_000), "few costs around the radius"),
             (self.twice < 5_000, "few readings by both independent methods"),
             (self.first_of_several < 1_500, "fewer than 1,500 plans found before others of their season"),
+            (self.unsound_first < 40, "fewer than 40 unsound plans found before sound ones of their season"),
             (self.numbers.contains(&0), "a number that was never answered"),
             (self.classes.contains(&0), "a class that was never answered"),
         ]
@@ -91,7 +94,7 @@ impl fmt::Display for Counts {
         write!(
             f,
             "{} calls, {} marks, {} strips; changed and unread at once: {} {}; cost R - 1, R, R + 1: {} {} {}; \
-             both methods: {}; first of several plans: {}; numbers: {}; classes: {}",
+             both methods: {}; first of several plans: {}, unsound before sound: {}; numbers: {}; classes: {}",
             self.calls,
             self.marks,
             self.strips,
@@ -102,6 +105,7 @@ impl fmt::Display for Counts {
             self.above,
             self.twice,
             self.first_of_several,
+            self.unsound_first,
             list(&self.numbers),
             list(&self.classes)
         )

@@ -1,4 +1,4 @@
--- The laws of the first number below a bound that passes a test.
+-- The laws of first places: the first number below a bound that passes a test.
 --
 --   index-before   none before it passes
 --   index-holds    it passes itself, where it is below the bound

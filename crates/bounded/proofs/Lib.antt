@@ -1,4 +1,4 @@
--- The laws of sums, tests, tables and searches.
+-- The laws of sums, tests, tables and first places.
 pub mod Sum
 pub mod Any
 pub mod Tab

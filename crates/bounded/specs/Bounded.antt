@@ -1,4 +1,4 @@
--- Sums, tests, tables and searches over the numbers below a bound. The bound comes first.
+-- Sums, tests, tables and first places over the numbers below a bound. The bound comes first.
 --
 --   at s i       byte i of the list s, and 0 beyond its end
 --   sum n f      f 0 + .. + f (n - 1), and 0 for n = 0; a count is a sum of zeros and ones
@@ -6,8 +6,8 @@
 --   tab n f      the list f 0 .. f (n - 1)
 --   index n f    the first i below n for which f i is true, and n where there is none
 --
--- What this file is for: contracts and laws speak of arrays and of loops in these five words. Sums, tests and tables recurse at
--- their end, as a loop does, and a search from its start.
+-- Sums, tests and tables recurse at their end, as a loop does; the first place is sought from the start.
+-- What this file is for: contracts and laws speak of arrays and of loops in these five words.
 use mathlib.Core.Bool.{Bool, false, _||_, cond}
 use mathlib.Core.List.{List, [], _∷_, _++_}
 use Prim.Native.Nat.{ℕ, zero, suc, _+_}

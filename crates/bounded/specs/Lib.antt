@@ -1,2 +1,2 @@
--- Sums, tests, tables and searches over the numbers below a bound.
+-- Sums, tests, tables and first places over the numbers below a bound.
 pub mod Bounded

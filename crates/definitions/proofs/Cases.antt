@@ -54,8 +54,8 @@ found file y = (findNumber file y, findOffset file y, findBytes file y)
 abbrev planFile : List ℕ
 planFile = set planA 0 1 ++ set planA 2 9 ++ planA ++ set (set planA 0 1) 4 0 ++ set planA 1 13
 
--- of several the first, sound or not; at the start of the file and at its end; seasons that stand in no plan, or only inside and
--- across plans; one plan alone; the last of eleven; plans of nothing but 255 and 0; an empty file; a byte too many, a byte too
+-- of several the first, sound or not; at the start of the file and at its end; seasons that stand nowhere, inside plans, and
+-- across them; one plan alone; the last of eleven; a plan of 255s, and one of zeros; an empty file; a byte too many, a byte too
 -- few, and half a plan
 pub finder-cases :
     map (found planFile) (12 ∷ 268 ∷ 13 ∷ 269 ∷ 516 ∷ 0 ∷ [])

@@ -3,8 +3,8 @@
 --   season-at         the season of plan k is that of two bytes of the file
 --   find-at           a search that stops at row i of its refusals has that row's number
 --   find-exactly      which number is given, by the bytes of the file
---   nowhere           what a refused search hands back
---   offset-found      one that finds nothing before plan k, and then that, gives its offset
+--   nowhere           the offset and the bytes of a refusal
+--   offset-found      a search that comes to plan k, and to none of the season before it, gives its offset
 --   first-of-season   what is found is the first plan of the season
 --   found-part        the 24 bytes at its offset are in the file, and are its bytes
 --
@@ -27,7 +27,8 @@ use Rattle.bounded.proofs.Index.{index-before, index-holds, index-within, index
 use Rattle.definitions.specs.Plan.{season}
 use Rattle.definitions.specs.Finder.{plans, planAt, ofSeason, firstPlan, findRows, findNumber, findOffset, findBytes}
 use Rattle.definitions.specs.Demands.{FoundExactly, FirstOfSeason}
-use Rattle.definitions.proofs.Refusals.{Stops, numberAt, first-at, first-clear, other, equal, unequal, not-true, not-false}
+use Rattle.definitions.proofs.Refusals.{Stops, numberAt, first-at, first-clear, otherwise}
+use Rattle.definitions.proofs.Refusals.{equal, unequal, not-true, not-false}
 
 -- the season of plan k is in the bytes from its first on
 season-from : (file : List ℕ) (k : ℕ) → season (planAt file k) ≡ season (drop (k * 24) file)
@@ -63,7 +64,7 @@ module _ (file : List ℕ) (y : ℕ) where
 
   pub nowhere : findNumber file y ≢ 0 → (findOffset file y ≡ 0) × (findBytes file y ≡ [])
   unfolding findOffset findBytes
-  nowhere h = (other (findNumber file y) _ _ h, other (findNumber file y) _ _ h)
+  nowhere h = (otherwise (findNumber file y) _ _ h, otherwise (findNumber file y) _ _ h)
 
   pub offset-found : (k : ℕ) → k < plans file → any k (ofSeason file y) ≡ false → season (planAt file k) ≡ y →
       0 ≡ findNumber file y → k * 24 ≡ findOffset file y

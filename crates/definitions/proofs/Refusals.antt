@@ -9,7 +9,7 @@
 --   first-none, first-applies     0 where no row applies, else the number of one that does
 --   rising k rows, first-lowest   where the numbers rise, from k on, it is the lowest
 --   absent k rows, first-absent   a number that no row has is not the first
---   other                         what a call that is refused does
+--   otherwise                     what a refused call does: `accepted`, where the number is not 0
 --   equal, unequal                a code's test of two numbers
 --   answered, answered-not        a test that a function has answered
 --   not-true, not-false           a test turned round
@@ -137,10 +137,10 @@ first-absent k ((j when true) ∷ rows) z h e =
     false≢true (rw (eq-eqb j k e) at (both (not (eqb j k)) (absent k rows) h .0))
 first-absent k ((j when false) ∷ rows) z h e = first-absent k rows z (both (not (eqb j k)) (absent k rows) h .1) e
 
--- what a refused call does
-pub other : {A : Type 0} (k : ℕ) (a b : A) → k ≢ 0 → accepted k a b ≡ b
-other zero a b h = absurd (h refl)
-other (suc k) a b h = refl
+-- the choice of a refused call
+pub otherwise : {A : Type 0} (k : ℕ) (a b : A) → k ≢ 0 → accepted k a b ≡ b
+otherwise zero a b h = absurd (h refl)
+otherwise (suc k) a b h = refl
 
 -- a code's tests as the definitions' tests; `search tests` finds them in what is known at a return
 pub equal : (a b : ℕ) → a ≡ b → not (eqb a b) ≡ false

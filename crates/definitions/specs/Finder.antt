@@ -3,9 +3,9 @@
 --   plans file, planAt file k     how many plans the file has, and plan k: 24 bytes at k * 24
 --   ofSeason, firstPlan           that a plan has the season, and which is the first that has, counted from 0
 --   findRows, findNumber          refusals 11 and 12; 0 where neither applies
---   findOffset                    where that plan begins in the file, and 0 on a refusal
+--   findOffset                    where the first plan of the season begins in the file, and 0 on a refusal
 --   findBytes                     its bytes, and none on a refusal
---   addressAt                     the address of an offset in what is lent: there the part lies that Rattle callers get
+--   addressAt                     the address at an offset in what is lent; at `findOffset` lies the part that Rattle callers get
 --
 -- What this file is for: the contracts of the finder, for Rattle and for C, are equalities with these. The season bytes alone are
 -- compared; the plan is not checked.

@@ -1,5 +1,5 @@
 // The calls for season plans at work: plan A of document 01, then with one byte changed, and a plan file. Each line says what was
-// asked and the number that was answered; the file stdout has the numbers of document 01.
+// asked and the number that was answered; the file stdout has the numbers of document 01, and the first plan of a season.
 ghost use Prim.Native.Nat.{_<_};
 use traymark::plans::find_plan;
 use traymark::plans::traymark_check_plan;
@@ -15,18 +15,21 @@ fn main() {
     changed(b"l points 1 1 4", 6, 1);
     changed(b"byte 20 is 1", 20, 1);
 
-    // Three records: season 11, then 12 corrected, p 2 with the one point 0, and last 12 as it was, with all else 0.
-    let mut file = [0u8; 72];
+    // Four records: season 11; 12 corrected, p 2 with the one point 0; 12 as it was, with all else 0; 12 corrected once more.
+    let mut file = [0u8; 96];
     file[1] = 11;
     file[25] = 12;
     file[26] = 2;
     file[27] = 1;
     file[49] = 12;
+    file[73] = 12;
+    file[74] = 2;
+    file[75] = 1;
     find(b"season 12", &file, 12);
     find(b"season 13", &file, 13);
-    find(b"season 12 in 71 bytes", &file[..71], 12);
-    found(b"the plan of season 12", &file);
-    found(b"the plan of season 12 as it was", &file[48..]);
+    find(b"season 12 in 95 bytes", &file[..95], 12);
+    found(b"season 12 with the corrected plan on top", &file);
+    found(b"season 12 with the faulty plan on top", &file[48..]);
 }
 
 // Plan A: season 12, p 7, three points, degree 1, points 1 2 4.
@@ -60,7 +63,7 @@ fn find(name: &[u8], file: &[u8], season: u16) {
     io::write_all(1, b"\n");
 }
 
-// The number of the plan of season 12 that is found; of an empty part it is 1.
+// What the check says of the plan of season 12 that is found; where none is, of an empty part, 1.
 fn found(name: &[u8], file: &[u8]) {
     let mut number: u32 = 0;
     line(name, traymark_check_plan(find_plan(file, 12, &mut number)));

@@ -129,7 +129,7 @@ pub fn locate(file: &[u8], season: u16, offset: &mut usize) -> u32
     12
 }
 
-// The same, as the record itself: 24 bytes of the lent file and no copy, or an empty part of it where the number is not 0.
+// The same, as the record itself: 24 bytes of the lent file and no copy, or an empty part at its start where the number is not 0.
 pub fn find<'a>(file: &'a [u8], season: u16, number: &mut u32) -> &'a [u8]
     ensures number { λ r. ⌜ now (number .exit) ≡ findNumber (now (file .entry)) season ⌝ }
     ensures address { λ r. ⌜ ptr r ≡ addressAt (file .entry) (findOffset (now (file .entry)) season) ⌝ }

@@ -18,7 +18,7 @@ use Rattle.definitions.specs.Code.{Code, mark}
 use Rattle.definitions.specs.Calls.{refused, readingOf, photoRows, writeNumber, writeBuffer, measureNumber, measureReading}
 use Rattle.definitions.specs.Calls.{readNumber, readReading, readBuffer}
 use Rattle.definitions.specs.Reads.{Reads}
-use Rattle.definitions.proofs.Refusals.{other}
+use Rattle.definitions.proofs.Refusals.{otherwise}
 use Rattle.definitions.proofs.Nearest.{reads-refused}
 use Rattle.definitions.proofs.Accepted.{photo-refused, write-refused, measure-refused}
 use Rattle.reading.specs.Loading.{Taken}
@@ -27,7 +27,7 @@ use Rattle.reading.proofs.Loading.{taken}
 module _ (C : Code) (P F B : List ℕ) {k : ℕ} (e : k ≡ writeNumber C P F B) where
   pub write-keeps : (k ≡ 0 → ⊥) → B ≡ writeBuffer C P F B
   unfolding writeBuffer
-  write-keeps h = sym (other k (mark C P F) B h) ∙ ap (λ k. accepted k (mark C P F) B) e
+  write-keeps h = sym (otherwise k (mark C P F) B h) ∙ ap (λ k. accepted k (mark C P F) B) e
 
   pub write-fills : k ≡ 0 → mark C P F ≡ writeBuffer C P F B
   unfolding writeBuffer
@@ -41,7 +41,7 @@ module _ (C : Code) (P s u F : List ℕ) {k : ℕ} (e : k ≡ measureNumber C P 
   pub measure-refuses : (k ≡ 0 → ⊥) → refused k ≡ measureReading C P s u F
   unfolding measureReading
   measure-refuses h =
-      sym (other k (readingOf C P s u F) (refused k) h) ∙ ap (λ k. accepted k (readingOf C P s u F) (refused k)) e
+      sym (otherwise k (readingOf C P s u F) (refused k) h) ∙ ap (λ k. accepted k (readingOf C P s u F) (refused k)) e
 
   pub measure-gives : k ≡ 0 → readingOf C P s u F ≡ measureReading C P s u F
   unfolding measureReading
@@ -69,7 +69,7 @@ read-unsound C P s u B {k} e h = read-refuses C P s u B (photo-refused C P s u B
 pub read-keeps : (C : Code) (P s u B : List ℕ) → (readNumber C P s u B ≡ 0 → ⊥) →
     (readReading C P s u B ≡ refused (readNumber C P s u B)) × (readBuffer C P s u B ≡ B)
 unfolding readReading readBuffer
-read-keeps C P s u B h = (other (readNumber C P s u B) _ _ h, other (readNumber C P s u B) _ _ h)
+read-keeps C P s u B h = (otherwise (readNumber C P s u B) _ _ h, otherwise (readNumber C P s u B) _ _ h)
 
 -- the reading is that of the record in the buffer
 pub read-gives : (C : Code) (P s u B : List ℕ) → readNumber C P s u B ≡ 0 →

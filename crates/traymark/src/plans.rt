@@ -19,8 +19,8 @@ pub extern "C" fn traymark_check_plan(plan: &[u8]) -> u32
     plan::check(plan)
 }
 
-// Finds the plan of a season in a plan file, for Rattle. `file` is 24-byte records one after another, and is only read; only
-// their season bytes are looked at, so the plan that is found may be unsound. `number` is set, whatever it was.
+// Finds the first plan of a season in a plan file, for Rattle. `file` is 24-byte records one after another, and is only read;
+// only their season bytes are looked at, so the plan that is found may be unsound. `number` is set, whatever it was.
 //
 // Sets the number to 0 and returns the 24 bytes of the first record of that season, in the order of the file: a part of `file`
 // itself, at a multiple of 24. Else returns an empty part, at the start of `file`, and sets the number to the lowest of

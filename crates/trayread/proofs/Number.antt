@@ -9,12 +9,12 @@ use mathlib.Core.List.{List, _++_}
 use Prim.Native.Nat.{ℕ}
 use Rattle.definitions.specs.declared.Reading.{Reading}
 use Rattle.definitions.specs.Printed.{readLine, recordLine, refusedLine, answerText}
-use Rattle.definitions.proofs.Refusals.{other}
+use Rattle.definitions.proofs.Refusals.{otherwise}
 
 module _ (y : ℕ) (r : Reading) (F : List ℕ) where
   pub refused-text : (r .number ≡ 0 → ⊥) → answerText y r F ≡ refusedLine (r .number)
   unfolding answerText
-  refused-text h = other (r .number) (readLine y r ++ recordLine F) (refusedLine (r .number)) h
+  refused-text h = otherwise (r .number) (readLine y r ++ recordLine F) (refusedLine (r .number)) h
 
   pub read-text : r .number ≡ 0 → answerText y r F ≡ readLine y r ++ recordLine F
   unfolding answerText

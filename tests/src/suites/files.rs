@@ -18,12 +18,17 @@ pub fn case(_: u64, random: &mut Random, counts: &mut Counts) -> Result<(), Stri
 fn find(file: &[u8], season: u16, random: &mut Random, counts: &mut Counts) -> Result<(u32, usize), String> {
     let found = library::find(file, season, random).map_err(|what| format!("find {what}; season {season}"))?;
     counts.number(found.0);
-    let expected = find_plan(file, season);
-    if let Ok(offset) = expected {
-        counts.first_of_several += u64::from(find_plan(&file[offset + 24..], season).is_ok());
-    }
-    if found != expected.map_or_else(|number| (number, 0), |offset| (0, offset)) {
+    let expected = find_plan(file, season).map_or_else(|number| (number, 0), |offset| (0, offset));
+    if found != expected {
         return Err(format!("find gave {found:?}, not {expected:?}; season {season}"));
+    }
+    if let (0, offset) = found {
+        let (plan, behind) = file[offset..].split_at(24);
+        if let Ok(next) = find_plan(behind, season) {
+            let next = &behind[next..next + 24];
+            counts.first_of_several += 1;
+            counts.unsound_first += u64::from(check_plan(plan) != 0 && check_plan(next) == 0);
+        }
     }
     Ok(found)
 }
@@ -49,8 +54,8 @@ fn season(file: &[u8], random: &mut Random) -> u16 {
     }
 }
 
-/// How many plans a file has.
-const PLANS: [usize; 6] = [1, 2, 3, 50, 1_000, 10_000];
+/// How many plans a file has; the most are more than 16 bits count.
+const PLANS: [usize; 6] = [1, 2, 3, 50, 1_000, 70_000];
 
 /// Each length, the first plan of the season at the front, at the end or anywhere, sound or not, three times.
 pub const PLACED: u64 = 6 * 3 * 2 * 3;
@@ -66,13 +71,16 @@ pub fn placed(seed: u64, random: &mut Random, counts: &mut Counts) -> Result<(),
     let made = |season: u16, sound: bool, random: &mut Random| {
         let mut bytes = plan(random.pick(&shapes), random).bytes();
         bytes[..2].copy_from_slice(&season.to_be_bytes());
-        bytes[2] = if sound { bytes[2] } else { 9 };
+        if !sound {
+            let (place, byte) = random.pick(&[(2, 9), (3, 0), (4, 16), (23, 1)]);
+            bytes[place] = byte;
+        }
         bytes
     };
     let file: Vec<u8> = (0..plans)
         .flat_map(|k| match k == first || k > first && random.one_in(3) {
             true => made(season, (k == first) == sound, random),
-            false => made(other(season, random), true, random),
+            false => made(other(season, random), random.one_in(2), random),
         })
         .collect();
     let offset = first * 24;
@@ -88,9 +96,10 @@ pub fn placed(seed: u64, random: &mut Random, counts: &mut Counts) -> Result<(),
         (&file[1..], (11, 0)),
     ];
     for (file, expected) in tries {
-        let found = find(file, season, random, counts)?;
+        let told = |what| format!("{what}; plan {first} of {plans}, {} bytes", file.len());
+        let found = find(file, season, random, counts).map_err(told)?;
         if found != expected {
-            return Err(format!("found {found:?}, not {expected:?}; season {season}, plan {first} of {plans}"));
+            return Err(told(format!("found {found:?}, not {expected:?}; season {season}")));
         }
     }
     Ok(())

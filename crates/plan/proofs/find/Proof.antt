@@ -1,6 +1,7 @@
 -- `plan::find` meets its contract: the part is the record that was located. Assumes nothing.
-use mathlib.Core.Path.{_∙_, sym}
+use mathlib.Core.Path.{_∙_, sym, ap}
 use native.Mathlib.Omega.{arith}
+use Rattle.definitions.specs.Finder.{addressAt}
 use Rattle.definitions.proofs.Finder.{nowhere, found-part}
 use borrow.Author.Needs.{needs}
 use Rattle.plan.proofs.find.Statement.{statement}
@@ -20,8 +21,9 @@ part-result-end-2 c = let e = c .before .before .locate .ensures in found-part _
 
 returns-2 : tie.Need-returns-2
 returns-2 c =
+    let file = c .before .before .before .before .before .before .args .file in
     let e = c .before .before .before .locate .ensures in
-    (e .0, (rw (e .1), found-part _ _ (e .0) (c .before .if1 .left) (e .1) .1))
+    (e .0, (ap (addressAt file) (e .1), found-part _ _ (e .0) (c .before .if1 .left) (e .1) .1))
 
 pub find-spec : {M : Type 1} → statement M
 find-spec =
