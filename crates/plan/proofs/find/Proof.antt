@@ -17,7 +17,7 @@ add-result : tie.Need-add-result
 add-result c = let e = c .before .before .locate .ensures in omega (arith, found-part _ _ (e .0) (c .if1 .left) (e .1) .0)
 
 part-result-end-2 : tie.Need-part-result-end-2
-part-result-end-2 c = let e = c .before .before .locate .ensures in found-part _ _ (e .0) (c .if1 .left) (e .1) .0
+part-result-end-2 c = let e = c .before .before .locate .ensures in omega (arith, found-part _ _ (e .0) (c .if1 .left) (e .1) .0)
 
 returns-2 : tie.Need-returns-2
 returns-2 c =
