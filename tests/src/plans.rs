@@ -16,6 +16,13 @@ pub fn shapes() -> Vec<(u32, usize, usize)> {
         .collect()
 }
 
+/// Of these those of p 251, every (n, d), and the one of that number.
+pub const SHAPES_OF_251: u64 = 16 * 17 / 2;
+
+pub fn shape_of_251(number: u64) -> (u32, usize, usize) {
+    shapes().into_iter().filter(|shape| shape.0 == 251).nth(number as usize).expect("so many shapes")
+}
+
 /// A plan of that shape with any season and any points; point 0 is often among them.
 pub fn plan((p, n, degree): (u32, usize, usize), random: &mut Random) -> Plan {
     let mut points: Vec<u32> = (0..p).collect();

@@ -1,6 +1,7 @@
 //! The 24 bytes of a plan.
 
 use super::field::{Field, Reduction, Row};
+use super::polynomial::start;
 use traymark::Refusal;
 
 /// The full doubt of a photograph.
@@ -43,7 +44,7 @@ impl<R: Reduction> Plan<R> {
 
     /// The number of coefficients of a record.
     pub fn size(&self) -> usize {
-        (self.degree + 1) * (self.degree + 2) / 2
+        start(self.degree + 1)
     }
 
     /// The radius R.

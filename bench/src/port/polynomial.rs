@@ -23,8 +23,8 @@ pub fn put_record(columns: &Square, degree: usize, record: &mut [u8]) {
     }
 }
 
-/// Where the coefficients of total degree k begin in a record.
-fn start(k: usize) -> usize {
+/// Where the coefficients of total degree k begin in a record; one of degree d has start(d + 1).
+pub fn start(k: usize) -> usize {
     k * (k + 1) / 2
 }
 

@@ -19,13 +19,15 @@
 --   FoundExactly file y     the finder gives 11 where the file's length is no multiple of 24, else 0 where some plan of the file
 --                           has the season y, else 12
 --   FirstOfSeason file y    what it finds is a whole plan of the file, with the season y, and no plan before it has that season
+--   GroupsFill d            the groups of degrees 0 to d fill the K places of a record one after another, with no gap and no
+--                           overlap
 --
 -- Signed numbers are the kit's (lib.IntN, lib.Signed): pos n is n, negℤ (pos n) is -n, ≤ℤ their order.
 -- What this file is for: the sentences that a user relies on, each as one statement whose parts are named.
 use mathlib.Core.Path.{_≡_}
 use mathlib.Core.List.{List, []}
 use mathlib.Core.Logic.{_≢_, _↔_}
-use Prim.Native.Nat.{ℕ, _+_, _*_, _%_, _≤_, _<_}
+use Prim.Native.Nat.{ℕ, _+_, _*_, _/_, _%_, _≤_, _<_}
 use lib.IntN.{ℤ, pos, negℤ, _-ℤ_}
 use lib.Signed.{_≤ℤ_}
 use lib.ListN.{length, take, drop}
@@ -33,8 +35,8 @@ use Rattle.bounded.specs.Bounded.{at}
 use Rattle.definitions.specs.declared.Reading.{Reading}
 use Rattle.definitions.specs.Refusals.{Lowest}
 use Rattle.definitions.specs.Plan.{season, modulus, side, degree, point, planRows, checkNumber}
-use Rattle.definitions.specs.Code.{Code, strip, square, cells, value}
-use Rattle.polynomial.specs.Record.{valueX, valueXY}
+use Rattle.definitions.specs.Code.{Code, strip, square, size, cells, value}
+use Rattle.polynomial.specs.Record.{start, valueX, valueXY}
 use Rattle.definitions.specs.Cost.{full, unread, radius}
 use Rattle.distance.specs.Cost.{cell}
 use Rattle.definitions.specs.Published.{Fraction, _over_, FromZeroToOne, _is_times_, distance, weighted}
@@ -139,3 +141,21 @@ pub record FirstOfSeason (file : List ℕ) (y : ℕ) : Type 0 where
   -- which has the season, and no plan before it has
   pub same : season (findBytes file y) ≡ y
   pub before : (i : ℕ) → i < k → season (drop (i * 24) file) ≢ y
+
+-- K, the number of a record's places
+abbrev pub places : ℕ → ℕ
+places d = (d + 1) * (d + 2) / 2
+
+-- the group of degree k has the k + 1 places from start k on
+pub record GroupsFill (d : ℕ) : Type 0 where
+  -- K is the length that the calls ask of a record, for every plan of the degree d
+  pub asked : (P : List ℕ) → degree P ≡ d → size square P ≡ places d
+  -- the first group begins at the first place, and each other one where the group before it ends
+  pub first : start 0 ≡ 0
+  pub next : (k : ℕ) → start (k + 1) ≡ start k + (k + 1)
+  -- the groups of degrees 0 to d lie within the K places
+  pub within : (k j : ℕ) → j ≤ k → k ≤ d → start k + j < places d
+  -- with no gap: each of the K places is in one of them
+  pub covered : (m : ℕ) → m < places d → (k j : ℕ) × (j ≤ k) × (k ≤ d) × (m ≡ start k + j)
+  -- and no overlap: no place is in two groups
+  pub apart : (k j l i : ℕ) → j ≤ k → i ≤ l → start k + j ≡ start l + i → (k ≡ l) × (j ≡ i)

@@ -37,7 +37,7 @@ module _ {p : ℕ} (d t : ℕ) (F : List ℕ) {w : List ℕ} (z : 0 < p) (h : d 
       residue : (k : ℕ) (b : Bool) → leb (k + t) d ≡ b → cond b (coef F k t) 0 < p
       residue k true e =
           let l : k + t ≤ d = leb-true _ _ e in
-          u .below (start (k + t) + t) (start-below (k + t) (suc d) t (omega arith) h (omega arith))
+          u .below (start (k + t) + t) (start-below (k + t) (suc d) t (omega arith) (omega arith))
       residue k false e = z
 
   pub column-values : (x : List ℕ) {l : List ℕ} → l ≡ row (λ j. eval (suc (d - t)) (at w) (at x j) % p) →

@@ -14,32 +14,16 @@ ghost use Rattle.field.specs.Word.{Word};
 ghost use Rattle.polynomial.specs.Record.{coef};
 ghost use Rattle.polynomial.specs.Powers.{Rows, Powers, Columns};
 
-// Where the group of total degree k begins: k (k + 1) / 2. The last entry is the size of a record of degree 15.
-const STARTS: [usize; 17] = [
-    0,
-    1,
-    3,
-    6,
-    10,
-    15,
-    21,
-    28,
-    36,
-    45,
-    55,
-    66,
-    78,
-    91,
-    105,
-    120,
-    136,
-];
+// The length of the longest record, that of degree 15: start(16).
+pub const LONGEST: usize = 136;
 
+// Where the group of total degree k begins; the product of 32 bits and 33 doesn't wrap. A record of degree d has start(d + 1)
+// coefficients.
 pub fn start(k: usize) -> usize
-    requires { ⌜ k ≤ 16 ⌝ }
+    requires { ⌜ k < 4294967296 ⌝ }
     ensures { λ r. ⌜ r ≡ startOf k ⌝ }
 {
-    STARTS[k]
+    k * (k + 1) / 2
 }
 
 // The coefficient of X^i Y^t, and 0 where i + t is above d.

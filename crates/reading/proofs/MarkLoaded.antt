@@ -15,7 +15,6 @@ use mathlib.Core.Bool.{true, cond}
 use mathlib.Core.List.{List}
 use Prim.Native.Nat.{ℕ, suc, _+_, _*_, _-_, _%_, _^_, _≤_, _<_}
 use native.Mathlib.Omega.{arith}
-use native.Mathlib.Numerals.{add-one}
 use native.Mathlib.Decide.{decLt}
 use native.Mathlib.Nat.{mul-le-mul-right, mod-lt}
 use lib.Dec.{eqb}
@@ -39,7 +38,7 @@ use Rattle.polynomial.specs.Distance.{gridDistance}
 use Rattle.polynomial.specs.Powers.{Rows}
 use Rattle.polynomial.specs.declared.Grid.{Grid}
 use Rattle.polynomial.specs.Fit.{gridRadius}
-use Rattle.polynomial.proofs.Record.{value-rows, start-next, start-most, start-below}
+use Rattle.polynomial.proofs.Record.{value-rows, start-below, start-up}
 use Rattle.polynomial.proofs.Distance.{distance-square}
 use Rattle.plan.specs.declared.Plan.{Plan}
 use Rattle.plan.specs.Says.{said, Says}
@@ -59,11 +58,11 @@ use Rattle.reading.proofs.Loading.{residue-below, residue-loaded}
 use Rattle.reading.proofs.Square.{cell-at, flag-differ}
 
 -- a record has a byte at least, and at most as many as a message has numbers
-pub record-room : {P s u B : List ℕ} → Taken square P s u B → (0 < length B) × (length B ≤ 136)
+pub record-room : {P s u B : List ℕ} → Taken square P s u B → (0 < length B) × (length B ≤ start 16)
 record-room {P} t =
-    let l : degree P < 16 = omega (arith, t .photo .sound .most, t .photo .sound .low) in
-    let e = start-next (degree P) l in
-    rw (t .room, add-one (degree P)) (omega (arith, e), omega (arith, e, start-most (degree P) l))
+    let S = t .photo .sound in
+    let some = start-below 0 (degree P + 1) 0 (omega arith) (omega arith) in
+    rw (t .room) (some, start-up (degree P + 1) 16 (omega (arith, S .low, S .most)))
 
 module _ {P s u B : List ℕ} {left : List (List ℕ)} (t : Taken square P s u B) (es : SymbolRows (side P) s left) where
   positive : 0 < modulus P
@@ -143,8 +142,7 @@ module _ {P s u B : List ℕ} {left u′ : List (List ℕ)} (t : Taken square P 
       word-at i l = rw stored (tab-at (length B) (at w) i (omega (arith, t .room)))
 
       coefficients : (k i : ℕ) → i + k ≤ degree P → coef W i k ≡ coef w i k
-      coefficients k i l = let small : degree P < 16 = omega (arith, t .photo .sound .most, t .photo .sound .low) in
-          word-at (start (i + k) + k) (start-below (i + k) (degree P + 1) k (omega arith) (omega arith) (omega arith))
+      coefficients k i l = word-at (start (i + k) + k) (start-below (i + k) (degree P + 1) k (omega arith) (omega arith))
 
       abbrev line-value : (r c : ℕ) → ℕ
       line-value r c = eval (suc (degree P)) (onRow (degree P) (coef w) (at (row (point P)) r)) (at (row (point P)) c)

@@ -81,9 +81,6 @@ module _ {P : List ℕ} (S : Sound P) where
       ∙ flat-cost (modulus P - 1) full (side P) (side P) (degree P) (point P) (point P) s u F
       ∙ grid-same (modulus P - 1) full (side P) (side P) (degree P) s u points points loaded e
 
-  low : degree P < 16
-  low = omega (arith, S .low, S .most)
-
   word : (F : List ℕ) → IsRecord square P F → Word (suc (modulus P - 1)) (start (suc (degree P))) F
   word F f = record {
     size = f .size ∙ ap start (add-one (degree P));
@@ -93,14 +90,14 @@ module _ {P : List ℕ} (S : Sound P) where
   -- two records with congruent coefficients are one
   record-one : (F G : List ℕ) → IsRecord square P F → IsRecord square P G →
       ((t i : ℕ) → i + t ≤ degree P → Cong (modulus P - 1) (coef F i t) (coef G i t)) → F ≡ G
-  record-one F G f g e = record-eq (degree P) F G low (word F f) (word G g) e
+  record-one F G f g e = record-eq (degree P) F G (word F f) (word G g) e
 
   -- coefficients below p make a record
   pub coefficients-record : (F : List ℕ) → length F ≡ size square P →
       ((t i : ℕ) → i + t ≤ degree P → coef F i t < suc (modulus P - 1)) → IsRecord square P F
   coefficients-record F e h = record {
     size = e;
-    below = λ m l. let (i, t, k, z) = place (degree P) m low (rw add-one at l) in rw z (rw (plan-modulus S) at (h t i k));
+    below = λ m l. let (i, t, k, z) = place (degree P) m (rw add-one at l) in rw z (rw (plan-modulus S) at (h t i k));
   }
 
 -- at most one record of a sound plan is within the radius
@@ -150,7 +147,7 @@ module _ (P s u B : List ℕ) (clear : first (photoRows square P s u B) ≡ 0) {
       (copied : (i : ℕ) → i < size square P → at W i ≡ at m i) where
     coefficients : (t i : ℕ) → i + t ≤ degree P → coef W i t ≡ coef m i t
     coefficients t i l = copied (start (i + t) + t)
-        (start-below (i + t) (degree P + 1) t (omega arith) (omega (arith, low S)) (omega arith))
+        (start-below (i + t) (degree P + 1) t (omega arith) (omega arith))
 
     pub mark-record : IsRecord square P W
     mark-record = coefficients-record S W len λ t i l. rw (coefficients t i l) (D .below z t i l)

@@ -6,6 +6,7 @@ use distance::word;
 use field::bytes;
 use field::inverse::inverses;
 use plan::Plan;
+use polynomial::bivariate::LONGEST;
 use polynomial::limit;
 use reed_muller::decoder::decode;
 ghost use mathlib.Core.Path.{_≡_};
@@ -82,7 +83,7 @@ fn decoded(plan: Plan, symbols: &[u8], doubts: &[u8], record: &mut [u8]) -> Read
     let u = load::doubt_rows(doubts, g.a, g.b);
     let table = inverses(g.p, g.m);
     let s = load::residue_rows(symbols, g.a, g.b);
-    let mut message = [0; 136];
+    let mut message = [0; LONGEST];
     let mut cost = 0;
     let left = decode(g, &table, s, u, &mut message, &mut cost);
     let radius = limit::radius(g);

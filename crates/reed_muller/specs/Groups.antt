@@ -7,19 +7,19 @@
 -- What this file is for: the decoder finds the coefficients of one power of Y at a time, and a record is by total degree.
 use mathlib.Core.Path.{_≡_}
 use mathlib.Core.List.{List}
-use Prim.Native.Nat.{ℕ, _+_, _-_, _≤_, _<_}
+use Prim.Native.Nat.{ℕ, _+_, _<_}
 use lib.ListN.{length}
 use Rattle.bounded.specs.Bounded.{at}
 use Rattle.polynomial.specs.Record.{start, coef}
 use Rattle.grid.specs.Loops.{cellAt}
 
 pub record Grouped (columns : List (List ℕ)) (k : ℕ) (old r : List ℕ) : Type 0 where
-  pub size : length r ≡ 136
-  pub group : (j : ℕ) → j ≤ k → at r (start k + j) ≡ cellAt columns j (k - j)
+  pub size : length r ≡ start 16
+  pub group : (t i : ℕ) → i + t ≡ k → coef r i t ≡ cellAt columns t i
   pub kept : (i : ℕ) → i < start k → at r i ≡ at old i
 
 pub record Flat (columns : List (List ℕ)) (k : ℕ) (r : List ℕ) : Type 0 where
-  pub size : length r ≡ 136
+  pub size : length r ≡ start 16
   pub is : (t i : ℕ) → i + t < k → coef r i t ≡ cellAt columns t i
 
 pub record Stretch (n a : ℕ) (f : ℕ → ℕ) (old l : List ℕ) (j : ℕ) : Type 0 where

@@ -2,12 +2,14 @@
 use crate::message;
 use crate::solver;
 use polynomial::Grid;
+use polynomial::bivariate::LONGEST;
 use polynomial::limit;
 ghost use mathlib.Core.Path.{_≡_};
 ghost use lib.ListN.{length};
 ghost use Rattle.field.specs.Prime.{Inverses};
 ghost use Rattle.polynomial.specs.Powers.{Rows};
 ghost use Rattle.polynomial.specs.Fit.{Fit};
+ghost use Rattle.polynomial.specs.Record.{start};
 ghost use Rattle.grid.specs.Axes.{DoubtRows};
 ghost use Rattle.reed_muller.specs.Outcome.{Outcome, under};
 
@@ -19,13 +21,13 @@ pub fn decode(
     inverses: &[u16; 251],
     symbols: [[u16; 16]; 16],
     doubts: [[u32; 16]; 16],
-    message: &mut [u16; 136],
+    message: &mut [u16; LONGEST],
     cost: &mut u32,
 ) -> [[u16; 16]; 16]
     requires { ⌜ Fit g × Rows (g .p) symbols × DoubtRows g doubts × Inverses (g .p) (now inverses)
-        × (length (now message) ≡ 136) ⌝ }
+        × (length (now message) ≡ start 16) ⌝ }
     ensures { λ left. ⌜ Outcome g symbols doubts left (under g (now (cost .exit))) (now (message .exit)) (now (cost .exit))
-        × (length (now (message .exit)) ≡ 136) ⌝ }
+        × (length (now (message .exit)) ≡ start 16) ⌝ }
 {
     let mut left = symbols;
     let mut columns = [[0u16; 16]; 16];

@@ -8,14 +8,16 @@
 --   unread-costs, mark-margins           "Photographed mark and cost"
 --   lowest-given, measures               "What is returned"
 --   found-exactly, first-found           document 02, request 2: when a plan of a season is found, and which
+--   groups-fill                          document 02, request 4: where the coefficients of a record stand
 --
 -- What this file is for: the customer's sentences as theorems over the definitions that the calls' contracts repeat. The names in
 -- the statements are of `definitions/specs`. Assumes nothing.
 use mathlib.Core.Path.{_≡_, refl, sym, _∙_}
 use mathlib.Core.Logic.{_↔_}
 use mathlib.Core.List.{List}
-use Prim.Native.Nat.{ℕ}
+use Prim.Native.Nat.{ℕ, suc, _+_, _<_}
 use native.Mathlib.Omega.{arith}
+use native.Mathlib.Numerals.{add-one}
 use lib.ListN.{length}
 use Rattle.bounded.specs.Bounded.{at}
 use Rattle.definitions.specs.Plan.{planRows, checkNumber}
@@ -26,8 +28,10 @@ use Rattle.definitions.specs.Calls.{measureRows, measureNumber, measureReading,
 use Rattle.definitions.specs.Finder.{findRows, findNumber}
 use Rattle.definitions.specs.Sound.{Sound}
 use Rattle.definitions.specs.Photograph.{Photograph, sure}
+use Rattle.polynomial.specs.Record.{start}
 use Rattle.definitions.specs.Demands.{RefusalsKeep, Written, RoundTrip, Weighed, Nearest}
 use Rattle.definitions.specs.Demands.{UnreadCosts, MarkMargins, LowestGiven, Measures, FoundExactly, FirstOfSeason}
+use Rattle.definitions.specs.Demands.{GroupsFill, places}
 use Rattle.definitions.proofs.Refusals.{first-lowest, first-absent}
 use Rattle.definitions.proofs.Finder as finder
 use Rattle.definitions.proofs.Sound.{sound, checked}
@@ -37,6 +41,7 @@ use Rattle.definitions.proofs.Own.{own-photo, own-reading, own-read}
 use Rattle.definitions.proofs.Published.{photo-weighed}
 use Rattle.definitions.proofs.Margin.{measured-range, read-range, lowest, highest}
 use Rattle.distance.proofs.Cost.{cell-full}
+use Rattle.polynomial.proofs.Record.{start-next, start-below, start-apart, place}
 use Rattle.reading.proofs.StripReading.{only-strip}
 use Rattle.reading.proofs.MarkReading.{only-square}
 use Rattle.traymark.proofs.Answer.{write-keeps, write-fills, measure-refuses, measure-gives, read-keeps, read-gives}
@@ -130,3 +135,20 @@ found-exactly = finder.find-exactly
 -- before it in the file has.
 pub first-found : (file : List ℕ) (season : ℕ) → findNumber file season ≡ 0 → FirstOfSeason file season
 first-found = finder.first-of-season
+
+-- The groups of degrees 0 to d fill the K = (d + 1)(d + 2)/2 places of a record one after another, with no gap and no overlap.
+pub groups-fill : (d : ℕ) → GroupsFill d
+groups-fill d = record {
+  asked = λ P e. rw e length-is;
+  first = refl;
+  next = λ k. omega (arith, start-next k);
+  within = λ k j h l. rw (← length-is) (start-below k (d + 1) j (omega arith) h);
+  covered = λ m l.
+      let h : m < start (suc d) = rw (← length-is, add-one d) at l in
+      let (i, t, s, e) = place d m h in
+      (i + t, t, omega arith, s, e);
+  apart = start-apart;
+}
+  where
+    length-is : start (d + 1) ≡ places d
+    length-is = omega arith

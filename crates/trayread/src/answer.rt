@@ -1,5 +1,6 @@
 // The whole answer to an input, as text.
 use crate::lines;
+use polynomial::bivariate::LONGEST;
 use polynomial::bivariate::start;
 use traymark::plans::traymark_check_plan;
 use traymark::read::traymark_read_mark;
@@ -17,7 +18,7 @@ ghost use Rattle.text.specs.Put.{Put};
 // One byte more than the longest input, 24 + 256 + 256, so that an excess is seen.
 pub const ROOM: usize = 537;
 
-// The longest answer: 72 bytes of READ, and of RECORD 7 and 4 for each of 136 coefficients.
+// The longest answer: 72 bytes of READ, and of RECORD 7 and 4 for each coefficient of the longest record.
 pub const TEXT: usize = 623;
 
 // Puts the answer at the start of `text` and returns its length. `space` is the room that the input was read into, and `came` is
@@ -64,7 +65,7 @@ fn answer_photo(input: &[u8], text: &mut [u8]) -> usize
     if input.len() != end + cells {
         return lines::put_refused(text, 6);
     }
-    let mut record = [0u8; 136];
+    let mut record = [0u8; LONGEST];
     let size = start(said.grid.d + 1);
     answer_mark(
         said.season as u32,

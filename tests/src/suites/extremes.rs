@@ -8,13 +8,8 @@ use traymark_tests::counts::Counts;
 use traymark_tests::plans;
 use traymark_tests::random::Random;
 
-/// Every (n, d).
-pub const CASES: u64 = 16 * 17 / 2;
-
 pub fn case(seed: u64, random: &mut Random, counts: &mut Counts) -> Result<(), String> {
-    let shapes = plans::shapes();
-    let shape = shapes.into_iter().filter(|shape| shape.0 == 251).nth(seed as usize).expect("so many shapes");
-    let plan = plans::plan(shape, random);
+    let plan = plans::plan(plans::shape_of_251(seed), random);
     for code in [Code::Strip, Code::Mark] {
         let cells = code.cells(&plan);
         for some in [0, 1, 3, 4, 15, 16, 17, cells].into_iter().filter(|&some| some <= cells) {

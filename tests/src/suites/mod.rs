@@ -6,15 +6,18 @@ mod extremes;
 mod faults;
 mod files;
 mod lengths;
+mod places;
 mod plans;
 mod rubbish;
 
+use traymark_tests::plans::SHAPES_OF_251;
 use traymark_tests::run::Suite;
 
 pub fn all() -> Vec<Suite> {
     vec![
         Suite { name: "documented", cases: documented::CASES, case: documented::case },
-        Suite { name: "extremes", cases: extremes::CASES, case: extremes::case },
+        Suite { name: "extremes", cases: SHAPES_OF_251, case: extremes::case },
+        Suite { name: "places", cases: SHAPES_OF_251, case: places::case },
         Suite { name: "large-marks", cases: 3_000, case: decoding::large_mark },
         Suite { name: "marks", cases: 52_000, case: decoding::mark },
         Suite { name: "strips", cases: 60_000, case: decoding::strip },

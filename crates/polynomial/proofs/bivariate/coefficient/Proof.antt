@@ -11,7 +11,7 @@ use Rattle.polynomial.proofs.bivariate.coefficient.Tie as tie
 within : (c : tie.Then1) → let a = c .before .before .args in start (a .i + a .t) + a .t < start (suc (a .d))
 within c =
     let a = c .before .before .args in
-    start-below (a .i + a .t) (suc (a .d)) (a .t) (omega arith) (omega arith) (omega arith)
+    start-below (a .i + a .t) (suc (a .d)) (a .t) (omega arith) (omega arith)
 
 start-requires : tie.Need-start-requires
 start-requires c κs = search needs

@@ -25,5 +25,5 @@ flatten-spec =
     (λ c. (omega arith, record { size = c .pre .0; is = λ t i h. absurd (omega arith) }))
     (λ c κs. (c .before .before .loop .inv .1 .size, omega arith))
     (λ c. search needs) (λ c. search needs)
-    (λ c. (omega arith, flat-more (omega arith) (c .put-group .ensures) (c .before .before .before .loop .inv .1)))
+    (λ c. (omega arith, flat-more (c .put-group .ensures) (c .before .before .before .loop .inv .1)))
     returns)

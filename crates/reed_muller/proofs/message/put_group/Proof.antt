@@ -1,10 +1,10 @@
 -- `reed_muller::message::put_group` meets its contract: the places from the start on hold the j coefficients written.
 -- Assumes nothing.
-use mathlib.Core.Path.{refl}
+use mathlib.Core.Path.{_≡_, refl}
 use Prim.Native.Nat.{_+_, _-_, _≤_, _<_}
 use native.Mathlib.Omega.{arith}
 use Rattle.polynomial.specs.Record.{start}
-use Rattle.polynomial.proofs.Record.{start-most}
+use Rattle.polynomial.proofs.Record.{start-below}
 use Rattle.grid.specs.Loops.{cellAt}
 use Rattle.reed_muller.specs.Groups.{Stretch}
 use Rattle.reed_muller.proofs.Groups.{stretch-start, stretch-step}
@@ -14,23 +14,31 @@ use Rattle.reed_muller.proofs.message.put_group.Tie as tie
 
 abbrev Inv-loop : tie.InvT-loop
 Inv-loop message₀ columns k first j₀ message j =
-    (j ≤ k + 1) × Stretch 136 first (λ j. cellAt columns j (k - j)) message₀ message j
+    (j ≤ k + 1) × Stretch (start 16) first (λ j. cellAt columns j (k - j)) message₀ message j
 
 abbrev μ-loop : tie.MeasureT-loop
 μ-loop message₀ columns k first j₀ message j = k + 1 - j
 
 -- the place written is one of the record
-fits : (c : tie.In-loop Inv-loop μ-loop) → c .before .before .start .result + c .before .loop .j < 136
+fits : (c : tie.In-loop Inv-loop μ-loop) → c .before .before .start .result + c .before .loop .j < start 16
 fits c =
     let first = c .before .before in
-    let start = first .before in
-    omega (arith, start-most (start .args .k) (start .pre .1), first .start .ensures, c .loop-test .taken)
+    let given = first .before in
+    let below = start-below (given .args .k) 16 (c .before .loop .j) (given .pre .1) (c .loop-test .taken) in
+    omega (arith, below, first .start .ensures)
 
 returns : tie.Need-returns Inv-loop μ-loop
 returns c =
     let s = c .before .loop .inv .1 in
-    let e = c .before .before .start .ensures in
-    record { size = s .size; group = λ j h. rw (← e) (s .done j (omega arith)); kept = rw e at (s .kept) }
+    let first = c .before .before in
+    let e = first .start .ensures in
+    record {
+      size = s .size;
+      group = λ t i h.
+          let z : first .before .args .k - t ≡ i = omega arith in
+          rw (h, ← e) (rw z at (s .done t (omega arith)));
+      kept = rw e at (s .kept);
+    }
 
 pub put-group-spec : {M : Type 1} → statement M
 put-group-spec =

@@ -1,10 +1,9 @@
 -- `trayread::answer::answer_photo` meets its contract: the cells and the record of a sound plan fit. Assumes nothing.
 use mathlib.Core.Path.{_≡_, refl, sym, ap, _∙_}
 use mathlib.Core.List.{List, _∷_}
-use Prim.Native.Nat.{ℕ, zero, suc, _+_, _*_, _-_, _≤_, _<_}
+use Prim.Native.Nat.{ℕ, zero, suc, _+_, _*_, _-_, _≤_}
 use native.Mathlib.Omega.{arith}
 use native.Mathlib.Nat.{mul-le-mul, add-sub-cancel-left}
-use native.Mathlib.Numerals.{add-one}
 use lib.ListN.{length, take, drop, replicate, length-replicate, length-drop}
 use lib.Seq.{take-all}
 use borrow.Author.Needs.{needs}
@@ -22,15 +21,11 @@ use Rattle.plan.specs.declared.Plan.{Plan}
 use Rattle.plan.specs.Says.{Says}
 use Rattle.plan.proofs.Ready.{ready}
 use Rattle.plan.proofs.Values.{mark-cells}
-use Rattle.polynomial.proofs.Record.{start-next, start-most}
+use Rattle.polynomial.proofs.Record.{start-up}
 use Rattle.trayread.proofs.answer.answer_photo.Statement.{statement}
 use Rattle.trayread.proofs.answer.answer_photo.Tie as tie
 
--- the longest record
-room : (d : ℕ) → d < 16 → start (d + 1) ≤ 136
-room d l = rw (add-one d) (omega (arith, start-next d l, start-most d l))
-
--- so many of the 136 zeros
+-- so many of the zeros
 zeros : (n m : ℕ) → n ≤ m → take {A = ℕ} n (replicate m 0) ≡ replicate n 0
 zeros zero m l = refl
 zeros (suc n) zero l = absurd (omega arith)
@@ -44,11 +39,11 @@ module _ (s : tie.Start) where
   plan = sound (planOf input) (s .pre .0)
 
   -- the plan's record fits, and there are zeros for it
-  size-most : size square (planOf input) ≤ 136
-  size-most = room (degree (planOf input)) (omega (arith, plan .low, plan .most))
+  size-most : size square (planOf input) ≤ start 16
+  size-most = start-up (degree (planOf input) + 1) 16 (omega (arith, plan .low, plan .most))
 
-  cut : (n : ℕ) → n ≡ size square (planOf input) → take {A = ℕ} n (replicate 136 0) ≡ bufferOf input
-  cut n e = rw e (zeros (size square (planOf input)) 136 size-most)
+  cut : (n : ℕ) → n ≡ size square (planOf input) → take {A = ℕ} n (replicate (start 16) 0) ≡ bufferOf input
+  cut n e = rw e (zeros (size square (planOf input)) (start 16) size-most)
 
   -- what the plan's struct says
   module _ {said : Plan} (says : Says (planOf input) said) where
