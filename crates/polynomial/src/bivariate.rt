@@ -17,26 +17,13 @@ ghost use Rattle.polynomial.specs.Powers.{Rows, Powers, Columns};
 // The length of the longest record, that of degree 15: start(16).
 pub const LONGEST: usize = 136;
 
-// Where the group of total degree k begins; the product of 32 bits and 33 doesn't wrap. A record of degree d has start(d + 1)
+// Where the group of total degree k begins; for k below 2^32 the product doesn't wrap. A record of degree d has start(d + 1)
 // coefficients.
 pub fn start(k: usize) -> usize
     requires { ⌜ k < 4294967296 ⌝ }
     ensures { λ r. ⌜ r ≡ startOf k ⌝ }
 {
     k * (k + 1) / 2
-}
-
-// The coefficient of X^i Y^t, and 0 where i + t is above d.
-fn coefficient(message: &[u8], d: usize, i: usize, t: usize) -> u16
-    requires { ⌜ (length (now message) ≡ startOf (suc d)) × (d < 16) × (i < 16) × (t ≤ d) ⌝ }
-    ensures { λ r. ⌜ r ≡ cond (leb (i + t) d) (coef (now (message .entry)) i t) 0 ⌝ }
-{
-    let k = i + t;
-    if k <= d {
-        let at = start(k) + t;
-        return message[at] as u16;
-    }
-    0
 }
 
 // The coefficient of Y^t, a polynomial in X of degree d - t at most, by its own coefficients.
@@ -46,8 +33,9 @@ fn coefficient_of_y(message: &[u8], d: usize, t: usize) -> [u16; 16]
 {
     let mut out = [0u16; 16];
     let mut i = 0;
-    while i < 16 {
-        out[i] = coefficient(message, d, i, t);
+    while i + t <= d {
+        let at = start(i + t) + t;
+        out[i] = message[at] as u16;
         i += 1;
     }
     out

@@ -1,26 +1,66 @@
--- `polynomial::bivariate::coefficient_of_y` meets its contract: the places below i are set. Assumes nothing.
-use mathlib.Core.Path.{refl}
-use mathlib.Core.Bool.{cond}
-use Prim.Native.Nat.{_+_, _-_}
+-- `polynomial::bivariate::coefficient_of_y` meets its contract: the places below i are set, the others 0. Assumes nothing.
+use mathlib.Core.Path.{_≡_, refl, ap}
+use Prim.Native.Nat.{suc, _+_, _-_, _≤_, _<_}
 use native.Mathlib.Omega.{arith}
-use lib.Dec.{leb}
-use Rattle.field.proofs.Row.{Making, making-start, making-more, making-done}
-use Rattle.polynomial.specs.Record.{coef}
+use lib.ListN.{getD-replicate}
+use Rattle.bounded.specs.Bounded.{at}
+use Rattle.field.specs.Loop.{Passed}
+use Rattle.field.proofs.Loop.{passed-step}
+use Rattle.polynomial.specs.Record.{start, coef}
+use Rattle.polynomial.proofs.Record.{start-below}
+use Rattle.polynomial.proofs.Columns.{coefficients-set}
 use borrow.Author.Needs.{needs}
 use Rattle.polynomial.proofs.bivariate.coefficient_of_y.Statement.{statement}
 use Rattle.polynomial.proofs.bivariate.coefficient_of_y.Tie as tie
 
 abbrev Inv-loop : tie.InvT-loop
-Inv-loop message d t out₀ i₀ out i = Making (λ k. cond (leb (k + t) d) (coef message k t) 0) out i
+Inv-loop message d t out₀ i₀ out i = (i + t ≤ suc d) × Passed 16 0 (λ j v. v ≡ 0) (λ j v. v ≡ coef message j t) out i
 
 abbrev μ-loop : tie.MeasureT-loop
-μ-loop message d t out₀ i₀ out i = 16 - i
+μ-loop message d t out₀ i₀ out i = suc d - t - i
+
+-- the place is in the record
+within : (c : tie.In-loop Inv-loop μ-loop) →
+    let a = c .before .before .before .args in
+    let k = c .before .loop .i + a .t in
+    start k + a .t < start (suc (a .d))
+within c =
+    let a = c .before .before .before .args in
+    start-below (c .before .loop .i + a .t) (suc (a .d)) (a .t) (omega arith) (omega arith)
+
+loop-holds : tie.Need-loop-holds Inv-loop μ-loop
+loop-holds c =
+    (omega arith, record { size = refl; done = λ j l. absurd (omega arith); todo = λ j _ l. getD-replicate 16 j 0 0 l })
+
+add-at : tie.Need-add-at Inv-loop μ-loop
+add-at c = omega (arith, within (c .before))
+
+shared-slice-read-out : tie.Need-shared-slice-read-out Inv-loop μ-loop
+shared-slice-read-out c = omega (arith, within (c .before .before))
+
+-- a byte fits in 16 bits
+cast-out : tie.Need-cast-out Inv-loop μ-loop
+cast-out c =
+    let a = c .before .before .before .before .before .args in
+    omega (arith, c .shared-slice-known2 .given (c .before .start .result + a .t))
 
 loop-again : tie.Need-loop-again Inv-loop μ-loop
-loop-again c = making-more (omega arith) (c .coefficient .ensures) (c .before .before .loop .inv)
+loop-again c =
+    let l = c .before .before .before in
+    let a = l .before .before .args in
+    let e = ap (λ n. at (a .message .now) (n + a .t)) (c .before .start .ensures) in
+    (omega arith, passed-step _ (omega arith) e (l .loop .inv .1))
+
+returns : tie.Need-returns Inv-loop μ-loop
+returns c =
+    let a = c .before .before .before .args in
+    coefficients-set (a .d) (a .t) (a .message .now) (omega arith) (c .before .loop .inv .1)
 
 pub coefficient-of-y-spec : {M : Type 1} → statement M
 coefficient-of-y-spec = tie.close (tie.spec Inv-loop μ-loop
-    (λ c. making-start refl)
-    (λ c κs. search needs) (λ c. search needs) (λ c. search needs) (λ c. search needs) (λ c. search needs) loop-again
-    (λ c. making-done (omega arith) (c .before .loop .inv)))
+    loop-holds
+    (λ c. search needs) (λ c. search needs) (λ c κs. search needs)
+    add-at shared-slice-read-out
+    cast-out
+    (λ c. search needs) (λ c. search needs) (λ c. search needs) (λ c. search needs)
+    loop-again returns)
