@@ -9,8 +9,8 @@
  *            n (1 to 16, at most p) the number of points, d (0 to n - 1) the degree; the first n points are below p and
  *            strictly rising, the other point bytes 0. Point 0 may be used.
  *   record   the coefficients of a polynomial, each below p. Of a mark: K = (d + 1)(d + 2) / 2 bytes, a polynomial in X
- *            and Y, by total degree from 0 to d and within one degree by rising power of Y. Of a strip: K = d + 1
- *            bytes, a polynomial in X, lowest power first.
+ *            and Y, by total degree from 0 to d and within one degree by rising power of Y: the coefficient of
+ *            X^(k - j) Y^j is at k(k + 1) / 2 + j. Of a strip: K = d + 1 bytes, a polynomial in X, lowest power first.
  *   mark     N = n * n bytes: at i * n + j the polynomial's value modulo p for X the i-th point and Y the j-th.
  *   strip    N = n bytes: at i the polynomial's value modulo p for X the i-th point.
  *   symbols  N bytes of a photograph: each below p, or 255 for an unread cell.

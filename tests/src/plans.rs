@@ -16,9 +16,10 @@ pub fn shapes() -> Vec<(u32, usize, usize)> {
         .collect()
 }
 
-/// Of these those of p 251, every (n, d), and the one of that number.
+/// How many of these have p 251: every (n, d).
 pub const SHAPES_OF_251: u64 = 16 * 17 / 2;
 
+/// The one of that number among them.
 pub fn shape_of_251(number: u64) -> (u32, usize, usize) {
     shapes().into_iter().filter(|shape| shape.0 == 251).nth(number as usize).expect("so many shapes")
 }

@@ -23,7 +23,7 @@ pub fn put_record(columns: &Square, degree: usize, record: &mut [u8]) {
     }
 }
 
-/// Where the coefficients of total degree k begin in a record; one of degree d has start(d + 1).
+/// Where the coefficients of total degree k begin in a record; a record of degree d has start(d + 1) of them.
 pub fn start(k: usize) -> usize {
     k * (k + 1) / 2
 }

@@ -23,6 +23,7 @@ use Rattle.definitions.specs.Plan.{side, degree}
 use Rattle.definitions.specs.Code.{square, cells, value}
 use Rattle.definitions.specs.Cost.{full, radius, margin}
 use Rattle.distance.specs.Cost.{cell}
+use Rattle.polynomial.specs.Record.{longest}
 use Rattle.definitions.specs.Calls.{refused, costOf, readingOf, nearest, the}
 use Rattle.definitions.specs.Calls.{measureNumber, measureReading, readNumber, readReading}
 use Rattle.definitions.specs.Cases.{effect}
@@ -86,7 +87,7 @@ widest d = 0 ∷ 12 ∷ 17 ∷ 16 ∷ d ∷ tab 16 (λ i. i) ++ sure 3
 
 pub lowest : Reached (negℤ (pos 49600))
 unfolding widest effect
-lowest = record { P = widest 15; s = replicate 256 1; u = sure 256; F = sure 136; accepted = refl; margin = refl }
+lowest = record { P = widest 15; s = replicate 256 1; u = sure 256; F = sure longest; accepted = refl; margin = refl }
 
 pub highest : Reached (pos 25600)
 unfolding widest effect

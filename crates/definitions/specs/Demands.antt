@@ -1,5 +1,5 @@
--- The customer's demands, and what document 01 says of every answer, as statements over the definitions. The crate `traymark`
--- proves them.
+-- The customer's demands, and what documents 01 and 02 say of every answer and record, as statements over the definitions. The
+-- crate `traymark` proves them.
 --
 --   RefusalsKeep            demand 1: a refused call gives its number and zeros or an empty part, and leaves the buffer lent for
 --                           its result
@@ -19,15 +19,15 @@
 --   FoundExactly file y     the finder gives 11 where the file's length is no multiple of 24, else 0 where some plan of the file
 --                           has the season y, else 12
 --   FirstOfSeason file y    what it finds is a whole plan of the file, with the season y, and no plan before it has that season
---   GroupsFill d            the groups of degrees 0 to d fill the K places of a record one after another, with no gap and no
---                           overlap
+--   GroupsFill d            the groups of degrees 0 to d fill the K = (d + 1)(d + 2)/2 places of a record one after another,
+--                           with no gap and no overlap
 --
 -- Signed numbers are the kit's (lib.IntN, lib.Signed): pos n is n, negℤ (pos n) is -n, ≤ℤ their order.
 -- What this file is for: the sentences that a user relies on, each as one statement whose parts are named.
 use mathlib.Core.Path.{_≡_}
 use mathlib.Core.List.{List, []}
 use mathlib.Core.Logic.{_≢_, _↔_}
-use Prim.Native.Nat.{ℕ, _+_, _*_, _/_, _%_, _≤_, _<_}
+use Prim.Native.Nat.{ℕ, _+_, _*_, _-_, _/_, _%_, _≤_, _<_}
 use lib.IntN.{ℤ, pos, negℤ, _-ℤ_}
 use lib.Signed.{_≤ℤ_}
 use lib.ListN.{length, take, drop}
@@ -36,7 +36,7 @@ use Rattle.definitions.specs.declared.Reading.{Reading}
 use Rattle.definitions.specs.Refusals.{Lowest}
 use Rattle.definitions.specs.Plan.{season, modulus, side, degree, point, planRows, checkNumber}
 use Rattle.definitions.specs.Code.{Code, strip, square, size, cells, value}
-use Rattle.polynomial.specs.Record.{start, valueX, valueXY}
+use Rattle.polynomial.specs.Record.{start, coef, valueX, valueXY}
 use Rattle.definitions.specs.Cost.{full, unread, radius}
 use Rattle.distance.specs.Cost.{cell}
 use Rattle.definitions.specs.Published.{Fraction, _over_, FromZeroToOne, _is_times_, distance, weighted}
@@ -159,3 +159,5 @@ pub record GroupsFill (d : ℕ) : Type 0 where
   pub covered : (m : ℕ) → m < places d → (k j : ℕ) × (j ≤ k) × (k ≤ d) × (m ≡ start k + j)
   -- and no overlap: no place is in two groups
   pub apart : (k j l i : ℕ) → j ≤ k → i ≤ l → start k + j ≡ start l + i → (k ≡ l) × (j ≡ i)
+  -- within a group by rising power of Y, from X^k to Y^k
+  pub holds : (F : List ℕ) (k j : ℕ) → j ≤ k → coef F (k - j) j ≡ at F (start k + j)

@@ -5,7 +5,7 @@
 --   column-values      and have that power's column as their values
 --   row-values-are     place r of the columns has the values of row r
 --
--- What this file is for: the contracts of `columns` and `row_values`. Assumes nothing.
+-- What this file is for: the contracts of `coefficient_of_y`, `columns` and `row_values`. Assumes nothing.
 use mathlib.Core.Path.{_≡_, refl, sym, ap, _∙_}
 use mathlib.Core.Bool.{Bool, true, false, cond}
 use mathlib.Core.List.{List, []}
@@ -22,13 +22,12 @@ use Rattle.field.specs.Loop.{Passed}
 use Rattle.field.specs.Row.{row, Row}
 use Rattle.field.proofs.Congruence.{cong-mod}
 use Rattle.field.proofs.Row.{row-at, row-of, result-cong}
-use Rattle.polynomial.specs.Record.{start, valueXY}
+use Rattle.polynomial.specs.Record.{start, place, coef, column, valueXY}
 use Rattle.field.specs.Word.{Word}
 use Rattle.polynomial.specs.Eval.{eval}
-use Rattle.polynomial.specs.Record.{coef, column}
 use Rattle.polynomial.specs.Powers.{Columns}
 use Rattle.polynomial.proofs.Eval.{eval-cong}
-use Rattle.polynomial.proofs.Record.{start-below, value-rows}
+use Rattle.polynomial.proofs.Record.{place-below, value-rows}
 
 -- the coefficients of Y^t are set up to X^(d - t), and the others are 0
 pub coefficients-set : (d t : ℕ) (F : List ℕ) {w : List ℕ} {i : ℕ} → i + t ≡ suc d →
@@ -48,7 +47,7 @@ module _ {p : ℕ} (d t : ℕ) (F : List ℕ) {w : List ℕ} (z : 0 < p) (h : d 
       residue : (k : ℕ) (b : Bool) → leb (k + t) d ≡ b → cond b (coef F k t) 0 < p
       residue k true e =
           let l : k + t ≤ d = leb-true _ _ e in
-          u .below (start (k + t) + t) (start-below (k + t) (suc d) t (omega arith) (omega arith))
+          u .below (place k t) (place-below k t (suc d) (omega arith))
       residue k false e = z
 
   pub column-values : (x : List ℕ) {l : List ℕ} → l ≡ row (λ j. eval (suc (d - t)) (at w) (at x j) % p) →

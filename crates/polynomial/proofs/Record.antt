@@ -1,22 +1,25 @@
--- Flat records: from groups of one total degree to columns of powers of Y.
+-- Flat records: where their coefficients stand, and from groups of one total degree to columns of powers of Y.
 --
 --   value-strip   the value of a record in X is that of the polynomial with its bytes as coefficients
 --   value-rows    the value of a record in X and Y is that, at y, of the polynomial in Y that x leaves
+--   start-fits    the product in `start` fits in 64 bits
 --   start-next    the groups follow one another
 --   start-below   a group's places are before those of a higher degree
---   start-up      a record of a lower degree is no longer
+--   start-up      a record of a lower degree has no more places
 --   start-apart   no place is in two groups
---   place         every place of a record is in one
+--   place-below   the coefficients of total degree below k stand before the group of degree k
+--   placed        in every place of a record stands a coefficient
 --   record-eq     records with congruent coefficients are one
 --
--- What this file is for: a record's value is worked out column by column. Assumes nothing.
+-- What this file is for: a record is read and written place by place, and its value is worked out column by column. Assumes
+-- nothing.
 use mathlib.Core.Path.{_≡_, refl, sym, ap, _∙_}
 use mathlib.Core.List.{List}
 use Prim.Native.Nat.{ℕ, zero, suc, _+_, _*_, _-_, _%_, _^_, _≤_, _<_}
 use native.Mathlib.Omega.{arith}
 use native.Mathlib.Decide.{ℕ-discrete, decLt}
 use native.Mathlib.Numerals.{add-one}
-use native.Mathlib.Nat.{le-of-eq, mod-eq-of-lt}
+use native.Mathlib.Nat.{le-of-eq, mul-le-mul, mod-eq-of-lt}
 use Rattle.bounded.specs.Bounded.{at, sum}
 use Rattle.bounded.proofs.Sum.{sum-eq, sum-add, sum-mul}
 use Rattle.bounded.proofs.Tab.{list-eq}
@@ -24,7 +27,7 @@ use Rattle.field.specs.Congruence.{Cong}
 use Rattle.field.proofs.Congruence.{to-mod}
 use Rattle.field.specs.Word.{Word}
 use Rattle.polynomial.specs.Eval.{eval}
-use Rattle.polynomial.specs.Record.{start, valueX, valueXY, coef, column, onRow}
+use Rattle.polynomial.specs.Record.{start, place, valueX, valueXY, coef, column, onRow}
 
 pub value-strip : (p d : ℕ) (F : List ℕ) (x : ℕ) → valueX p d F x ≡ eval (suc d) (at F) x % p
 unfolding valueX
@@ -64,6 +67,12 @@ value-rows p d R x y = ap (λ v. v % p)
     each t l = sum-eq (suc (d - t)) {g = λ i. y ^ t * (coef R i t * x ^ i)} (λ i m. omega arith)
         ∙ sum-mul (suc (d - t)) (y ^ t) (λ i. coef R i t * x ^ i) ∙ omega arith
 
+pub start-fits : (k : ℕ) → k < 4294967296 → k * (k + 1) ≤ 4294967295 * 4294967296
+start-fits k l =
+    let h : k ≤ 4294967295 = omega arith in
+    let g : k + 1 ≤ 4294967296 = omega arith in
+    mul-le-mul h g
+
 -- the groups follow one another
 pub start-next : (k : ℕ) → start (suc k) ≡ start k + suc k
 start-next k = omega arith
@@ -76,7 +85,7 @@ start-below m (suc k) t l i = elim (ℕ-discrete m k) [
   | no e ↦ omega (arith, start-below m k t (omega arith) i, start-next k)
 ]
 
--- a record of a lower degree is no longer
+-- a record of a lower degree has no more places
 pub start-up : (m k : ℕ) → m ≤ k → start m ≤ start k
 start-up m k l = elim (ℕ-discrete m k) [
   | yes e ↦ le-of-eq (ap start e)
@@ -93,11 +102,14 @@ start-apart k j l i h g e = elim (ℕ-discrete k l) [
   ]
 ]
 
--- every place of a record is in one
-pub place : (d m : ℕ) → m < start (suc d) → (i t : ℕ) × (i + t ≤ d) × (m ≡ start (i + t) + t)
-place zero m h = (0, 0, omega arith, omega arith)
-place (suc d) m h = elim (decLt m (start (suc d))) [
-  | yes k ↦ let (i, t, w, e) = place d m k in (i, t, omega arith, e)
+pub place-below : (i t k : ℕ) → i + t < k → place i t < start k
+place-below i t k l = start-below (i + t) k t l (omega arith)
+
+-- in every place of a record stands a coefficient
+pub placed : (d m : ℕ) → m < start (suc d) → (i t : ℕ) × (i + t ≤ d) × (m ≡ place i t)
+placed zero m h = (0, 0, omega arith, omega arith)
+placed (suc d) m h = elim (decLt m (start (suc d))) [
+  | yes k ↦ let (i, t, w, e) = placed d m k in (i, t, omega arith, e)
   | no k ↦ let s : suc d - (m - start (suc d)) + (m - start (suc d)) ≡ suc d = omega (arith, start-next (suc d)) in
       (suc d - (m - start (suc d)), m - start (suc d), omega arith, rw s (omega arith))
 ]
@@ -107,5 +119,5 @@ pub record-eq : {q : ℕ} (d : ℕ) (v w : List ℕ) → Word (suc q) (start (su
     ((t i : ℕ) → i + t ≤ d → Cong q (coef v i t) (coef w i t)) → v ≡ w
 record-eq {q} d v w a b h = list-eq v w (a .size ∙ sym (b .size)) λ m k.
     let n : m < start (suc d) = omega (arith, a .size) in
-    let (i, t, s, e) = place d m n in
+    let (i, t, s, e) = placed d m n in
     sym (mod-eq-of-lt (a .below m n)) ∙ rw e (to-mod (h t i s)) ∙ mod-eq-of-lt (b .below m n)

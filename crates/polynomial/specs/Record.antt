@@ -1,7 +1,9 @@
 -- Records: polynomials by their coefficients in one list, in X, or in X and Y by groups of one total degree.
 --
 --   start k              where the group of total degree k begins; so a record of degree d has start (d + 1) places
---   coef F i t           the coefficient of X^i Y^t in the record F
+--   place i t            where the coefficient of X^i Y^t stands
+--   coef F i t           that coefficient of the record F
+--   longest              the length of the longest record, that of degree 15
 --   valueX p d F x       the value of the record F in X at a point, modulo p; d bounds the degree
 --   valueXY p d F x y    the same in X and Y; d bounds the total degree
 --   gridValue p d b x y F c   the value in cell c of a grid of b columns
@@ -20,8 +22,14 @@ abbrev pub start : ℕ → ℕ
 start k = k * (k + 1) / 2
 
 -- in the group of total degree i + t by rising power of Y
+abbrev pub place : ℕ → ℕ → ℕ
+place i t = start (i + t) + t
+
 abbrev pub coef : List ℕ → ℕ → ℕ → ℕ
-coef F i t = at F (start (i + t) + t)
+coef F i t = at F (place i t)
+
+abbrev pub longest : ℕ
+longest = start 16
 
 -- coefficient k goes with x^k; 0^0 is 1
 unfoldable pub valueX : (p d : ℕ) (F : List ℕ) (x : ℕ) → ℕ

@@ -9,12 +9,11 @@ ghost use lib.Dec.{leb};
 ghost use lib.ListN.{length, getD};
 ghost use Rattle.bounded.specs.Bounded.{at};
 ghost use Rattle.field.specs.Row.{row, Row, Reciprocal};
-ghost use Rattle.polynomial.specs.Record.{start as startOf, valueXY};
+ghost use Rattle.polynomial.specs.Record.{start as startOf, place as placeOf, coef, valueXY};
 ghost use Rattle.field.specs.Word.{Word};
-ghost use Rattle.polynomial.specs.Record.{coef};
 ghost use Rattle.polynomial.specs.Powers.{Rows, Powers, Columns};
 
-// The length of the longest record, that of degree 15: start(16).
+// The length of the longest record, that of degree 15.
 pub const LONGEST: usize = 136;
 
 // Where the group of total degree k begins; for k below 2^32 the product doesn't wrap. A record of degree d has start(d + 1)
@@ -26,6 +25,14 @@ pub fn start(k: usize) -> usize
     k * (k + 1) / 2
 }
 
+// Where the coefficient of X^i Y^t stands: in the group of total degree i + t by rising power of Y.
+pub fn place(i: usize, t: usize) -> usize
+    requires { ⌜ i + t < 4294967296 ⌝ }
+    ensures { λ r. ⌜ r ≡ placeOf i t ⌝ }
+{
+    start(i + t) + t
+}
+
 // The coefficient of Y^t, a polynomial in X of degree d - t at most, by its own coefficients.
 fn coefficient_of_y(message: &[u8], d: usize, t: usize) -> [u16; 16]
     requires { ⌜ (length (now message) ≡ startOf (suc d)) × (d < 16) × (t ≤ d) ⌝ }
@@ -34,7 +41,7 @@ fn coefficient_of_y(message: &[u8], d: usize, t: usize) -> [u16; 16]
     let mut out = [0u16; 16];
     let mut i = 0;
     while i + t <= d {
-        let at = start(i + t) + t;
+        let at = place(i, t);
         out[i] = message[at] as u16;
         i += 1;
     }

@@ -28,7 +28,7 @@ use Rattle.field.proofs.Congruence.{same, ~add, mod-cong, _⨾_}
 use Rattle.field.proofs.Row.{row-at, row-of, beyond}
 use Rattle.definitions.specs.Plan.{modulus, side, degree, point}
 use Rattle.definitions.specs.Code.{square, size, cells, value}
-use Rattle.polynomial.specs.Record.{start}
+use Rattle.polynomial.specs.Record.{place, longest}
 use Rattle.definitions.specs.Cost.{full, unread, radius}
 use Rattle.definitions.specs.Calls.{refused}
 use Rattle.definitions.specs.Reads.{Reads}
@@ -38,7 +38,7 @@ use Rattle.polynomial.specs.Distance.{gridDistance}
 use Rattle.polynomial.specs.Powers.{Rows}
 use Rattle.polynomial.specs.declared.Grid.{Grid}
 use Rattle.polynomial.specs.Fit.{gridRadius}
-use Rattle.polynomial.proofs.Record.{value-rows, start-below, start-up}
+use Rattle.polynomial.proofs.Record.{value-rows, start-up, place-below}
 use Rattle.polynomial.proofs.Distance.{distance-square}
 use Rattle.plan.specs.declared.Plan.{Plan}
 use Rattle.plan.specs.Says.{said, Says}
@@ -58,11 +58,10 @@ use Rattle.reading.proofs.Loading.{residue-below, residue-loaded}
 use Rattle.reading.proofs.Square.{cell-at, flag-differ}
 
 -- a record has a byte at least, and at most as many as a message has numbers
-pub record-room : {P s u B : List ℕ} → Taken square P s u B → (0 < length B) × (length B ≤ start 16)
+pub record-room : {P s u B : List ℕ} → Taken square P s u B → (0 < length B) × (length B ≤ longest)
 record-room {P} t =
     let S = t .photo .sound in
-    let some = start-below 0 (degree P + 1) 0 (omega arith) (omega arith) in
-    rw (t .room) (some, start-up (degree P + 1) 16 (omega (arith, S .low, S .most)))
+    rw (t .room) (place-below 0 0 (degree P + 1) (omega arith), start-up (degree P + 1) 16 (omega (arith, S .low, S .most)))
 
 module _ {P s u B : List ℕ} {left : List (List ℕ)} (t : Taken square P s u B) (es : SymbolRows (side P) s left) where
   positive : 0 < modulus P
@@ -142,7 +141,7 @@ module _ {P s u B : List ℕ} {left u′ : List (List ℕ)} (t : Taken square P 
       word-at i l = rw stored (tab-at (length B) (at w) i (omega (arith, t .room)))
 
       coefficients : (k i : ℕ) → i + k ≤ degree P → coef W i k ≡ coef w i k
-      coefficients k i l = word-at (start (i + k) + k) (start-below (i + k) (degree P + 1) k (omega arith) (omega arith))
+      coefficients k i l = word-at (place i k) (place-below i k (degree P + 1) (omega arith))
 
       abbrev line-value : (r c : ℕ) → ℕ
       line-value r c = eval (suc (degree P)) (onRow (degree P) (coef w) (at (row (point P)) r)) (at (row (point P)) c)

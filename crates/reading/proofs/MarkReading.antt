@@ -24,7 +24,7 @@ use Rattle.field.specs.Congruence.{Cong}
 use Rattle.definitions.specs.Refusals.{first}
 use Rattle.definitions.specs.Plan.{modulus, side, degree, point}
 use Rattle.definitions.specs.Code.{square, size}
-use Rattle.polynomial.specs.Record.{start, gridValue}
+use Rattle.polynomial.specs.Record.{start, place, gridValue}
 use Rattle.definitions.specs.Cost as definition
 use Rattle.definitions.specs.Cost.{full}
 use Rattle.distance.specs.Cost.{cell, cost}
@@ -41,7 +41,7 @@ use Rattle.polynomial.specs.Eval.{values}
 use Rattle.polynomial.specs.Record.{coef, onRow}
 use Rattle.polynomial.specs.Distance.{gridDistance}
 use Rattle.definitions.proofs.Plan.{plan-modulus, plan-apart}
-use Rattle.polynomial.proofs.Record.{value-rows, start-below, place, record-eq}
+use Rattle.polynomial.proofs.Record.{value-rows, place-below, placed, record-eq}
 use Rattle.polynomial.proofs.Distance.{distance-square}
 use Rattle.distance.proofs.Loaded.{cell-loaded}
 use Rattle.reed_muller.specs.Degree.{gridCost, GridNear}
@@ -97,7 +97,7 @@ module _ {P : List ℕ} (S : Sound P) where
       ((t i : ℕ) → i + t ≤ degree P → coef F i t < suc (modulus P - 1)) → IsRecord square P F
   coefficients-record F e h = record {
     size = e;
-    below = λ m l. let (i, t, k, z) = place (degree P) m (rw add-one at l) in rw z (rw (plan-modulus S) at (h t i k));
+    below = λ m l. let (i, t, k, z) = placed (degree P) m (rw add-one at l) in rw z (rw (plan-modulus S) at (h t i k));
   }
 
 -- at most one record of a sound plan is within the radius
@@ -146,8 +146,7 @@ module _ (P s u B : List ℕ) (clear : first (photoRows square P s u B) ≡ 0) {
   module _ (z : found ≡ true) (W : List ℕ) (len : length W ≡ size square P)
       (copied : (i : ℕ) → i < size square P → at W i ≡ at m i) where
     coefficients : (t i : ℕ) → i + t ≤ degree P → coef W i t ≡ coef m i t
-    coefficients t i l = copied (start (i + t) + t)
-        (start-below (i + t) (degree P + 1) t (omega arith) (omega arith))
+    coefficients t i l = copied (place i t) (place-below i t (degree P + 1) (omega arith))
 
     pub mark-record : IsRecord square P W
     mark-record = coefficients-record S W len λ t i l. rw (coefficients t i l) (D .below z t i l)

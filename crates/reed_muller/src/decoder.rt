@@ -9,7 +9,7 @@ ghost use lib.ListN.{length};
 ghost use Rattle.field.specs.Prime.{Inverses};
 ghost use Rattle.polynomial.specs.Powers.{Rows};
 ghost use Rattle.polynomial.specs.Fit.{Fit};
-ghost use Rattle.polynomial.specs.Record.{start};
+ghost use Rattle.polynomial.specs.Record.{longest};
 ghost use Rattle.grid.specs.Axes.{DoubtRows};
 ghost use Rattle.reed_muller.specs.Outcome.{Outcome, under};
 
@@ -25,9 +25,9 @@ pub fn decode(
     cost: &mut u32,
 ) -> [[u16; 16]; 16]
     requires { ⌜ Fit g × Rows (g .p) symbols × DoubtRows g doubts × Inverses (g .p) (now inverses)
-        × (length (now message) ≡ start 16) ⌝ }
+        × (length (now message) ≡ longest) ⌝ }
     ensures { λ left. ⌜ Outcome g symbols doubts left (under g (now (cost .exit))) (now (message .exit)) (now (cost .exit))
-        × (length (now (message .exit)) ≡ start 16) ⌝ }
+        × (length (now (message .exit)) ≡ longest) ⌝ }
 {
     let mut left = symbols;
     let mut columns = [[0u16; 16]; 16];

@@ -1,12 +1,12 @@
 //! The suites. Each case is made from its seed alone.
 
+mod coefficients;
 mod decoding;
 mod documented;
 mod extremes;
 mod faults;
 mod files;
 mod lengths;
-mod places;
 mod plans;
 mod rubbish;
 
@@ -17,7 +17,7 @@ pub fn all() -> Vec<Suite> {
     vec![
         Suite { name: "documented", cases: documented::CASES, case: documented::case },
         Suite { name: "extremes", cases: SHAPES_OF_251, case: extremes::case },
-        Suite { name: "places", cases: SHAPES_OF_251, case: places::case },
+        Suite { name: "coefficients", cases: SHAPES_OF_251, case: coefficients::case },
         Suite { name: "large-marks", cases: 3_000, case: decoding::large_mark },
         Suite { name: "marks", cases: 52_000, case: decoding::mark },
         Suite { name: "strips", cases: 60_000, case: decoding::strip },

@@ -6,8 +6,8 @@ use lib.ListN.{getD-replicate}
 use Rattle.bounded.specs.Bounded.{at}
 use Rattle.field.specs.Loop.{Passed}
 use Rattle.field.proofs.Loop.{passed-step}
-use Rattle.polynomial.specs.Record.{start, coef}
-use Rattle.polynomial.proofs.Record.{start-below}
+use Rattle.polynomial.specs.Record.{start, place, coef}
+use Rattle.polynomial.proofs.Record.{place-below}
 use Rattle.polynomial.proofs.Columns.{coefficients-set}
 use borrow.Author.Needs.{needs}
 use Rattle.polynomial.proofs.bivariate.coefficient_of_y.Statement.{statement}
@@ -22,34 +22,20 @@ abbrev μ-loop : tie.MeasureT-loop
 -- the place is in the record
 within : (c : tie.In-loop Inv-loop μ-loop) →
     let a = c .before .before .before .args in
-    let k = c .before .loop .i + a .t in
-    start k + a .t < start (suc (a .d))
+    place (c .before .loop .i) (a .t) < start (suc (a .d))
 within c =
     let a = c .before .before .before .args in
-    start-below (c .before .loop .i + a .t) (suc (a .d)) (a .t) (omega arith) (omega arith)
+    place-below (c .before .loop .i) (a .t) (suc (a .d)) (omega arith)
 
 loop-holds : tie.Need-loop-holds Inv-loop μ-loop
 loop-holds c =
     (omega arith, record { size = refl; done = λ j l. absurd (omega arith); todo = λ j _ l. getD-replicate 16 j 0 0 l })
 
-add-at : tie.Need-add-at Inv-loop μ-loop
-add-at c = omega (arith, within (c .before))
-
-shared-slice-read-out : tie.Need-shared-slice-read-out Inv-loop μ-loop
-shared-slice-read-out c = omega (arith, within (c .before .before))
-
--- a byte fits in 16 bits
-cast-out : tie.Need-cast-out Inv-loop μ-loop
-cast-out c =
-    let a = c .before .before .before .before .before .args in
-    omega (arith, c .shared-slice-known2 .given (c .before .start .result + a .t))
-
 loop-again : tie.Need-loop-again Inv-loop μ-loop
 loop-again c =
     let l = c .before .before .before in
     let a = l .before .before .args in
-    let e = ap (λ n. at (a .message .now) (n + a .t)) (c .before .start .ensures) in
-    (omega arith, passed-step _ (omega arith) e (l .loop .inv .1))
+    (omega arith, passed-step _ (omega arith) (ap (at (a .message .now)) (c .before .place .ensures)) (l .loop .inv .1))
 
 returns : tie.Need-returns Inv-loop μ-loop
 returns c =
@@ -59,8 +45,8 @@ returns c =
 pub coefficient-of-y-spec : {M : Type 1} → statement M
 coefficient-of-y-spec = tie.close (tie.spec Inv-loop μ-loop
     loop-holds
-    (λ c. search needs) (λ c. search needs) (λ c κs. search needs)
-    add-at shared-slice-read-out
-    cast-out
+    (λ c. search needs) (λ c κs. search needs)
+    (λ c. omega (arith, within (c .before .before), c .before .place .ensures))
+    (λ c. omega (arith, c .shared-slice-known2 .given (c .before .place .result)))
     (λ c. search needs) (λ c. search needs) (λ c. search needs) (λ c. search needs)
     loop-again returns)

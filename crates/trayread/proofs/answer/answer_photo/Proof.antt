@@ -11,7 +11,7 @@ use Rattle.definitions.specs.Plan.{season, degree}
 use Rattle.definitions.specs.Code.{square, size, cells}
 use Rattle.polynomial.specs.declared.Grid.{Grid}
 use Rattle.polynomial.specs.Fit.{Fit}
-use Rattle.polynomial.specs.Record.{start}
+use Rattle.polynomial.specs.Record.{start, longest}
 use Rattle.definitions.specs.Sound.{Sound}
 use Rattle.definitions.specs.Tray.{planOf, bufferOf, trayReading, trayRecord}
 use Rattle.definitions.specs.Printed.{trayText}
@@ -39,11 +39,11 @@ module _ (s : tie.Start) where
   plan = sound (planOf input) (s .pre .0)
 
   -- the plan's record fits, and there are zeros for it
-  size-most : size square (planOf input) ≤ start 16
+  size-most : size square (planOf input) ≤ longest
   size-most = start-up (degree (planOf input) + 1) 16 (omega (arith, plan .low, plan .most))
 
-  cut : (n : ℕ) → n ≡ size square (planOf input) → take {A = ℕ} n (replicate (start 16) 0) ≡ bufferOf input
-  cut n e = rw e (zeros (size square (planOf input)) (start 16) size-most)
+  cut : (n : ℕ) → n ≡ size square (planOf input) → take {A = ℕ} n (replicate longest 0) ≡ bufferOf input
+  cut n e = rw e (zeros (size square (planOf input)) longest size-most)
 
   -- what the plan's struct says
   module _ {said : Plan} (says : Says (planOf input) said) where

@@ -1,6 +1,7 @@
 //! Where each coefficient of a record stands: that of X^(k - j) Y^j at k(k + 1)/2 + j of (d + 1)(d + 2)/2 places. One
 //! that is alone is written and read back, for every place, n and d of p 251.
 
+use independent::field::powers;
 use independent::{Code, Plan};
 use traymark_tests::calls::{Arguments, Call};
 use traymark_tests::counts::Counts;
@@ -12,7 +13,7 @@ pub fn case(seed: u64, random: &mut Random, counts: &mut Counts) -> Result<(), S
     let plan = plans::plan(plans::shape_of_251(seed), random);
     for k in 0..=plan.degree {
         for j in 0..=k {
-            alone(&plan, k, j, random, counts)?;
+            alone(&plan, k, j, random, counts).map_err(|what| format!("X^{} Y^{j} of {plan:?}: {what}", k - j))?;
         }
     }
     Ok(())
@@ -22,8 +23,8 @@ fn alone(plan: &Plan, k: usize, j: usize, random: &mut Random, counts: &mut Coun
     let coefficient = 1 + random.below(plan.p as usize - 1) as u32;
     let mut record = vec![0; (plan.degree + 1) * (plan.degree + 2) / 2];
     record[k * (k + 1) / 2 + j] = coefficient as u8;
-    let power = |point: u32, exponent: usize| (0..exponent).fold(1, |value, _| value * point % plan.p);
-    let value = |x: u32, y: u32| (coefficient * power(x, k - j) % plan.p * power(y, j) % plan.p) as u8;
+    let power = |point, exponent| powers(point, plan.p).nth(exponent).expect("there are powers without end");
+    let value = |x, y| (coefficient * power(x, k - j) % plan.p * power(y, j) % plan.p) as u8;
     let mark: Vec<u8> = plan.points.iter().flat_map(|&x| plan.points.iter().map(move |&y| value(x, y))).collect();
 
     let to_write = Arguments {
@@ -39,7 +40,7 @@ fn alone(plan: &Plan, k: usize, j: usize, random: &mut Random, counts: &mut Coun
         let answer = outcome(call, &given, random)?;
         counts.answer(call, given.code, answer.reading);
         if answer.reading.number != 0 || answer.buffer != buffer {
-            return Err(format!("X^{} Y^{j}: {call:?} gave {answer:?}, expected {buffer:?}; {given:?}", k - j));
+            return Err(format!("{call:?} gave {answer:?}, expected {buffer:?}; {given:?}"));
         }
     }
     Ok(())
