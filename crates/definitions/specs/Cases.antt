@@ -116,7 +116,7 @@ cases =
     ∷ (check (plan 7 3 1 1 1 4) ⟹ only 5 leaving [])
     ∷ []
 
--- not of the table: a strip written and read, a plan with several faults at once, a record of total degree 2 at the corners; each
+-- not of the table: a strip written and read, a plan with several faults at once, records of total degree 2, and of 3; each
 -- of the bytes 21 to 23 filled; symbol and doubt wrong at once, doubt and coefficient wrong at once; an unread cell in doubt 99;
 -- p 1; n 0, n 17 and n above p; a point that is p, and an unused point byte that is not 0; a wrong cell and an unread one in a
 -- mark and in a strip, read and measured; an unread cell where the record's value is 0; the example of docs/SPECIFICATION.md;
@@ -131,6 +131,8 @@ moreCases =
     ∷ (write square planA (3 ∷ 1 ∷ 7 ∷ []) (nines 9) ⟹ only 9 leaving nines 9)
     ∷ (write square (plan 5 3 2 0 1 2) (1 ∷ 0 ∷ 0 ∷ 2 ∷ 3 ∷ 4 ∷ []) (nines 9)
     ⟹ only 0 leaving 1 ∷ 0 ∷ 2 ∷ 3 ∷ 0 ∷ 0 ∷ 4 ∷ 4 ∷ 2 ∷ [])
+    ∷ (write square (set (plan 11 4 3 1 2 3) 8 5) (7 ∷ 1 ∷ 10 ∷ 2 ∷ 5 ∷ 3 ∷ 4 ∷ 9 ∷ 8 ∷ 6 ∷ []) (nines 16)
+    ⟹ only 0 leaving 0 ∷ 0 ∷ 6 ∷ 4 ∷ 9 ∷ 10 ∷ 0 ∷ 3 ∷ 0 ∷ 9 ∷ 1 ∷ 1 ∷ 2 ∷ 4 ∷ 10 ∷ 2 ∷ [])
     ∷ (check (set planA 21 1) ⟹ only 1 leaving [])
     ∷ (check (set planA 22 1) ⟹ only 1 leaving [])
     ∷ (check (set planA 23 1) ⟹ only 1 leaving [])

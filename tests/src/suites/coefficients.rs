@@ -1,5 +1,5 @@
 //! Where each coefficient of a record stands: that of X^(k - j) Y^j at k(k + 1)/2 + j of (d + 1)(d + 2)/2 places. One
-//! that is alone is written and read back, for every place, n and d of p 251.
+//! that is alone is written, measured and read back, for every place, n and d of p 251.
 
 use independent::field::powers;
 use independent::{Code, Plan};
@@ -27,7 +27,7 @@ fn alone(plan: &Plan, k: usize, j: usize, random: &mut Random, counts: &mut Coun
     let value = |x, y| (coefficient * power(x, k - j) % plan.p * power(y, j) % plan.p) as u8;
     let mark: Vec<u8> = plan.points.iter().flat_map(|&x| plan.points.iter().map(move |&y| value(x, y))).collect();
 
-    let to_write = Arguments {
+    let given = Arguments {
         code: Code::Mark,
         plan: plan.bytes().to_vec(),
         record: record.clone(),
@@ -35,11 +35,13 @@ fn alone(plan: &Plan, k: usize, j: usize, random: &mut Random, counts: &mut Coun
         doubts: vec![0; mark.len()],
         mark: random.bytes(mark.len()),
     };
-    let to_read = Arguments { record: random.bytes(record.len()), ..to_write.clone() };
-    for (call, given, buffer) in [(Call::Write, to_write, mark), (Call::Read, to_read, record)] {
-        let answer = outcome(call, &given, random)?;
+    let to_read = Arguments { record: random.bytes(record.len()), ..given.clone() };
+    for (call, given, buffer) in
+        [(Call::Write, &given, mark), (Call::Measure, &given, Vec::new()), (Call::Read, &to_read, record)]
+    {
+        let answer = outcome(call, given, random)?;
         counts.answer(call, given.code, answer.reading);
-        if answer.reading.number != 0 || answer.buffer != buffer {
+        if answer.reading.number != 0 || answer.reading.cost != 0 || answer.buffer != buffer {
             return Err(format!("{call:?} gave {answer:?}, expected {buffer:?}; {given:?}"));
         }
     }
