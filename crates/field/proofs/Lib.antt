@@ -5,4 +5,3 @@ pub mod Made
 pub mod Loop
 pub mod Reciprocal
 pub mod Row
-pub mod Filled

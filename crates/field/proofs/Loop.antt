@@ -7,6 +7,8 @@
 --   passed-start   before the first element the array is as it was
 --   passed-step    element i is changed where it stands
 --   passed-over    element i is as it should be already
+--   passed-zeros   before the first element all are zeros
+--   passed-rest    those that stay zeros are as they should be too
 --
 -- What this file is for: one law a step for every loop over one array; the facts T and U are the loop's own. Assumes nothing.
 use mathlib.Core.Logic.{_≢_}
@@ -14,8 +16,8 @@ use mathlib.Core.Path.{_≡_, refl, _∙_}
 use mathlib.Core.List.{List}
 use Prim.Native.Nat.{ℕ, _+_, _≤_, _<_}
 use native.Mathlib.Omega.{arith}
-use native.Mathlib.Decide.{ℕ-discrete}
-use lib.ListN.{length, getD, set, length-set}
+use native.Mathlib.Decide.{ℕ-discrete, decLt}
+use lib.ListN.{length, getD, set, replicate, length-set, length-replicate, getD-replicate}
 use lib.Seq.{getD-set-same, getD-set-other}
 use Rattle.field.specs.Loop.{Upto, Passed}
 
@@ -65,4 +67,19 @@ module _ {A : Type 0} {n : ℕ} {z : A} {U T : ℕ → A → Type 0} where
     size = p .size;
     done = λ j k. elim (ℕ-discrete j i) [ yes e ↦ rw e t | no e ↦ p .done j (omega arith) ];
     todo = λ j k m. p .todo j (omega arith) m;
+  }
+
+-- an array of zeros, of which the first are set; a row of zeros is the zero of an array of rows
+module _ {A : Type 0} {z zero : A} {T : ℕ → A → Type 0} where
+  pub passed-zeros : Passed 16 z (λ j v. v ≡ zero) T (replicate 16 zero) 0
+  passed-zeros = record {
+    size = length-replicate {A = A} 16 zero;
+    done = λ j l. absurd (omega arith);
+    todo = λ j _ l. getD-replicate {A = A} 16 j zero z l;
+  }
+
+  pub passed-rest : {l : List A} {i : ℕ} → Passed 16 z (λ j v. v ≡ zero) T l i → ((j : ℕ) → i ≤ j → T j zero) → Upto 16 z T l 16
+  passed-rest {i} p h = record {
+    size = p .size;
+    done = λ j l. elim (decLt j i) [ yes k ↦ p .done j k | no k ↦ let m : i ≤ j = omega arith in rw (p .todo j m l) (h j m) ];
   }

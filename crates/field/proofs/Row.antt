@@ -10,15 +10,17 @@
 --   Making f l j                a loop makes the row of f in l, and has set the places below j
 --   making-start, making-more   no place, and one more
 --   making-done                 all of them: l is the row of f
+--   Filled f l j                the same in a row of zeros: the places from j on are 0
+--   filled-start, filled-row    no place; and all where f is other than 0
 --
 -- What this file is for: a function on rows returns a row of remainders, which is read place by place. Assumes nothing.
-use mathlib.Core.Path.{_≡_, refl, _∙_}
+use mathlib.Core.Path.{_≡_, refl, sym, _∙_}
 use mathlib.Core.List.{List, [], _∷_}
 use Prim.Native.Nat.{ℕ, zero, suc, _+_, _-_, _%_, _≤_, _<_}
 use native.Mathlib.Omega.{arith}
 use native.Mathlib.Nat.{mod-lt}
 use native.Mathlib.Decide.{ℕ-discrete, decLt}
-use lib.ListN.{length, set, length-set}
+use lib.ListN.{length, set, replicate, length-set}
 use lib.Seq.{getD-set-same, getD-set-other}
 use Rattle.bounded.specs.Bounded.{at}
 use Rattle.bounded.proofs.Tab.{length-tab, tab-at, tab-is}
@@ -26,7 +28,7 @@ use Rattle.field.specs.Congruence.{Cong, Agree}
 use Rattle.field.specs.Loop.{Upto, Passed}
 use Rattle.field.specs.Row.{row, Row}
 use Rattle.field.proofs.Congruence.{same, mod-cong, _⨾_}
-use Rattle.field.proofs.Loop.{upto-start, upto-step, upto-less}
+use Rattle.field.proofs.Loop.{upto-start, upto-step, upto-less, passed-zeros, passed-rest}
 
 pub row-at : (f : ℕ → ℕ) (j : ℕ) → j < 16 → at (row f) j ≡ f j
 row-at f j l = tab-at 16 f j l
@@ -90,3 +92,14 @@ module _ {f : ℕ → ℕ} {l : List ℕ} where
 
   pub making-done : {j : ℕ} → 16 ≤ j → Making f l j → l ≡ row f
   making-done h m = upto-row (upto-less h (m .1))
+
+-- a loop that fills a row of zeros with f: the places below j are set, by `passed-step`
+abbrev pub Filled : (f : ℕ → ℕ) (l : List ℕ) (j : ℕ) → Type 0
+Filled f l j = Passed 16 0 (λ k v. v ≡ 0) (λ k v. v ≡ f k) l j
+
+module _ {f : ℕ → ℕ} where
+  pub filled-start : Filled f (replicate 16 0) 0
+  filled-start = passed-zeros
+
+  pub filled-row : {l : List ℕ} {j : ℕ} → ((k : ℕ) → j ≤ k → f k ≡ 0) → Filled f l j → l ≡ row f
+  filled-row h p = upto-row (passed-rest p λ k m. sym (h k m))

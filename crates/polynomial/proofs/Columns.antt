@@ -1,24 +1,21 @@
 -- A record with X put in, and then Y.
 --
---   coefficients-set   the coefficients of a power of Y, set one by one in a row of zeros
---   coefficients-row   they are residues
+--   coefficients-row   the coefficients of a power of Y are residues
 --   column-values      and have that power's column as their values
 --   row-values-are     place r of the columns has the values of row r
 --
--- What this file is for: the contracts of `coefficient_of_y`, `columns` and `row_values`. Assumes nothing.
+-- What this file is for: the contracts of `columns` and `row_values`. Assumes nothing.
 use mathlib.Core.Path.{_≡_, refl, sym, ap, _∙_}
 use mathlib.Core.Bool.{Bool, true, false, cond}
 use mathlib.Core.List.{List, []}
 use Prim.Native.Nat.{ℕ, suc, _+_, _*_, _-_, _%_, _^_, _≤_, _<_}
 use native.Mathlib.Omega.{arith}
-use native.Mathlib.Decide.{decLt}
 use lib.Dec.{leb}
 use lib.ListN.{getD}
-use borrow.Author.Tests.{le-leb, lt-leb, leb-true}
+use borrow.Author.Tests.{le-leb, leb-true}
 use Rattle.bounded.specs.Bounded.{at}
 use Rattle.bounded.proofs.Sum.{sum-eq}
-use Rattle.bounded.proofs.Tab.{length-tab, tab-eq, tab-is}
-use Rattle.field.specs.Loop.{Passed}
+use Rattle.bounded.proofs.Tab.{length-tab, tab-eq}
 use Rattle.field.specs.Row.{row, Row}
 use Rattle.field.proofs.Congruence.{cong-mod}
 use Rattle.field.proofs.Row.{row-at, row-of, result-cong}
@@ -28,14 +25,6 @@ use Rattle.polynomial.specs.Eval.{eval}
 use Rattle.polynomial.specs.Powers.{Columns}
 use Rattle.polynomial.proofs.Eval.{eval-cong}
 use Rattle.polynomial.proofs.Record.{place-below, value-rows}
-
--- the coefficients of Y^t are set up to X^(d - t), and the others are 0
-pub coefficients-set : (d t : ℕ) (F : List ℕ) {w : List ℕ} {i : ℕ} → i + t ≡ suc d →
-    Passed 16 0 (λ j v. v ≡ 0) (λ j v. v ≡ coef F j t) w i → w ≡ row (λ i. cond (leb (i + t) d) (coef F i t) 0)
-coefficients-set d t F {w} {i} e p = tab-is 16 _ w (p .size) λ j l. elim (decLt j i) [
-  | yes k ↦ rw (le-leb (j + t) d (omega arith)) (p .done j k)
-  | no k ↦ rw (lt-leb (j + t) d (omega arith)) (p .todo j (omega arith) l)
-]
 
 -- the coefficients w of Y^t
 module _ {p : ℕ} (d t : ℕ) (F : List ℕ) {w : List ℕ} (z : 0 < p) (h : d < 16) (m : t ≤ d)

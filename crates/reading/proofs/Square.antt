@@ -4,8 +4,6 @@
 --   cell-at                   a cell of the grid is a byte of the flat photograph
 --   part                      the bytes of row r
 --   part-line, no-line        a row from its own part of the bytes; below the grid there is nothing
---   passed-zeros, passed-rest   rows that are set one by one, the others being zeros
---   residues-set              the residues of some bytes, set in a row of zeros
 --   residues-part, no-residues   those of a row from its own part of the bytes; below the grid there are none
 --   differing-more            a row more of the cells that differ
 --   flag-differ               a cell's flag says whether its symbol is the value
@@ -14,7 +12,7 @@
 use mathlib.Core.Path.{_≡_, refl, sym, ap, _∙_}
 use mathlib.Core.Logic.{_⊎_, inl, inr}
 use mathlib.Core.Bool.{Bool, true, false, cond}
-use mathlib.Core.List.{List, []}
+use mathlib.Core.List.{List}
 use Prim.Native.Nat.{ℕ, _+_, _*_, _-_, _≤_, _<_}
 use native.Mathlib.Omega.{arith}
 use native.Mathlib.Decide.{ℕ-discrete, decLt}
@@ -26,10 +24,9 @@ use Rattle.bounded.specs.Bounded.{at}
 use Rattle.bounded.proofs.Sum.{sum-eq, sum-more}
 use Rattle.bounded.proofs.Tab.{tab-eq, tab-is}
 use Rattle.field.specs.Congruence.{Cong}
-use Rattle.field.specs.Loop.{Upto, Passed}
 use Rattle.field.specs.Row.{row}
 use Rattle.field.proofs.Congruence.{same, below-eq, cancel, _⨾_}
-use Rattle.field.proofs.Row.{row-at, beyond, upto-row}
+use Rattle.field.proofs.Row.{row-at, beyond}
 use Rattle.definitions.specs.Cost.{unread}
 use Rattle.distance.specs.Cost.{hamming}
 use Rattle.bounded.proofs.Part.{part-at, part-length}
@@ -62,22 +59,6 @@ no-line a n r s h e = tab-is 16 (gridCell n s r) (replicate 16 0) (length-replic
       | no m ↦ rw (le-ltb c n (omega arith))
     ])
 
--- rows that are set one by one, the others being zeros
-pub passed-zeros : {T : ℕ → List ℕ → Type 0} → Passed 16 [] (λ r l. l ≡ replicate 16 0) T (replicate 16 (replicate 16 0)) 0
-passed-zeros = record {
-  size = refl;
-  done = λ j l. absurd (omega arith);
-  todo = λ j _ l. getD-replicate {A = List ℕ} 16 j (replicate 16 0) [] l;
-}
-
-pub passed-rest : {T : ℕ → List ℕ → Type 0} {rows : List (List ℕ)} {n : ℕ} →
-    Passed 16 [] (λ r l. l ≡ replicate 16 0) T rows n →
-    ((r : ℕ) → n ≤ r → T r (replicate 16 0)) → Upto 16 [] T rows 16
-passed-rest {T} {n} P zeros = record {
-  size = P .size;
-  done = λ j l. elim (decLt j n) [ yes k ↦ P .done j k | no k ↦ let h : n ≤ j = omega arith in rw (P .todo j h l) (zeros j h) ];
-}
-
 -- the number at a place of a row that is named
 row-is : (f : ℕ → ℕ) {l : List ℕ} → l ≡ row f → (j : ℕ) → j < 16 → at l j ≡ f j
 row-is f e j k = rw e (row-at f j k)
@@ -86,17 +67,6 @@ pub no-residues : (a n r : ℕ) (s : List ℕ) → a ≤ r → length s ≡ a * 
 no-residues a n r s h e = tab-is 16 (λ c. residue (gridCell n s r c)) (replicate 16 0) (length-replicate {A = ℕ} 16 0) λ c l.
     let zero = getD-replicate {A = ℕ} 16 c 0 0 l in
     zero ∙ ap residue (sym zero ∙ row-is (gridCell n s r) (no-line a n r s h e) c l)
-
--- the residues of some bytes, set in a row of zeros
-pub residues-set : (s : List ℕ) {l : List ℕ} → Passed 16 0 (λ j v. v ≡ 0) (λ j v. v ≡ residue (at s j)) l (length s) →
-    l ≡ row (λ j. residue (at s j))
-residues-set s P = upto-row (record {
-  size = P .size;
-  done = λ j m. elim (decLt j (length s)) [
-    | yes k ↦ P .done j k
-    | no k ↦ let h : length s ≤ j = omega arith in P .todo j h m ∙ ap residue (sym (beyond s j h))
-  ];
-})
 
 -- the residues of row r, from its own part of the bytes
 pub residues-part : (n r : ℕ) (s : List ℕ) {l : List ℕ} → l ≡ row (λ j. residue (at (part n r s) j)) → r * n + n ≤ length s →

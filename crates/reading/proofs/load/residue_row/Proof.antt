@@ -1,27 +1,25 @@
 -- `reading::load::residue_row` meets its contract: the places below i are set, the others are 0. Assumes nothing.
-use mathlib.Core.Path.{_≡_, refl}
+use mathlib.Core.Path.{_≡_, refl, ap}
 use Prim.Native.Nat.{_-_, _≤_}
 use native.Mathlib.Omega.{arith}
-use lib.ListN.{length, getD-replicate}
+use lib.ListN.{length}
 use Rattle.bounded.specs.Bounded.{at}
-use Rattle.field.specs.Loop.{Passed}
 use Rattle.field.proofs.Loop.{passed-step}
+use Rattle.field.proofs.Row.{Filled, filled-start, filled-row, beyond}
 use Rattle.reading.specs.Loading.{residue}
-use Rattle.reading.proofs.Square.{residues-set}
 use borrow.Author.Needs.{needs}
 use Rattle.reading.proofs.load.residue_row.Statement.{statement}
 use Rattle.reading.proofs.load.residue_row.Tie as tie
 
 abbrev Inv-loop : tie.InvT-loop
 Inv-loop symbols out₀ i₀ i-end out i =
-    (i ≤ length symbols) × (i-end ≡ length symbols) × Passed 16 0 (λ j v. v ≡ 0) (λ j v. v ≡ residue (at symbols j)) out i
+    (i ≤ length symbols) × (i-end ≡ length symbols) × Filled (λ j. residue (at symbols j)) out i
 
 abbrev μ-loop : tie.MeasureT-loop
 μ-loop symbols out₀ i₀ i-end out i = length symbols - i
 
 loop-holds : tie.Need-loop-holds Inv-loop μ-loop
-loop-holds c =
-    (omega arith, refl, record { size = refl; done = λ j l. absurd (omega arith); todo = λ j _ l. getD-replicate 16 j 0 0 l })
+loop-holds c = (omega arith, refl, filled-start)
 
 loop-again : tie.Need-loop-again Inv-loop μ-loop
 loop-again c =
@@ -33,9 +31,8 @@ loop-again c =
 
 returns : tie.Need-returns Inv-loop μ-loop
 returns c =
-    let l = c .before .loop in
-    let e : l .i ≡ length (c .before .before .before .args .symbols .now) = omega arith in
-    residues-set (c .before .before .before .args .symbols .now) (rw e at (l .inv .2))
+    let symbols = c .before .before .before .args .symbols .now in
+    filled-row (λ j l. ap residue (beyond symbols j (omega arith))) (c .before .loop .inv .2)
 
 pub residue-row-spec : {M : Type 1} → statement M
 residue-row-spec =

@@ -6,10 +6,10 @@ use native.Mathlib.Omega.{arith}
 use lib.ListN.{replicate}
 use Rattle.field.specs.Loop.{Passed}
 use Rattle.field.specs.Row.{row}
-use Rattle.field.proofs.Loop.{passed-step}
+use Rattle.field.proofs.Loop.{passed-step, passed-zeros, passed-rest}
 use Rattle.bounded.proofs.Part.{row-in}
 use Rattle.reading.specs.Loading.{residue, gridCell}
-use Rattle.reading.proofs.Square.{product-small, passed-zeros, passed-rest, no-residues, residues-part}
+use Rattle.reading.proofs.Square.{product-small, no-residues, residues-part}
 use borrow.Author.Needs.{needs}
 use Rattle.reading.proofs.load.residue_rows.Statement.{statement}
 use Rattle.reading.proofs.load.residue_rows.Tie as tie
