@@ -38,8 +38,9 @@ use Rattle.polynomial.specs.Distance.{gridDistance}
 use Rattle.polynomial.specs.Powers.{Rows}
 use Rattle.polynomial.specs.declared.Grid.{Grid}
 use Rattle.polynomial.specs.Fit.{gridRadius}
-use Rattle.polynomial.proofs.Record.{value-rows, start-up, place-below}
+use Rattle.polynomial.proofs.Record.{value-rows, place-below}
 use Rattle.polynomial.proofs.Distance.{distance-square}
+use Rattle.definitions.proofs.Plan.{plan-longest}
 use Rattle.plan.specs.declared.Plan.{Plan}
 use Rattle.plan.specs.Says.{said, Says}
 use Rattle.plan.proofs.Ready.{point-at}
@@ -59,9 +60,7 @@ use Rattle.reading.proofs.Square.{cell-at, flag-differ}
 
 -- a record has a byte at least, and at most as many as a message has numbers
 pub record-room : {P s u B : List ℕ} → Taken square P s u B → (0 < length B) × (length B ≤ longest)
-record-room {P} t =
-    let S = t .photo .sound in
-    rw (t .room) (place-below 0 0 (degree P + 1) (omega arith), start-up (degree P + 1) 16 (omega (arith, S .low, S .most)))
+record-room {P} t = rw (t .room) (place-below 0 0 (degree P + 1) (omega arith), plan-longest (t .photo .sound))
 
 module _ {P s u B : List ℕ} {left : List (List ℕ)} (t : Taken square P s u B) (es : SymbolRows (side P) s left) where
   positive : 0 < modulus P

@@ -7,7 +7,7 @@ use native.Mathlib.Nat.{mul-le-mul, add-sub-cancel-left}
 use lib.ListN.{length, take, drop, replicate, length-replicate, length-drop}
 use lib.Seq.{take-all}
 use borrow.Author.Needs.{needs}
-use Rattle.definitions.specs.Plan.{season, degree}
+use Rattle.definitions.specs.Plan.{season}
 use Rattle.definitions.specs.Code.{square, size, cells}
 use Rattle.polynomial.specs.declared.Grid.{Grid}
 use Rattle.polynomial.specs.Fit.{Fit}
@@ -15,13 +15,13 @@ use Rattle.polynomial.specs.Record.{start, longest}
 use Rattle.definitions.specs.Sound.{Sound}
 use Rattle.definitions.specs.Tray.{planOf, bufferOf, trayReading, trayRecord}
 use Rattle.definitions.specs.Printed.{trayText}
+use Rattle.definitions.proofs.Plan.{plan-longest}
 use Rattle.definitions.proofs.Sound.{sound}
 use Rattle.definitions.proofs.Tray.{count-text}
 use Rattle.plan.specs.declared.Plan.{Plan}
 use Rattle.plan.specs.Says.{Says}
 use Rattle.plan.proofs.Ready.{ready}
 use Rattle.plan.proofs.Values.{mark-cells}
-use Rattle.polynomial.proofs.Record.{start-up}
 use Rattle.trayread.proofs.answer.answer_photo.Statement.{statement}
 use Rattle.trayread.proofs.answer.answer_photo.Tie as tie
 
@@ -40,7 +40,7 @@ module _ (s : tie.Start) where
 
   -- the plan's record fits, and there are zeros for it
   size-most : size square (planOf input) ≤ longest
-  size-most = start-up (degree (planOf input) + 1) 16 (omega (arith, plan .low, plan .most))
+  size-most = plan-longest plan
 
   cut : (n : ℕ) → n ≡ size square (planOf input) → take {A = ℕ} n (replicate longest 0) ≡ bufferOf input
   cut n e = rw e (zeros (size square (planOf input)) longest size-most)
