@@ -98,6 +98,11 @@ pub fn powers(x: u32, p: u32) -> impl Iterator<Item = u32> {
     successors(Some(1), move |power| Some(power * x % p))
 }
 
+/// One of them.
+pub fn power(x: u32, p: u32, exponent: usize) -> u32 {
+    powers(x, p).nth(exponent).expect("there are powers without end")
+}
+
 #[cfg(test)]
 mod tests {
     use super::*;

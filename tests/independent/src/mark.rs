@@ -2,7 +2,7 @@
 
 use crate::code::Code;
 use crate::cost::cost;
-use crate::field::{powers, Field};
+use crate::field::{power, Field};
 use crate::plan::Plan;
 use crate::strip::Strip;
 use crate::{Found, FULL_DOUBT, UNREAD};
@@ -44,8 +44,7 @@ fn y_coefficient(field: &Field, plan: &Plan, y_power: usize, left: &[u32], doubt
 
 /// Takes the coefficient times Y^y_power off the read cells.
 fn subtract(field: &Field, plan: &Plan, y_power: usize, coefficient: &[u32], left: &mut [u32]) {
-    let term = |y: &u32| powers(*y, plan.p).nth(y_power).expect("there are powers without end");
-    let terms: Vec<u32> = plan.points.iter().map(term).collect();
+    let terms: Vec<u32> = plan.points.iter().map(|&y| power(y, plan.p, y_power)).collect();
     for (row, &x) in left.chunks_mut(plan.side()).zip(&plan.points) {
         let value = field.value(coefficient, x);
         for (cell, &term) in row.iter_mut().zip(&terms) {

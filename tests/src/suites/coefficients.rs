@@ -1,7 +1,7 @@
 //! Where each coefficient of a record stands: that of X^(k - j) Y^j at k(k + 1)/2 + j of (d + 1)(d + 2)/2 places. One
 //! that is alone is written, measured and read back, for every place, n and d of p 251.
 
-use independent::field::powers;
+use independent::field::power;
 use independent::{Code, Plan};
 use traymark_tests::calls::{Arguments, Call};
 use traymark_tests::counts::Counts;
@@ -23,8 +23,7 @@ fn alone(plan: &Plan, k: usize, j: usize, random: &mut Random, counts: &mut Coun
     let coefficient = 1 + random.below(plan.p as usize - 1) as u32;
     let mut record = vec![0; (plan.degree + 1) * (plan.degree + 2) / 2];
     record[k * (k + 1) / 2 + j] = coefficient as u8;
-    let power = |point, exponent| powers(point, plan.p).nth(exponent).expect("there are powers without end");
-    let value = |x, y| (coefficient * power(x, k - j) % plan.p * power(y, j) % plan.p) as u8;
+    let value = |x, y| (coefficient * power(x, plan.p, k - j) % plan.p * power(y, plan.p, j) % plan.p) as u8;
     let mark: Vec<u8> = plan.points.iter().flat_map(|&x| plan.points.iter().map(move |&y| value(x, y))).collect();
 
     let given = Arguments {
