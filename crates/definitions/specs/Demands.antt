@@ -27,16 +27,16 @@
 use mathlib.Core.Path.{_≡_}
 use mathlib.Core.List.{List, []}
 use mathlib.Core.Logic.{_≢_, _↔_}
-use Prim.Native.Nat.{ℕ, _+_, _*_, _-_, _/_, _%_, _≤_, _<_}
+use Prim.Native.Nat.{ℕ, _+_, _*_, _-_, _/_, _%_, _^_, _≤_, _<_}
 use lib.IntN.{ℤ, pos, negℤ, _-ℤ_}
 use lib.Signed.{_≤ℤ_}
 use lib.ListN.{length, take, drop}
-use Rattle.bounded.specs.Bounded.{at}
+use Rattle.bounded.specs.Bounded.{at, sum}
 use Rattle.definitions.specs.declared.Reading.{Reading}
 use Rattle.definitions.specs.Refusals.{Lowest}
 use Rattle.definitions.specs.Plan.{season, modulus, side, degree, point, planRows, checkNumber}
 use Rattle.definitions.specs.Code.{Code, strip, square, size, cells, value}
-use Rattle.polynomial.specs.Record.{start, coef, valueX, valueXY}
+use Rattle.polynomial.specs.Record.{start, valueX, valueXY}
 use Rattle.definitions.specs.Cost.{full, unread, radius}
 use Rattle.distance.specs.Cost.{cell}
 use Rattle.definitions.specs.Published.{Fraction, _over_, FromZeroToOne, _is_times_, distance, weighted}
@@ -159,5 +159,6 @@ pub record GroupsFill (d : ℕ) : Type 0 where
   pub covered : (m : ℕ) → m < places d → (k j : ℕ) × (j ≤ k) × (k ≤ d) × (m ≡ start k + j)
   -- and no overlap: no place is in two groups
   pub apart : (k j l i : ℕ) → j ≤ k → i ≤ l → start k + j ≡ start l + i → (k ≡ l) × (j ≡ i)
-  -- within a group by rising power of Y, from X^k to Y^k
-  pub holds : (F : List ℕ) (k j : ℕ) → j ≤ k → coef F (k - j) j ≡ at F (start k + j)
+  -- within a group by rising power of Y: what stands at start k + j goes with X^(k - j) Y^j
+  pub holds : (p : ℕ) (F : List ℕ) (x y : ℕ) →
+      valueXY p d F x y ≡ sum (d + 1) (λ k. sum (k + 1) λ j. at F (start k + j) * (x ^ (k - j) * y ^ j)) % p

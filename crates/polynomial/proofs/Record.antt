@@ -2,6 +2,7 @@
 --
 --   value-strip   the value of a record in X is that of the polynomial with its bytes as coefficients
 --   value-rows    the value of a record in X and Y is that, at y, of the polynomial in Y that x leaves
+--   value-places  the same by the places of the coefficients
 --   start-fits    the product in `start` fits in 64 bits
 --   start-next    the groups follow one another
 --   start-below   a group's places are before those of a higher degree
@@ -66,6 +67,14 @@ value-rows p d R x y = ap (λ v. v % p)
     each : (t : ℕ) → t < suc d → sum (suc (d - t)) (λ i. f i t) ≡ column d (coef R) t x * y ^ t
     each t l = sum-eq (suc (d - t)) {g = λ i. y ^ t * (coef R i t * x ^ i)} (λ i m. omega arith)
         ∙ sum-mul (suc (d - t)) (y ^ t) (λ i. coef R i t * x ^ i) ∙ omega arith
+
+-- the terms by the places of their coefficients
+pub value-places : (p d : ℕ) (F : List ℕ) (x y : ℕ) →
+    valueXY p d F x y ≡ sum (d + 1) (λ k. sum (k + 1) λ j. at F (start k + j) * (x ^ (k - j) * y ^ j)) % p
+unfolding valueXY
+value-places p d F x y = ap (λ v. v % p) (sum-eq (d + 1) λ k l. sum-eq (k + 1) λ j m.
+    let e : k - j + j ≡ k = omega arith in
+    rw e)
 
 pub start-fits : (k : ℕ) → k < 4294967296 → k * (k + 1) ≤ 4294967295 * 4294967296
 start-fits k l =

@@ -15,7 +15,7 @@
 use mathlib.Core.Path.{_≡_, refl, sym, _∙_}
 use mathlib.Core.Logic.{_↔_}
 use mathlib.Core.List.{List}
-use Prim.Native.Nat.{ℕ, suc, _+_, _-_, _<_}
+use Prim.Native.Nat.{ℕ, suc, _+_, _<_}
 use native.Mathlib.Omega.{arith}
 use native.Mathlib.Numerals.{add-one}
 use lib.ListN.{length}
@@ -41,7 +41,7 @@ use Rattle.definitions.proofs.Own.{own-photo, own-reading, own-read}
 use Rattle.definitions.proofs.Published.{photo-weighed}
 use Rattle.definitions.proofs.Margin.{measured-range, read-range, lowest, highest}
 use Rattle.distance.proofs.Cost.{cell-full}
-use Rattle.polynomial.proofs.Record.{start-next, start-below, start-apart, placed}
+use Rattle.polynomial.proofs.Record.{value-places, start-next, start-below, start-apart, placed}
 use Rattle.reading.proofs.StripReading.{only-strip}
 use Rattle.reading.proofs.MarkReading.{only-square}
 use Rattle.traymark.proofs.Answer.{write-keeps, write-fills, measure-refuses, measure-gives, read-keeps, read-gives}
@@ -148,7 +148,7 @@ groups-fill d = record {
       let (i, t, s, e) = placed d m h in
       (i + t, t, omega arith, s, e);
   apart = start-apart;
-  holds = λ F k j h. let e : k - j + j ≡ k = omega arith in rw e;
+  holds = λ p. value-places p d;
 }
   where
     length-is : start (d + 1) ≡ places d
