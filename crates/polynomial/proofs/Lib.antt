@@ -3,10 +3,12 @@ pub mod Lead
 pub mod Roots
 pub mod Eval
 pub mod Unique
+pub mod Distance
+pub mod Lines
+pub mod Far
 pub mod Record
 pub mod Points
 pub mod Coefficients
-pub mod Distance
 pub mod Powers
 pub mod Columns
 pub mod Cells

@@ -1,6 +1,5 @@
 -- The laws of the mark decoder.
 pub mod Degree
-pub mod Unique
 pub mod Groups
 pub mod Last
 pub mod Drafts
