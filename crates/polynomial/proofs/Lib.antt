@@ -6,6 +6,8 @@ pub mod Unique
 pub mod Distance
 pub mod Lines
 pub mod Far
+pub mod Poly
+pub mod Known
 pub mod Record
 pub mod Points
 pub mod Coefficients

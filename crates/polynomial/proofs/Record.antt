@@ -14,7 +14,7 @@
 --
 -- What this file is for: a record is read and written place by place, and its value is worked out column by column. Assumes
 -- nothing.
-use mathlib.Core.Path.{_≡_, refl, sym, ap, _∙_}
+use mathlib.Core.Path.{_≡_, sym, ap, _∙_}
 use mathlib.Core.List.{List}
 use Prim.Native.Nat.{ℕ, zero, suc, _+_, _*_, _-_, _%_, _^_, _≤_, _<_}
 use native.Mathlib.Omega.{arith}
@@ -22,51 +22,27 @@ use native.Mathlib.Decide.{ℕ-discrete, decLt}
 use native.Mathlib.Numerals.{add-one}
 use native.Mathlib.Nat.{le-of-eq, mul-le-mul, mod-eq-of-lt}
 use Rattle.bounded.specs.Bounded.{at, sum}
-use Rattle.bounded.proofs.Sum.{sum-eq, sum-add, sum-mul}
+use Rattle.bounded.proofs.Sum.{sum-eq, sum-const}
 use Rattle.bounded.proofs.Tab.{list-eq}
 use Rattle.field.specs.Congruence.{Cong}
 use Rattle.field.proofs.Congruence.{to-mod}
 use Rattle.field.specs.Word.{Word}
 use Rattle.polynomial.specs.Eval.{eval}
-use Rattle.polynomial.specs.Record.{start, place, valueX, valueXY, coef, column, onRow}
+use Rattle.polynomial.specs.Record.{start, place, valueX, valueXY, coef, onRow}
+use Rattle.polynomial.specs.Sides.{two}
+use Rattle.polynomial.specs.Layout.{count}
+use Rattle.polynomial.proofs.Poly.{value-eval, sum-place}
+use Rattle.polynomial.proofs.Known.{count-mark, start-mark, value-mark-is}
 
 pub value-strip : (p d : ℕ) (F : List ℕ) (x : ℕ) → valueX p d F x ≡ eval (suc d) (at F) x % p
 unfolding valueX
 value-strip p d F x = ap (λ n. sum n (λ k. at F k * x ^ k) % p) (add-one d)
 
--- a triangle summed by diagonals and by columns
-triangle : (d : ℕ) (f : ℕ → ℕ → ℕ) →
-    sum (suc d) (λ k. sum (suc k) λ j. f (k - j) j) ≡ sum (suc d) (λ t. sum (suc (d - t)) λ i. f i t)
-triangle zero f = refl
-triangle (suc d) f = omega (
-  arith,
-  triangle d f,
-  last,
-  sum-eq (suc d) longer,
-  sum-add (suc d) (λ t. sum (suc (d - t)) λ i. f i t) (λ j. f (suc d - j) j),
-)
-  where
-    longer : (t : ℕ) → t < suc d → sum (suc (suc d - t)) (λ i. f i t) ≡ sum (suc (d - t)) (λ i. f i t) + f (suc d - t) t
-    longer t l = let e : suc d - t ≡ suc (d - t) = omega arith in rw e
-
-    last : sum (suc (suc d - suc d)) (λ i. f i (suc d)) ≡ f (suc d - suc d) (suc d)
-    last = let e : suc d - suc d ≡ 0 = omega arith in rw e (omega arith)
-
 -- the value of document 01 is that of the row's polynomial
 pub value-rows : (p d : ℕ) (R : List ℕ) (x y : ℕ) → valueXY p d R x y ≡ eval (suc d) (onRow d (coef R) x) y % p
-unfolding valueXY
-value-rows p d R x y = ap (λ v. v % p)
-    (ap (λ n. sum n λ k. sum (k + 1) λ j. f (k - j) j) (add-one d)
-    ∙ sum-eq (suc d) (λ k l. ap (λ n. sum n λ j. f (k - j) j) (add-one k))
-    ∙ triangle d f
-    ∙ sum-eq (suc d) each)
-  where
-    f : ℕ → ℕ → ℕ
-    f i j = coef R i j * (x ^ i * y ^ j)
-
-    each : (t : ℕ) → t < suc d → sum (suc (d - t)) (λ i. f i t) ≡ column d (coef R) t x * y ^ t
-    each t l = sum-eq (suc (d - t)) {g = λ i. y ^ t * (coef R i t * x ^ i)} (λ i m. omega arith)
-        ∙ sum-mul (suc (d - t)) (y ^ t) (λ i. coef R i t * x ^ i) ∙ omega arith
+value-rows p d R x y = sym (value-mark-is p d R (two x y)) ∙ value-eval 1 p d R (two x y)
+    ∙ ap (λ v. v % p) (sum-eq (suc d) λ t _. ap (λ v. v * y ^ t) (sum-eq (suc (d - t)) λ i _. ap (λ m. at R m * x ^ i)
+    (omega (arith, start-mark (i + t), sum-const t 1))))
 
 -- the terms by the places of their coefficients
 pub value-places : (p d : ℕ) (F : List ℕ) (x y : ℕ) →
@@ -116,12 +92,10 @@ place-below i t k l = start-below (i + t) k t l (omega arith)
 
 -- in every place of a record stands a coefficient
 pub placed : (d m : ℕ) → m < start (suc d) → (i t : ℕ) × (i + t ≤ d) × (m ≡ place i t)
-placed zero m h = (0, 0, omega arith, omega arith)
-placed (suc d) m h = elim (decLt m (start (suc d))) [
-  | yes k ↦ let (i, t, w, e) = placed d m k in (i, t, omega arith, e)
-  | no k ↦ let s : suc d - (m - start (suc d)) + (m - start (suc d)) ≡ suc d = omega (arith, start-next (suc d)) in
-      (suc d - (m - start (suc d)), m - start (suc d), omega arith, rw s (omega arith))
-]
+placed d m h =
+    let (k, t, a, b, e) = sum-place (suc d) (count 1) m (omega (arith, start-mark (suc d))) in
+    let s : k - t + t ≡ k = omega (arith, count-mark k) in
+    (k - t, t, omega arith, rw s (omega (arith, start-mark k)))
 
 -- two records with the same coefficients modulo p are one
 pub record-eq : {q : ℕ} (d : ℕ) (v w : List ℕ) → Word (suc q) (start (suc d)) v → Word (suc q) (start (suc d)) w →
