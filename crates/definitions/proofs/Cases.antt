@@ -1,6 +1,7 @@
 -- The cases of document 01, with unread cells counted apart, and further ones hold of the definitions.
 --
 --   cases-hold                    cases a to l
+--   oblong-cases-hold             the cases of oblong marks
 --   more-cases-hold               the further cases
 --   class-bounds                  the class at each of its bounds
 --   index-cases                   the first number that passes a test
@@ -27,12 +28,16 @@ use Rattle.definitions.specs.Finder.{findRows, findNumber, findOffset, f
 use Rattle.definitions.specs.Published.{_over_, _is_times_, distance, weighted}
 use Rattle.definitions.specs.Tray.{trayReading, trayRecord}
 use Rattle.definitions.specs.Printed.{decimal, signed, spaced, readLine, recordLine, refusedLine, answerText, trayText}
-use Rattle.definitions.specs.Cases.{effect, only, call, expected, cases, moreCases}
+use Rattle.definitions.specs.Cases.{effect, only, call, expected, cases, oblongCases, moreCases}
 use Rattle.definitions.specs.Cases.{planA, mark₁, photoC, photoD, hidden, doubts}
 
 pub cases-hold : map effect (map call cases) ≡ map expected cases
 unfolding effect
 cases-hold = refl
+
+pub oblong-cases-hold : map effect (map call oblongCases) ≡ map expected oblongCases
+unfolding effect
+oblong-cases-hold = refl
 
 pub more-cases-hold : map effect (map call moreCases) ≡ map expected moreCases
 unfolding effect
@@ -52,7 +57,7 @@ found file y = (findNumber file y, findOffset file y, findBytes file y)
 
 -- plans of the seasons 268, 12 with p 9, 12, 268 with d 0, 13
 abbrev planFile : List ℕ
-planFile = set planA 0 1 ++ set planA 2 9 ++ planA ++ set (set planA 0 1) 4 0 ++ set planA 1 13
+planFile = set planA 0 1 ++ set planA 2 9 ++ planA ++ set (set planA 0 1) 5 0 ++ set planA 1 13
 
 -- of several the first, sound or not; at the start of the file and at its end; seasons that stand nowhere, inside plans, and
 -- across them; one plan alone; the last of eleven; a plan of 255s, and one of zeros; an empty file; a byte too many, a byte too
@@ -60,10 +65,10 @@ planFile = set planA 0 1 ++ set planA 2 9 ++ planA ++ set (set planA 0 1) 4 0 ++
 pub finder-cases :
     map (found planFile) (12 ∷ 268 ∷ 13 ∷ 269 ∷ 516 ∷ 0 ∷ [])
     ++ found planA 12 ∷ found (planFile ++ planFile ++ set planA 1 14) 14
-    ∷ found (planA ++ replicate 24 255) 65535 ∷ found (planA ++ planA ++ replicate 24 0) 0
-    ∷ found [] 12 ∷ found (planFile ++ 0 ∷ []) 12 ∷ found (drop 1 planFile) 12 ∷ found (drop 12 planA) 12 ∷ []
-    ≡ (0, 24, set planA 2 9) ∷ (0, 0, set planA 0 1) ∷ (0, 96, set planA 1 13) ∷ (12, 0, []) ∷ (12, 0, []) ∷ (12, 0, [])
-    ∷ (0, 0, planA) ∷ (0, 240, set planA 1 14) ∷ (0, 24, replicate 24 255) ∷ (0, 48, replicate 24 0)
+    ∷ found (planA ++ replicate 40 255) 65535 ∷ found (planA ++ planA ++ replicate 40 0) 0
+    ∷ found [] 12 ∷ found (planFile ++ 0 ∷ []) 12 ∷ found (drop 1 planFile) 12 ∷ found (drop 20 planA) 12 ∷ []
+    ≡ (0, 40, set planA 2 9) ∷ (0, 0, set planA 0 1) ∷ (0, 160, set planA 1 13) ∷ (12, 0, []) ∷ (12, 0, []) ∷ (12, 0, [])
+    ∷ (0, 0, planA) ∷ (0, 400, set planA 1 14) ∷ (0, 40, replicate 40 255) ∷ (0, 80, replicate 40 0)
     ∷ (12, 0, []) ∷ (11, 0, []) ∷ (11, 0, []) ∷ (11, 0, []) ∷ []
 unfolding effect index findNumber findRows findOffset findBytes
 finder-cases = refl

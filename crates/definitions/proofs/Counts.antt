@@ -17,9 +17,9 @@ use borrow.Author.Tests.{eqb-true, ne-eqb}
 use Rattle.bounded.specs.Bounded.{at}
 use Rattle.bounded.proofs.Sum.{sum-eq, sum-add}
 use Rattle.distance.specs.Cost.{differ, hamming}
-use Rattle.polynomial.specs.Record.{valueX, valueXY}
+use Rattle.polynomial.specs.Layout.{value as valueAt}
 use Rattle.definitions.specs.Plan.{modulus}
-use Rattle.definitions.specs.Code.{Code, strip, square, cells, value}
+use Rattle.definitions.specs.Code.{Code, cells, value}
 use Rattle.definitions.specs.Cost.{unread, changedCell, unreadCell}
 use Rattle.definitions.specs.Calls.{changedOf, unreadOf}
 use Rattle.definitions.specs.Sound.{Sound}
@@ -34,9 +34,8 @@ cell-split s v h = go (eqb s unread) refl
 
 module _ {P : List ℕ} (S : Sound P) where
   pub value-below : (C : Code) (F : List ℕ) (c : ℕ) → value C P F c < modulus P
-  unfolding valueX valueXY
-  value-below strip F c = mod-lt _ (omega (arith, S .prime .least))
-  value-below square F c = mod-lt _ (omega (arith, S .prime .least))
+  unfolding valueAt
+  value-below C F c = mod-lt _ (omega (arith, S .prime .least))
 
   pub differing-split : (C : Code) (s F : List ℕ) →
       hamming (cells C P) (at s) (value C P F) ≡ changedOf C P s F + unreadOf C P s

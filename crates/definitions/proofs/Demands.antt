@@ -1,9 +1,8 @@
--- Demand 3 follows where at most one record is within the radius.
+-- Demand 3, since at most one record is within the radius.
 --
---   AtMostOne C P s u   at most one record of the plan is within the radius
---   nearest-one         then reading is the nearest record's, with all that demand 3 says
+--   nearest-one   reading is the nearest record's, with all that demand 3 says
 --
--- What this file is for: what is left to show is the distance of the codes. Assumes nothing.
+-- What this file is for: the customer's third demand, for strips and for marks of any sides. Assumes nothing.
 use mathlib.Core.Path.{_≡_, refl, sym, ap, _∙_}
 use mathlib.Core.Bool.{true, false}
 use mathlib.Core.List.{List}
@@ -22,12 +21,9 @@ use Rattle.definitions.specs.Photograph.{Photograph}
 use Rattle.definitions.specs.Demands.{Nearest}
 use Rattle.definitions.proofs.Photograph.{photo-accepted}
 use Rattle.definitions.proofs.Nearest.{reads-none, reads-the}
+use Rattle.definitions.proofs.Unique.{at-most-one}
 
--- at most one record of the plan is within the radius
-abbrev pub AtMostOne : Code → (P s u : List ℕ) → Type 0
-AtMostOne C P s u = (F G : List ℕ) → IsRecord C P F → IsRecord C P G → within C P s u F ≡ true → within C P s u G ≡ true → F ≡ G
-
-module _ (C : Code) (P s u B : List ℕ) (photo : Photograph C P s u) (buffer : length B ≡ size C P) (one : AtMostOne C P s u) where
+module _ (C : Code) (P s u B : List ℕ) (photo : Photograph C P s u) (buffer : length B ≡ size C P) where
   clear : first (photoRows C P s u B) ≡ 0
   clear = photo-accepted C P s u B photo buffer
 
@@ -41,7 +37,7 @@ module _ (C : Code) (P s u B : List ℕ) (photo : Photograph C P s u) (buffer : 
 
   found : (F : List ℕ) → IsRecord C P F → costOf C P s u F < radius full C P →
       (readReading C P s u B ≡ readingOf C P s u F) × (readBuffer C P s u B ≡ F)
-  found F r l = let h = reads-the C P s u B clear one F r (near F l) in (sym (h .reading), sym (h .buffer))
+  found F r l = let h = reads-the C P s u B clear (at-most-one C P s u photo) F r (near F l) in (sym (h .reading), sym (h .buffer))
 
   -- the number stands in the reading
   number : readReading C P s u B .number ≡ readNumber C P s u B
@@ -69,7 +65,7 @@ module _ (C : Code) (P s u B : List ℕ) (photo : Photograph C P s u) (buffer : 
   pub nearest-one : Nearest C P s u B
   nearest-one = record {
     alone = λ F G r q n l. elim (decLt (costOf C P s u G) (radius full C P)) [
-      | yes m ↦ absurd (n (one F G r q (near F l) (near G m)))
+      | yes m ↦ absurd (n (at-most-one C P s u photo F G r q (near F l) (near G m)))
       | no m ↦ omega arith
     ];
     returned = found;

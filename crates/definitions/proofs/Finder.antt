@@ -6,7 +6,7 @@
 --   nowhere           the offset and the bytes of a refusal
 --   offset-found      a search that comes to plan k, and to none of the season before it, gives its offset
 --   first-of-season   what is found is the first plan of the season
---   found-part        the 24 bytes at its offset are in the file, and are its bytes
+--   found-part        the 40 bytes at its offset are in the file, and are its bytes
 --
 -- What this file is for: the finder's number by the row at which it stops, its offset by the plan at which it stops, and what
 -- they say to a user. Assumes nothing.
@@ -24,24 +24,24 @@ use borrow.Author.Tests.{eq-eqb, ne-eqb, eqb-true, eqb-false, not-false as passe
 use Rattle.bounded.specs.Bounded.{at, any}
 use Rattle.bounded.proofs.Any.{some-any, none-any}
 use Rattle.bounded.proofs.Index.{index-before, index-holds, index-within, index-is}
-use Rattle.definitions.specs.Plan.{season}
+use Rattle.definitions.specs.Plan.{planBytes, season}
 use Rattle.definitions.specs.Finder.{plans, planAt, ofSeason, firstPlan, findRows, findNumber, findOffset, findBytes}
 use Rattle.definitions.specs.Demands.{FoundExactly, FirstOfSeason}
 use Rattle.definitions.proofs.Refusals.{Stops, numberAt, first-at, first-clear, otherwise}
 use Rattle.definitions.proofs.Refusals.{equal, unequal, not-true, not-false}
 
 -- the season of plan k is in the bytes from its first on
-season-from : (file : List ℕ) (k : ℕ) → season (planAt file k) ≡ season (drop (k * 24) file)
+season-from : (file : List ℕ) (k : ℕ) → season (planAt file k) ≡ season (drop (k * planBytes) file)
 season-from file k = ap₂ (λ a b. a * 256 + b) (byte 0 tt) (byte 1 tt)
   where
-    byte : (i : ℕ) → T (ltb i 24) → at (planAt file k) i ≡ at (drop (k * 24) file) i
-    byte i l = getD-take 24 (drop (k * 24) file) i 0 (ltb→lt i 24 l)
+    byte : (i : ℕ) → T (ltb i planBytes) → at (planAt file k) i ≡ at (drop (k * planBytes) file) i
+    byte i l = getD-take planBytes (drop (k * planBytes) file) i 0 (ltb→lt i planBytes l)
 
-pub season-at : (file : List ℕ) (k : ℕ) → season (planAt file k) ≡ at file (k * 24) * 256 + at file (k * 24 + 1)
-season-at file k = season-from file k ∙ ap₂ (λ a b. a * 256 + b) (byte 0 ∙ ap (at file) (add-zero (k * 24))) (byte 1)
+pub season-at : (file : List ℕ) (k : ℕ) → season (planAt file k) ≡ at file (k * planBytes) * 256 + at file (k * planBytes + 1)
+season-at file k = season-from file k ∙ ap₂ (λ a b. a * 256 + b) (byte 0 ∙ ap (at file) (add-zero (k * planBytes))) (byte 1)
   where
-    byte : (i : ℕ) → at (drop (k * 24) file) i ≡ at file (k * 24 + i)
-    byte i = getD-drop (k * 24) file i 0
+    byte : (i : ℕ) → at (drop (k * planBytes) file) i ≡ at file (k * planBytes + i)
+    byte i = getD-drop (k * planBytes) file i 0
 
 module _ (file : List ℕ) (y : ℕ) where
   pub find-at : (i : ℕ) → Stops (findRows file y) i → numberAt (findRows file y) i ≡ findNumber file y
@@ -67,7 +67,7 @@ module _ (file : List ℕ) (y : ℕ) where
   nowhere h = (otherwise (findNumber file y) _ _ h, otherwise (findNumber file y) _ _ h)
 
   pub offset-found : (k : ℕ) → k < plans file → any k (ofSeason file y) ≡ false → season (planAt file k) ≡ y →
-      0 ≡ findNumber file y → k * 24 ≡ findOffset file y
+      0 ≡ findNumber file y → k * planBytes ≡ findOffset file y
   unfolding findOffset
   offset-found k l h s e = rw (← e, index-is (plans file) (ofSeason file y) k l h (eq-eqb _ _ s))
 
@@ -86,7 +86,7 @@ module _ (file : List ℕ) (y : ℕ) where
       within = index-within (plans file) (ofSeason file y) (passed _ (first-clear (findRows file y) tt e 1))
 
   pub found-part : {n a : ℕ} → n ≡ findNumber file y → n ≡ 0 → a ≡ findOffset file y →
-      (a + 24 ≤ length file) × (take (a + 24 - a) (drop a file) ≡ findBytes file y)
+      (a + planBytes ≤ length file) × (take (a + planBytes - a) (drop a file) ≡ findBytes file y)
   found-part {n} {a} e z o =
       let f = first-of-season (sym e ∙ z) in
-      (omega (arith, f .inside, f .offset), rw (add-sub-cancel-left a 24, o, f .offset) (sym (f .bytes)))
+      (omega (arith, f .inside, f .offset), rw (add-sub-cancel-left a planBytes, o, f .offset) (sym (f .bytes)))

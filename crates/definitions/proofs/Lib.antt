@@ -6,6 +6,7 @@ pub mod Sound
 pub mod Plan
 pub mod Photograph
 pub mod Nearest
+pub mod Unique
 pub mod Demands
 pub mod Counts
 pub mod Own

@@ -10,7 +10,7 @@ use mathlib.Core.Bool.{Bool, true, false, cond}
 use mathlib.Core.List.{List, _∷_, _++_}
 use Prim.Native.Nat.{ℕ, zero, suc, _+_, _*_, _-_, _≤_}
 use native.Mathlib.Omega.{arith}
-use native.Mathlib.Nat.{mul-le-mul, mul-le-mul-left, mul-le-mul-right}
+use native.Mathlib.Nat.{mul-le-mul, mul-le-mul-left}
 use lib.Dec.{eqb, ltb, le→leb}
 use lib.IntN.{pos, negsuc, negℤ}
 use lib.ListN.{replicate}
@@ -19,8 +19,10 @@ use Rattle.bounded.specs.Bounded.{at, tab}
 use Rattle.bounded.proofs.Sum.{sum-le, sum-const}
 use Rattle.definitions.specs.declared.Reading.{Reading}
 use Rattle.definitions.specs.Refusals.{accepted}
-use Rattle.definitions.specs.Plan.{side, degree}
-use Rattle.definitions.specs.Code.{square, cells, value}
+use Rattle.polynomial.specs.Sides.{least, others}
+use Rattle.polynomial.proofs.Known.{others-least}
+use Rattle.definitions.specs.Plan.{rows, columns, side, degree}
+use Rattle.definitions.specs.Code.{oblong, cells, value}
 use Rattle.definitions.specs.Cost.{full, radius, margin}
 use Rattle.distance.specs.Cost.{cell}
 use Rattle.polynomial.specs.Record.{longest}
@@ -48,42 +50,47 @@ cell-most f s u v h = go (eqb s v)
     go true = omega arith
     go false = omega arith
 
-module _ (P s u : List ℕ) (h : Photograph square P s u) where
-  cost-most : (F : List ℕ) → costOf square P s u F ≤ side P * side P * 200
+module _ (P s u : List ℕ) (h : Photograph oblong P s u) where
+  cost-most : (F : List ℕ) → costOf oblong P s u F ≤ rows P * columns P * 200
   cost-most F = omega (
     arith,
-    sum-le (cells square P) (λ c l. cell-most full (at s c) (at u c) (value square P F c) (h .doubt c l)),
-    sum-const (cells square P) 200,
+    sum-le (cells oblong P) (λ c l. cell-most full (at s c) (at u c) (value oblong P F c) (h .doubt c l)),
+    sum-const (cells oblong P) 200,
   )
 
-  photo-range : (F : List ℕ) → InRange (readingOf square P s u F .margin)
+  photo-range : (F : List ℕ) → InRange (readingOf oblong P s u F .margin)
   unfolding readingOf
   photo-range F =
       let S = h .sound in
-      let n : side P * side P ≤ 16 * side P = mul-le-mul-right (side P) (S .most) in
-      let k : side P * 1 ≤ side P * (side P - degree P) = mul-le-mul-left (side P) (omega (arith, S .low)) in
-      let r : side P - degree P ≤ 16 = omega (arith, S .most) in
-      let m : side P * (side P - degree P) ≤ 16 * 16 = mul-le-mul (S .most) r in
-      in-range (radius full square P) (costOf square P s u F) (omega arith) (omega (arith, cost-most F, S .most))
+      -- the larger side and the smaller
+      let M = others 1 (side P) in
+      let m = least 1 (side P) in
+      let large : M ≤ 16 = omega (arith, S .tall .most, S .wide .most) in
+      let small : m ≤ 16 = omega (arith, S .tall .most) in
+      let k : M * 1 ≤ M * (m - degree P) = mul-le-mul-left M (omega (arith, S .low)) in
+      let r : m - degree P ≤ 16 = omega arith in
+      let most : M * (m - degree P) ≤ 16 * 16 = mul-le-mul large r in
+      in-range (radius full oblong P) (costOf oblong P s u F) (omega arith)
+      (omega (arith, cost-most F, others-least 1 (side P), mul-le-mul-left M small))
 
 -- a refusal has the margin 0
 accepted-range : (k : ℕ) (r : Reading) → (k ≡ 0 → InRange (r .margin)) → InRange (accepted k r (refused k) .margin)
 accepted-range zero r h = h refl
 accepted-range (suc k) r h = (leZ-yes tt, leZ-yes tt)
 
-pub measured-range : (P s u F : List ℕ) → InRange (measureReading square P s u F .margin)
+pub measured-range : (P s u F : List ℕ) → InRange (measureReading oblong P s u F .margin)
 unfolding measureReading
-measured-range P s u F = accepted-range (measureNumber square P s u F) _ λ e.
-    photo-range P s u (accepted-measuring square P s u F e .0) F
+measured-range P s u F = accepted-range (measureNumber oblong P s u F) _ λ e.
+    photo-range P s u (accepted-measuring oblong P s u F e .0) F
 
-pub read-range : (P s u B : List ℕ) → InRange (readReading square P s u B .margin)
+pub read-range : (P s u B : List ℕ) → InRange (readReading oblong P s u B .margin)
 unfolding readReading
-read-range P s u B = accepted-range (readNumber square P s u B) _ λ e.
-    photo-range P s u (accepted-reading square P s u B e) (the (nearest square P s u))
+read-range P s u B = accepted-range (readNumber oblong P s u B) _ λ e.
+    photo-range P s u (accepted-reading oblong P s u B e) (the (nearest oblong P s u))
 
--- a plan of sixteen points and the degree d, and its records of zeros, whose values are 0
+-- a plan of sixteen points each way and the degree d, and its records of zeros, whose values are 0
 widest : ℕ → List ℕ
-widest d = 0 ∷ 12 ∷ 17 ∷ 16 ∷ d ∷ tab 16 (λ i. i) ++ sure 3
+widest d = 0 ∷ 12 ∷ 17 ∷ 16 ∷ 16 ∷ d ∷ tab 16 (λ i. i) ++ tab 16 (λ i. i) ++ sure 2
 
 pub lowest : Reached (negℤ (pos 49600))
 unfolding widest effect

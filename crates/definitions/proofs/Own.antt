@@ -21,8 +21,9 @@ use borrow.Author.Tests.{eq-eqb}
 use Rattle.bounded.specs.Bounded.{at, sum}
 use Rattle.bounded.proofs.Sum.{sum-eq, sum-const}
 use Rattle.bounded.proofs.Tab.{length-tab, tab-at}
+use Rattle.polynomial.specs.Sides.{least, others}
 use Rattle.definitions.specs.Plan.{side, degree}
-use Rattle.definitions.specs.Code.{Code, strip, square, cells, value, mark}
+use Rattle.definitions.specs.Code.{Code, strip, oblong, cells, value, mark}
 use Rattle.definitions.specs.Cost.{full, radius, margin}
 use Rattle.distance.specs.Cost.{cell, hamming}
 use Rattle.definitions.specs.Calls.{costOf, changedOf, unreadOf, readingOf, readReading, readBuffer}
@@ -84,9 +85,10 @@ module _ (P : List ℕ) (S : Sound P) where
 
   pub radius-positive : (C : Code) → 0 < radius full C P
   radius-positive strip = omega (arith, S .low)
-  radius-positive square = omega (
+  radius-positive oblong = omega (
     arith,
-    mul-le-mul {n₁ = 1} {m₁ = 1} {n₂ = side P} {m₂ = side P - degree P} (omega (arith, S .low)) (omega (arith, S .low)),
+    mul-le-mul {n₁ = 1} {m₁ = 1} {n₂ = others 1 (side P)} {m₂ = least 1 (side P) - degree P} (omega (arith, S .low))
+        (omega (arith, S .low)),
   )
 
   -- reading it back

@@ -6,7 +6,7 @@
 -- What this file is for: what a call that is not refused may rely on. Assumes nothing.
 use mathlib.Core.Path.{_≡_, refl, sym, ap, _∙_}
 use mathlib.Core.Logic.{_⊎_, inl, inr}
-use mathlib.Core.Bool.{Bool, true, false, not, _&&_, _||_, true≢false}
+use mathlib.Core.Bool.{Bool, true, false, not, _&&_, true≢false}
 use mathlib.Core.List.{List}
 use Prim.Native.Nat.{ℕ, zero, suc, _<_}
 use lib.Dec.{eqb, ltb, leb}
@@ -21,7 +21,7 @@ use Rattle.definitions.specs.Cost.{full, unread}
 use Rattle.definitions.specs.Calls.{strange, misdoubted, photoTests, photoRows}
 use Rattle.definitions.specs.Photograph.{Photograph}
 use Rattle.definitions.proofs.Sound.{checked, sound}
-use Rattle.definitions.proofs.Refusals.{first-append, first-at, first-clear, testAt, equal}
+use Rattle.definitions.proofs.Refusals.{first-append, first-at, first-clear, testAt, equal, neither}
 
 module _ (C : Code) (P s u B : List ℕ) where
   -- the rows after the plan's
@@ -35,10 +35,6 @@ module _ (C : Code) (P s u B : List ℕ) where
   both-false : (a b : Bool) → (a ≡ true → b ≡ false) → a && b ≡ false
   both-false true b h = h refl
   both-false false b h = refl
-
-  neither : (a b : Bool) → a || b ≡ false → (a ≡ false) × (b ≡ false)
-  neither true b e = absurd (true≢false e)
-  neither false b e = (refl, e)
 
   not-both : (a b : Bool) → a && b ≡ false → a ≡ true → b ≡ false
   not-both true b e h = e

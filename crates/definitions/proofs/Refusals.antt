@@ -7,24 +7,27 @@
 --   first-clear                   where the number is 0 every test is false
 --   Stops rows i, first-at        the tests before row i are false and its own is true; then its number is the first
 --   first-none, first-applies     0 where no row applies, else the number of one that does
---   rising k rows, first-lowest   where the numbers rise, from k on, it is the lowest
+--   ordered order k rows, first-earliest
+--                                 where the numbers stand in an order, from the k-th on, it is the earliest
 --   absent k rows, first-absent   a number that no row has is not the first
 --   otherwise                     what a refused call does: `accepted`, where the number is not 0
 --   equal, unequal                a code's test of two numbers
 --   answered, answered-not        a test that a function has answered
 --   not-true, not-false           a test turned round
+--   neither, nor                  a test of two parts that fails
 --
--- What this file is for: a call tests row by row and stops at the first that refuses: its number is the definition's, and the
--- lowest. Assumes nothing.
+-- What this file is for: a call tests row by row and stops at the first that refuses: its number is the definition's, and of those
+-- that apply the first in the table's order. Assumes nothing.
 use mathlib.Core.Path.{_≡_, refl, sym, ap, _∙_}
 use mathlib.Core.Logic.{_≢_, inl, inr}
-use mathlib.Core.Bool.{Bool, true, false, not, _&&_, false≢true}
+use mathlib.Core.Bool.{Bool, true, false, not, _&&_, _||_, false≢true, true≢false}
 use mathlib.Core.List.{List, [], _∷_, _++_}
 use Prim.Native.Nat.{ℕ, zero, suc, _≤_}
 use native.Mathlib.Omega.{arith}
+use native.Mathlib.Nat.{le-of-eq}
 use lib.Dec.{eqb, leb}
 use borrow.Author.Tests.{eq-eqb, ne-eqb, leb-true}
-use Rattle.definitions.specs.Refusals.{Refusal, _when_, first, Applies, Lowest, accepted}
+use Rattle.definitions.specs.Refusals.{Refusal, _when_, first, rank, Applies, Earliest, accepted}
 
 -- no row has the number 0
 abbrev pub Numbered : List Refusal → Type 0
@@ -99,31 +102,35 @@ first-applies [] n = n refl
 first-applies ((k when true) ∷ rows) n = inl (refl, refl)
 first-applies ((k when false) ∷ rows) n = inr (first-applies rows n)
 
--- the numbers rise from m on: none is below the one before it
-abbrev pub rising : ℕ → List Refusal → Bool
-rising m [] = true
-rising m ((k when b) ∷ rows) = leb m k && rising k rows
-
 both : (a b : Bool) → a && b ≡ true → (a ≡ true) × (b ≡ true)
 both true b e = (refl, e)
 both false b e = absurd (false≢true e)
 
-rising-least : (m : ℕ) (rows : List Refusal) → rising m rows ≡ true → (j : ℕ) → Applies rows j → m ≤ j
-rising-least m ((k when b) ∷ rows) r j (inl a) = omega (arith, leb-true m k (both (leb m k) (rising k rows) r .0), a .0)
-rising-least m ((k when b) ∷ rows) r j (inr a) =
-    let h = both (leb m k) (rising k rows) r in
-    omega (arith, leb-true m k (h .0), rising-least k rows (h .1) j a)
+module _ (order : List ℕ) where
+  -- the numbers of the rows stand in the order, from its m-th on: none is before the one ahead of it
+  abbrev pub ordered : ℕ → List Refusal → Bool
+  ordered m [] = true
+  ordered m ((k when b) ∷ rows) = leb m (rank order k) && ordered (rank order k) rows
 
-first-least : (m : ℕ) (rows : List Refusal) → rising m rows ≡ true → (j : ℕ) → Applies rows j → first rows ≤ j
-unfolding first
-first-least m ((k when true) ∷ rows) r j (inl a) = omega (arith, a .0)
-first-least m ((k when true) ∷ rows) r j (inr a) = rising-least k rows (both (leb m k) (rising k rows) r .1) j a
-first-least m ((k when false) ∷ rows) r j (inl a) = absurd (false≢true (a .1))
-first-least m ((k when false) ∷ rows) r j (inr a) = first-least k rows (both (leb m k) (rising k rows) r .1) j a
+  ordered-after : (m : ℕ) (rows : List Refusal) → ordered m rows ≡ true → (j : ℕ) → Applies rows j → m ≤ rank order j
+  ordered-after m ((k when b) ∷ rows) r j (inl a) =
+      let h = both (leb m (rank order k)) (ordered (rank order k) rows) r in
+      omega (arith, leb-true m (rank order k) (h .0), ap (rank order) (a .0))
+  ordered-after m ((k when b) ∷ rows) r j (inr a) =
+      let h = both (leb m (rank order k)) (ordered (rank order k) rows) r in
+      omega (arith, leb-true m (rank order k) (h .0), ordered-after (rank order k) rows (h .1) j a)
 
--- the first is the lowest
-pub first-lowest : (rows : List Refusal) → Numbered rows → rising 1 rows ≡ true → Lowest rows (first rows)
-first-lowest rows h r = record { none = first-none rows h; applies = first-applies rows; least = first-least 1 rows r }
+  first-before : (m : ℕ) (rows : List Refusal) → ordered m rows ≡ true → (j : ℕ) → Applies rows j →
+      rank order (first rows) ≤ rank order j
+  unfolding first
+  first-before m ((k when true) ∷ rows) r j (inl a) = le-of-eq (ap (rank order) (a .0))
+  first-before m ((k when true) ∷ rows) r j (inr a) = ordered-after (rank order k) rows (both (leb m (rank order k)) (ordered (rank order k) rows) r .1) j a
+  first-before m ((k when false) ∷ rows) r j (inl a) = absurd (false≢true (a .1))
+  first-before m ((k when false) ∷ rows) r j (inr a) = first-before (rank order k) rows (both (leb m (rank order k)) (ordered (rank order k) rows) r .1) j a
+
+  -- the first is the earliest
+  pub first-earliest : (rows : List Refusal) → Numbered rows → ordered 0 rows ≡ true → Earliest order rows (first rows)
+  first-earliest rows h r = record { none = first-none rows h; applies = first-applies rows; before = first-before 0 rows r }
 
 -- a number that no row has is not given
 abbrev pub absent : ℕ → List Refusal → Bool
@@ -160,3 +167,10 @@ not-true e = rw e
 
 pub not-false : {b : Bool} → b ≡ false → not b ≡ true
 not-false e = rw e
+
+pub neither : (a b : Bool) → a || b ≡ false → (a ≡ false) × (b ≡ false)
+neither true b e = absurd (true≢false e)
+neither false b e = (refl, e)
+
+pub nor : {a b : Bool} → a ≡ false → b ≡ false → a || b ≡ false
+nor e h = rw (e, h)

@@ -12,14 +12,15 @@ use mathlib.Core.List.{List}
 use Prim.Native.Nat.{ℕ, _+_, _-_, _≤_, _<_}
 use native.Mathlib.Omega.{arith}
 use native.Mathlib.Nat.{mul-le-mul}
+use lib.Dec.{eqb, ltb}
 use borrow.Author.Tests.{leb-false, ltb-false, eqb-true, eqb-false, not-false, lt-leb, le-ltb, ne-eqb}
 use Rattle.bounded.specs.Bounded.{at}
 use Rattle.bounded.proofs.Any.{any-none, none-any}
 use Rattle.field.proofs.Prime.{is-prime, prime-is}
-use Rattle.definitions.specs.Plan.{side, filled, planRows, checkNumber}
-use Rattle.definitions.specs.Code.{Code, strip, square, cells}
-use Rattle.definitions.specs.Sound.{Sound}
-use Rattle.definitions.proofs.Refusals.{testAt, first-clear, Stops, numberAt, first-at, equal, not-true}
+use Rattle.definitions.specs.Plan.{rows, columns, filled, large, unordered, unfit, misplaced, planRows, checkNumber}
+use Rattle.definitions.specs.Code.{Code, strip, oblong, cells}
+use Rattle.definitions.specs.Sound.{Fits, PointsFrom, Sound}
+use Rattle.definitions.proofs.Refusals.{testAt, first-clear, Stops, numberAt, first-at, equal, not-true, neither, nor}
 
 -- the n bytes from byte a on are 0
 zeros : (P : List ℕ) (a n : ℕ) → filled P a n ≡ false → (i : ℕ) → a ≤ i → i < a + n → at P i ≡ 0
@@ -33,27 +34,51 @@ filled-no P a n h = none-any _ _ λ i l.
     let z : at P (a + i) ≤ 0 = omega (arith, h (a + i) (omega arith) (omega arith)) in
     le-ltb _ _ z
 
+-- a side that fits, and one that a test finds unfit
+fits : (p n : ℕ) → unfit p n ≡ false → Fits p n
+fits p n h =
+    let (a, b) = neither (eqb n 0) _ h in
+    let (c, d) = neither (ltb 16 n) _ b in
+    record { some = eqb-false _ _ a; most = ltb-false _ _ c; room = ltb-false _ _ d }
+
+fitting : (p n : ℕ) → Fits p n → unfit p n ≡ false
+fitting p n F = nor (ne-eqb _ _ (F .some)) (nor (le-ltb _ _ (F .most)) (le-ltb _ _ (F .room)))
+
+-- the same of n points in the sixteen bytes from byte a on
+placed : (P : List ℕ) (a n : ℕ) → misplaced P a n ≡ false → PointsFrom P a n
+placed P a n h =
+    let (b, c) = neither (large P a n) _ h in
+    let (d, e) = neither (unordered P a (n - 1)) _ c in record {
+      below = λ i l. leb-false _ _ (any-none _ _ b i l);
+      rising = λ i l. leb-false _ _ (any-none _ _ d i (omega arith));
+      unused = λ i l m. zeros P (a + n) (16 - n) e (a + i) (omega arith) (omega arith);
+    }
+
+in-place : (P : List ℕ) (a n : ℕ) → n ≤ 16 → PointsFrom P a n → misplaced P a n ≡ false
+in-place P a n k F = nor (none-any _ _ λ i l. lt-leb _ _ (F .below i l))
+    (nor (none-any _ _ λ i l. lt-leb _ _ (F .rising i (omega arith))) (filled-no P (a + n) (16 - n) unused))
+  where
+    unused : (i : ℕ) → a + n ≤ i → i < a + n + (16 - n) → at P i ≡ 0
+    unused i l m =
+        let e : a + (i - a) ≡ i = omega arith in
+        omega (arith, F .unused (i - a) (omega arith) (omega arith), ap (at P) e)
+
 pub sound : (P : List ℕ) → checkNumber P ≡ 0 → Sound P
 unfolding checkNumber planRows
 sound P e = record {
   whole = eqb-true _ _ (not-false _ (c 0));
   prime = is-prime _ (not-false _ (c 2));
   small = ltb-false _ _ (c 3);
-  some = eqb-false _ _ (c 4);
-  most = ltb-false _ _ (c 5);
-  room = ltb-false _ _ (c 6);
-  low = leb-false _ _ (c 7);
-  below = λ i l. leb-false _ _ (any-none _ _ (c 8) i l);
-  rising = λ i l. leb-false _ _ (any-none _ _ (c 9) i (before i (side P) l));
-  unused = λ i l m. zeros P (5 + side P) (16 - side P) (c 10) (5 + i) (omega arith) (omega arith);
-  spare = λ i l m. zeros P 21 3 (c 1) i l m;
+  tall = fits _ _ (c 4);
+  wide = fits _ _ (c 5);
+  low = leb-false _ _ (c 6);
+  rowPoints = placed P 6 (rows P) (c 7);
+  columnPoints = placed P 22 (columns P) (c 8);
+  spare = λ i l m. zeros P 38 2 (c 1) i l m;
 }
   where
     c : (i : ℕ) → testAt (planRows P) i ≡ false
     c = first-clear (planRows P) tt e
-
-    before : (i n : ℕ) → i + 1 < n → i < n - 1
-    before i n l = omega arith
 
 pub check-at : (P : List ℕ) (i : ℕ) → Stops (planRows P) i → numberAt (planRows P) i ≡ checkNumber P
 unfolding checkNumber
@@ -66,25 +91,18 @@ a & b = (a, b)
 
 pub checked : (P : List ℕ) → Sound P → checkNumber P ≡ 0
 unfolding planRows
-checked P S = sym (check-at P 11 (
+checked P S = sym (check-at P 9 (
     equal _ _ (S .whole)
-    & filled-no P 21 3 (S .spare)
+    & filled-no P 38 2 (S .spare)
     & not-true (prime-is _ (S .prime))
     & le-ltb _ _ (S .small)
-    & ne-eqb _ _ (S .some)
-    & le-ltb _ _ (S .most)
-    & le-ltb _ _ (S .room)
+    & fitting _ _ (S .tall)
+    & fitting _ _ (S .wide)
     & lt-leb _ _ (S .low)
-    & none-any _ _ (λ i l. lt-leb _ _ (S .below i l))
-    & none-any _ _ (λ i l. lt-leb _ _ (S .rising i (omega arith)))
-    & filled-no P (5 + side P) (16 - side P) unused
+    & in-place P 6 (rows P) (S .tall .most) (S .rowPoints)
+    & in-place P 22 (columns P) (S .wide .most) (S .columnPoints)
     & tt))
-  where
-    unused : (i : ℕ) → 5 + side P ≤ i → i < 5 + side P + (16 - side P) → at P i ≡ 0
-    unused i l m =
-        let e : 5 + (i - 5) ≡ i = omega arith in
-        omega (arith, S .unused (i - 5) (omega arith) (omega (arith, S .most)), ap (at P) e)
 
 pub cells-most : (C : Code) {P : List ℕ} → Sound P → cells C P ≤ 256
-cells-most strip S = omega (arith, S .most)
-cells-most square {P} S = mul-le-mul {n₁ = side P} {m₁ = side P} {n₂ = 16} {m₂ = 16} (S .most) (S .most)
+cells-most strip S = omega (arith, S .tall .most)
+cells-most oblong {P} S = mul-le-mul {n₁ = rows P} {m₁ = columns P} {n₂ = 16} {m₂ = 16} (S .tall .most) (S .wide .most)

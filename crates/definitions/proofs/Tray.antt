@@ -11,60 +11,59 @@ use mathlib.Core.List.{List, _++_}
 use Prim.Native.Nat.{ℕ, zero, suc, _+_, _*_, _≤_, _<_}
 use native.Mathlib.Omega.{arith}
 use native.Mathlib.Decide.{decLe}
-use native.Mathlib.Nat.{mul-le-mul}
 use lib.ListN.{length, take, length-append, length-take, length-drop}
 use lib.Seq.{take-all, take-append-seam, take-take}
 use Rattle.definitions.specs.Refusals.{Refusal, first}
-use Rattle.definitions.specs.Plan.{modulus, checkNumber}
-use Rattle.definitions.specs.Code.{square, size, cells}
+use Rattle.definitions.specs.Plan.{planBytes, modulus, checkNumber}
+use Rattle.definitions.specs.Code.{oblong, size, cells}
 use Rattle.definitions.specs.Cost.{full}
 use Rattle.definitions.specs.Calls.{photoTests, photoRows}
 use Rattle.definitions.specs.Tray.{planOf, symbolsOf, doubtsOf, bufferOf, trayReading, HoldsFirst, longest}
 use Rattle.definitions.specs.Printed.{refusedLine, answerText, trayText}
 use Rattle.definitions.proofs.Refusals.{first-at, equal, unequal}
-use Rattle.definitions.proofs.Sound.{sound}
+use Rattle.definitions.proofs.Sound.{sound, cells-most}
 use Rattle.definitions.proofs.Nearest.{reads-refused}
 use Rattle.definitions.proofs.Accepted.{photo-refused, photo-passes}
 
 module _ (input : List ℕ) where
   abbrev n : ℕ
-  n = cells square (planOf input)
+  n = cells oblong (planOf input)
 
   abbrev tests : List Refusal
   tests = photoTests (modulus (planOf input)) full (symbolsOf input) (doubtsOf input) (bufferOf input) n
-      (size square (planOf input))
+      (size oblong (planOf input))
 
   abbrev number : ℕ
-  number = first (photoRows square (planOf input) (symbolsOf input) (doubtsOf input) (bufferOf input))
+  number = first (photoRows oblong (planOf input) (symbolsOf input) (doubtsOf input) (bufferOf input))
 
   photo-text : (k : ℕ) → k ≡ number → (k ≡ 0 → ⊥) → refusedLine k ≡ trayText input
   unfolding trayText answerText trayReading
   photo-text zero e h = absurd (h refl)
-  photo-text (suc k) e h = rw (← reads-refused square _ _ _ _ k (sym e) .reading)
+  photo-text (suc k) e h = rw (← reads-refused oblong _ _ _ _ k (sym e) .reading)
 
   -- the plan's own number, whatever follows
   pub plan-text : (k : ℕ) → k ≡ checkNumber (planOf input) → (k ≡ 0 → ⊥) → refusedLine k ≡ trayText input
-  plan-text k e h = photo-text k (photo-refused square _ _ _ _ k e h) h
+  plan-text k e h = photo-text k (photo-refused oblong _ _ _ _ k e h) h
 
   module _ (e : checkNumber (planOf input) ≡ 0) where
-    whole : 24 ≤ length input
+    whole : planBytes ≤ length input
     whole = omega (arith, simp length-take at (sound (planOf input) e .whole))
 
     -- another count of bytes after a sound plan: the symbols are short, or the doubts have another length
-    pub count-text : (length input ≡ 24 + 2 * cells square (planOf input) → ⊥) → refusedLine 6 ≡ trayText input
-    count-text h = go (decLe (24 + n) (length input))
+    pub count-text : (length input ≡ planBytes + 2 * cells oblong (planOf input) → ⊥) → refusedLine 6 ≡ trayText input
+    count-text h = go (decLe (planBytes + n) (length input))
       where
-        go : Dec (24 + n ≤ length input) → refusedLine 6 ≡ trayText input
+        go : Dec (planBytes + n ≤ length input) → refusedLine 6 ≡ trayText input
         go (yes l) =
             let a : length (symbolsOf input) ≡ n = simp (length-take, length-drop) (omega arith) in
             let b : length (doubtsOf input) ≡ n → ⊥ = simp length-drop (λ k. h (omega arith)) in
-            photo-text 6 (first-at tests 1 (equal _ _ a, unequal _ _ b) ∙ photo-passes square _ _ _ _ e) (λ k. omega arith)
+            photo-text 6 (first-at tests 1 (equal _ _ a, unequal _ _ b) ∙ photo-passes oblong _ _ _ _ e) (λ k. omega arith)
         go (no l) =
             let a : length (symbolsOf input) ≡ n → ⊥ = simp (length-take, length-drop) (λ k. omega (arith, whole)) in
-            photo-text 6 (first-at tests 0 (unequal _ _ a) ∙ photo-passes square _ _ _ _ e) (λ k. omega arith)
+            photo-text 6 (first-at tests 0 (unequal _ _ a) ∙ photo-passes oblong _ _ _ _ e) (λ k. omega arith)
 
     excess-text : longest < length input → refusedLine 6 ≡ trayText input
-    excess-text l = let m = sound (planOf input) e .most in count-text λ h. omega (arith, mul-le-mul m m)
+    excess-text l = count-text λ h. omega (arith, cells-most oblong (sound (planOf input) e))
 
 -- beyond the longest input only the plan counts
 long-text : (a b : List ℕ) → planOf a ≡ planOf b → longest < length a → longest < length b → trayText a ≡ trayText b
@@ -97,4 +96,4 @@ room-text input room came l h = rw (h .bytes) (go (decLe (length input) came))
     go (yes m) = rw (take-all came input m)
     go (no m) =
         let c : longest < came = omega (arith, h .count) in
-        long-text (take came input) input (take-take 24 came input (omega arith)) (simp length-take (omega arith)) (omega arith)
+        long-text (take came input) input (take-take planBytes came input (omega arith)) (simp length-take (omega arith)) (omega arith)

@@ -1,4 +1,5 @@
--- Cases a to l of the table "Edges" of document 01, unread cells counted apart as document 02 asks, as rows of one list.
+-- Cases a to l of the table "Edges" of document 01, with plans of 40 bytes and unread cells counted apart as document 02 asks, as
+-- rows of one list; the cases of oblong marks as those of another, and further ones.
 --
 --   call ⟹ reading leaving bytes    a call, what it returns, and what its last buffer then holds
 --   effect                           the same by the definitions
@@ -6,15 +7,15 @@
 -- What this file is for: the definitions are held against the document's own examples; proofs/Cases.antt computes both sides.
 use mathlib.Core.List.{List, [], _∷_, _++_}
 use Prim.Native.Nat.{ℕ}
-use lib.IntN.{pos}
-use lib.ListN.{replicate, drop, set}
+use lib.IntN.{pos, negℤ}
+use lib.ListN.{replicate, take, drop, set}
 use Rattle.bounded.specs.Bounded.{any, tab}
 use Rattle.field.specs.Prime.{isPrime}
 use Rattle.definitions.specs.declared.Reading.{Reading}
 use Rattle.definitions.specs.Refusals.{first}
 use Rattle.definitions.specs.Plan.{checkNumber, planRows}
-use Rattle.definitions.specs.Code.{Code, strip, square, mark}
-use Rattle.polynomial.specs.Record.{valueX, valueXY}
+use Rattle.definitions.specs.Code.{Code, strip, oblong, mark}
+use Rattle.polynomial.specs.Layout.{value}
 use Rattle.definitions.specs.Cost.{margin}
 use Rattle.definitions.specs.Photograph.{sure}
 use Rattle.definitions.specs.Search.{search, firstOf}
@@ -42,7 +43,7 @@ only k = record { number = k; cost = 0; margin = pos 0; changed = 0; unread = 0;
 
 -- whoever unfolds this computes with all that it names
 unfoldable pub effect : Call → Effect
-unfolding any tab first isPrime checkNumber planRows valueX valueXY mark margin search firstOf photoRows readingOf
+unfolding any tab first isPrime checkNumber planRows value mark margin search firstOf photoRows readingOf
     writeRows writeNumber writeBuffer measureRows measureNumber measureReading
     within nearest readRows readNumber readReading readBuffer
 effect (check P) = only (checkNumber P) leaving []
@@ -60,18 +61,36 @@ expected (c ⟹ o) = o
 abbrev gives : ℕ → ℕ → ℕ → ℕ → ℕ → Reading
 gives D z n m k = record { number = 0; cost = D; margin = pos z; changed = n; unread = m; class = k }
 
--- a plan of season 12: p, n, d and the first three point bytes
-abbrev plan : ℕ → ℕ → ℕ → ℕ → ℕ → ℕ → List ℕ
-plan p n d x y z = 0 ∷ 12 ∷ p ∷ n ∷ d ∷ x ∷ y ∷ z ∷ replicate 16 0
+-- sixteen bytes that begin with the points x
+abbrev sixteen : List ℕ → List ℕ
+sixteen x = take 16 (x ++ replicate 16 0)
+
+-- a cost above the radius: D, by how much, changed and class
+abbrev far : ℕ → ℕ → ℕ → ℕ → Reading
+far D z n k = record { number = 0; cost = D; margin = negℤ (pos z); changed = n; unread = 0; class = k }
+
+-- a plan of season 12 with a rows and b columns of the points x and y; and one of n points x each way
+abbrev plan : (p a b d : ℕ) (x y : List ℕ) → List ℕ
+plan p a b d x y = 0 ∷ 12 ∷ p ∷ a ∷ b ∷ d ∷ sixteen x ++ sixteen y ++ 0 ∷ 0 ∷ []
+
+abbrev even : (p n d : ℕ) (x : List ℕ) → List ℕ
+even p n d x = plan p n n d x x
 
 abbrev pub planA : List ℕ
-planA = plan 7 3 1 1 2 4
+planA = even 7 3 1 (1 ∷ 2 ∷ 4 ∷ [])
 
 abbrev planH : List ℕ
-planH = plan 2 1 0 0 0 0
+planH = even 2 1 0 (0 ∷ [])
 
 abbrev planJ : List ℕ
-planJ = plan 2 2 1 0 1 0
+planJ = even 2 2 1 (0 ∷ 1 ∷ [])
+
+-- two rows and three columns, and three rows and two columns
+abbrev pub planWide : List ℕ
+planWide = plan 7 2 3 1 (1 ∷ 3 ∷ []) (0 ∷ 2 ∷ 5 ∷ [])
+
+abbrev pub planTall : List ℕ
+planTall = plan 7 3 2 1 (0 ∷ 2 ∷ 5 ∷ []) (1 ∷ 3 ∷ [])
 
 -- 3 + X + 2Y, its mark, and the photographs of cases c and d
 abbrev record₁ : List ℕ
@@ -96,28 +115,71 @@ doubts k = replicate k 100 ++ drop k (sure 9)
 abbrev nines : ℕ → List ℕ
 nines n = replicate n 9
 
+-- the marks of the same record by the oblong plans
+abbrev pub markWide : List ℕ
+markWide = 4 ∷ 1 ∷ 0 ∷ 6 ∷ 3 ∷ 2 ∷ []
+
+abbrev markTall : List ℕ
+markTall = 5 ∷ 2 ∷ 0 ∷ 4 ∷ 3 ∷ 0 ∷ []
+
 abbrev pub cases : List Case
 cases =
-    (write square planA record₁ (nines 9) ⟹ only 0 leaving mark₁)  -- a
-    ∷ (read square planA mark₁ (sure 9) (nines 3) ⟹ gives 0 600 0 0 0 leaving record₁)  -- b
-    ∷ (read square planA photoC (sure 9) (nines 3) ⟹ gives 400 200 2 0 1 leaving record₁)  -- c
-    ∷ (read square planA photoD (sure 9) (nines 3) ⟹ only 10 leaving nines 3)  -- d
-    ∷ (read square planA photoD (1 ∷ 1 ∷ 1 ∷ sure 6) (nines 3) ⟹ gives 597 3 3 0 1 leaving record₁)  -- e
-    ∷ (read square planA (hidden 5) (doubts 5) (nines 3) ⟹ gives 500 100 0 5 0 leaving record₁)  -- f
-    ∷ (read square planA (hidden 6) (doubts 6) (nines 3) ⟹ only 10 leaving nines 3)  -- g
-    ∷ (read square planH (1 ∷ []) (99 ∷ []) (nines 1) ⟹ gives 99 1 0 0 0 leaving 1 ∷ [])  -- h
-    ∷ (read square planH (1 ∷ []) (100 ∷ []) (nines 1) ⟹ only 10 leaving nines 1)  -- i
-    ∷ (read square planJ (1 ∷ sure 3) (sure 4) (nines 3) ⟹ only 10 leaving nines 3)  -- j
-    ∷ (measure square planJ (1 ∷ sure 3) (sure 4) (0 ∷ 0 ∷ 0 ∷ []) ⟹ gives 200 0 1 0 1 leaving 0 ∷ 0 ∷ 0 ∷ [])
-    ∷ (measure square planJ (1 ∷ sure 3) (sure 4) (1 ∷ 1 ∷ 0 ∷ []) ⟹ gives 200 0 1 0 1 leaving 1 ∷ 1 ∷ 0 ∷ [])
-    ∷ (measure square planA photoD (sure 9) record₁ ⟹ gives 600 0 3 0 1 leaving record₁)  -- k
-    ∷ (check (plan 9 3 1 1 2 4) ⟹ only 2 leaving [])  -- l
-    ∷ (check (plan 7 3 3 1 2 4) ⟹ only 4 leaving [])
-    ∷ (check (plan 7 3 1 1 1 4) ⟹ only 5 leaving [])
+    (write oblong planA record₁ (nines 9) ⟹ only 0 leaving mark₁)  -- a
+    ∷ (read oblong planA mark₁ (sure 9) (nines 3) ⟹ gives 0 600 0 0 0 leaving record₁)  -- b
+    ∷ (read oblong planA photoC (sure 9) (nines 3) ⟹ gives 400 200 2 0 1 leaving record₁)  -- c
+    ∷ (read oblong planA photoD (sure 9) (nines 3) ⟹ only 10 leaving nines 3)  -- d
+    ∷ (read oblong planA photoD (1 ∷ 1 ∷ 1 ∷ sure 6) (nines 3) ⟹ gives 597 3 3 0 1 leaving record₁)  -- e
+    ∷ (read oblong planA (hidden 5) (doubts 5) (nines 3) ⟹ gives 500 100 0 5 0 leaving record₁)  -- f
+    ∷ (read oblong planA (hidden 6) (doubts 6) (nines 3) ⟹ only 10 leaving nines 3)  -- g
+    ∷ (read oblong planH (1 ∷ []) (99 ∷ []) (nines 1) ⟹ gives 99 1 0 0 0 leaving 1 ∷ [])  -- h
+    ∷ (read oblong planH (1 ∷ []) (100 ∷ []) (nines 1) ⟹ only 10 leaving nines 1)  -- i
+    ∷ (read oblong planJ (1 ∷ sure 3) (sure 4) (nines 3) ⟹ only 10 leaving nines 3)  -- j
+    ∷ (measure oblong planJ (1 ∷ sure 3) (sure 4) (0 ∷ 0 ∷ 0 ∷ []) ⟹ gives 200 0 1 0 1 leaving 0 ∷ 0 ∷ 0 ∷ [])
+    ∷ (measure oblong planJ (1 ∷ sure 3) (sure 4) (1 ∷ 1 ∷ 0 ∷ []) ⟹ gives 200 0 1 0 1 leaving 1 ∷ 1 ∷ 0 ∷ [])
+    ∷ (measure oblong planA photoD (sure 9) record₁ ⟹ gives 600 0 3 0 1 leaving record₁)  -- k
+    ∷ (check (even 9 3 1 (1 ∷ 2 ∷ 4 ∷ [])) ⟹ only 2 leaving [])  -- l
+    ∷ (check (even 7 3 3 (1 ∷ 2 ∷ 4 ∷ [])) ⟹ only 4 leaving [])
+    ∷ (check (even 7 3 1 (1 ∷ 1 ∷ 4 ∷ [])) ⟹ only 5 leaving [])
+    ∷ []
+
+-- oblong marks, with other points each way: written and read; wrong cells, one short of the radius and on it; a record measured;
+-- a strip, over the row points; degrees up to the smaller side, which is below the larger; columns that are none, 17, more than
+-- p; the order 3, 13, 4; points of the columns that are p, not rising, and unused; both point sets wrong; strips by a plan whose
+-- columns are unsound; bytes in the unused places of the rows of a wide plan and of the columns of a tall one
+abbrev pub oblongCases : List Case
+oblongCases =
+    (write oblong planWide record₁ (nines 6) ⟹ only 0 leaving markWide)
+    ∷ (write oblong planTall record₁ (nines 6) ⟹ only 0 leaving markTall)
+    ∷ (read oblong planWide markWide (sure 6) (nines 3) ⟹ gives 0 300 0 0 0 leaving record₁)
+    ∷ (read oblong planTall markTall (sure 6) (nines 3) ⟹ gives 0 300 0 0 0 leaving record₁)
+    ∷ (read oblong planWide (set markWide 5 4) (99 ∷ sure 5) (nines 3) ⟹ gives 299 1 1 0 1 leaving record₁)
+    ∷ (read oblong planWide (set markWide 5 4) (100 ∷ sure 5) (nines 3) ⟹ only 10 leaving nines 3)
+    ∷ (read oblong planTall (set markTall 1 4) (set (sure 6) 4 99) (nines 3) ⟹ gives 299 1 1 0 1 leaving record₁)
+    ∷ (read oblong planTall (set markTall 1 4) (set (sure 6) 4 100) (nines 3) ⟹ only 10 leaving nines 3)
+    ∷ (measure oblong planTall markWide (sure 6) record₁ ⟹ far 800 500 4 2 leaving record₁)
+    ∷ (write strip planWide (3 ∷ 1 ∷ []) (nines 2) ⟹ only 0 leaving 4 ∷ 6 ∷ [])
+    ∷ (read strip planTall (3 ∷ 5 ∷ 255 ∷ []) (0 ∷ 0 ∷ 100 ∷ []) (nines 2) ⟹ gives 100 100 0 1 0 leaving 3 ∷ 1 ∷ [])
+    ∷ (check (set planWide 5 2) ⟹ only 4 leaving [])
+    ∷ (check (set planTall 5 2) ⟹ only 4 leaving [])
+    ∷ (check (plan 7 3 4 2 (0 ∷ 1 ∷ 2 ∷ []) (0 ∷ 1 ∷ 2 ∷ 3 ∷ [])) ⟹ only 0 leaving [])
+    ∷ (check (set planWide 4 0) ⟹ only 13 leaving [])
+    ∷ (check (plan 19 1 17 0 (0 ∷ []) (1 ∷ 2 ∷ 4 ∷ [])) ⟹ only 13 leaving [])
+    ∷ (check (plan 2 2 3 1 (0 ∷ 1 ∷ []) (0 ∷ 1 ∷ [])) ⟹ only 13 leaving [])
+    ∷ (check (set (set planWide 4 0) 5 2) ⟹ only 13 leaving [])
+    ∷ (check (set (set planWide 3 0) 4 0) ⟹ only 3 leaving [])
+    ∷ (check (set planWide 24 7) ⟹ only 5 leaving [])
+    ∷ (check (set planWide 23 0) ⟹ only 5 leaving [])
+    ∷ (check (set planWide 25 1) ⟹ only 5 leaving [])
+    ∷ (check (set planWide 37 1) ⟹ only 5 leaving [])
+    ∷ (check (set (set planWide 6 7) 22 7) ⟹ only 5 leaving [])
+    ∷ (write strip (set planWide 4 0) (3 ∷ 1 ∷ []) (nines 2) ⟹ only 13 leaving nines 2)
+    ∷ (read strip (set planTall 22 4) (3 ∷ 5 ∷ 1 ∷ []) (sure 3) (nines 2) ⟹ only 5 leaving nines 2)
+    ∷ (check (set planWide 8 5) ⟹ only 5 leaving [])
+    ∷ (check (set planTall 24 5) ⟹ only 5 leaving [])
     ∷ []
 
 -- not of the table: a strip written and read, a plan with several faults at once, records of total degree 2, and of 3; each
--- of the bytes 21 to 23 filled; symbol and doubt wrong at once, doubt and coefficient wrong at once; an unread cell in doubt 99;
+-- of the bytes 38 and 39 filled; symbol and doubt wrong at once, doubt and coefficient wrong at once; an unread cell in doubt 99;
 -- p 1; n 0, n 17 and n above p; a point that is p, and an unused point byte that is not 0; a wrong cell and an unread one in a
 -- mark and in a strip, read and measured; an unread cell where the record's value is 0; the example of docs/SPECIFICATION.md;
 -- read cells in doubt 100, wrong and right; an unread first cell of a strip beside a wrong one in doubt 100; an unread last cell;
@@ -126,37 +188,36 @@ abbrev pub moreCases : List Case
 moreCases =
     (write strip planA (3 ∷ 1 ∷ []) (nines 3) ⟹ only 0 leaving 4 ∷ 5 ∷ 0 ∷ [])
     ∷ (read strip planA (4 ∷ 5 ∷ 255 ∷ []) (0 ∷ 0 ∷ 100 ∷ []) (nines 2) ⟹ gives 100 100 0 1 0 leaving 3 ∷ 1 ∷ [])
-    ∷ (check (plan 9 0 3 1 1 4) ⟹ only 2 leaving [])
-    ∷ (write square planA (3 ∷ 1 ∷ 7 ∷ []) (nines 8) ⟹ only 6 leaving nines 8)
-    ∷ (write square planA (3 ∷ 1 ∷ 7 ∷ []) (nines 9) ⟹ only 9 leaving nines 9)
-    ∷ (write square (plan 5 3 2 0 1 2) (1 ∷ 0 ∷ 0 ∷ 2 ∷ 3 ∷ 4 ∷ []) (nines 9)
+    ∷ (check (even 9 0 3 (1 ∷ 1 ∷ 4 ∷ [])) ⟹ only 2 leaving [])
+    ∷ (write oblong planA (3 ∷ 1 ∷ 7 ∷ []) (nines 8) ⟹ only 6 leaving nines 8)
+    ∷ (write oblong planA (3 ∷ 1 ∷ 7 ∷ []) (nines 9) ⟹ only 9 leaving nines 9)
+    ∷ (write oblong (even 5 3 2 (0 ∷ 1 ∷ 2 ∷ [])) (1 ∷ 0 ∷ 0 ∷ 2 ∷ 3 ∷ 4 ∷ []) (nines 9)
     ⟹ only 0 leaving 1 ∷ 0 ∷ 2 ∷ 3 ∷ 0 ∷ 0 ∷ 4 ∷ 4 ∷ 2 ∷ [])
-    ∷ (write square (set (plan 11 4 3 1 2 3) 8 5) (7 ∷ 1 ∷ 10 ∷ 2 ∷ 5 ∷ 3 ∷ 4 ∷ 9 ∷ 8 ∷ 6 ∷ []) (nines 16)
+    ∷ (write oblong (even 11 4 3 (1 ∷ 2 ∷ 3 ∷ 5 ∷ [])) (7 ∷ 1 ∷ 10 ∷ 2 ∷ 5 ∷ 3 ∷ 4 ∷ 9 ∷ 8 ∷ 6 ∷ []) (nines 16)
     ⟹ only 0 leaving 0 ∷ 0 ∷ 6 ∷ 4 ∷ 9 ∷ 10 ∷ 0 ∷ 3 ∷ 0 ∷ 9 ∷ 1 ∷ 1 ∷ 2 ∷ 4 ∷ 10 ∷ 2 ∷ [])
-    ∷ (check (set planA 21 1) ⟹ only 1 leaving [])
-    ∷ (check (set planA 22 1) ⟹ only 1 leaving [])
-    ∷ (check (set planA 23 1) ⟹ only 1 leaving [])
-    ∷ (read square planA (7 ∷ drop 1 mark₁) (101 ∷ sure 8) (nines 3) ⟹ only 7 leaving nines 3)
-    ∷ (measure square planA mark₁ (101 ∷ sure 8) (3 ∷ 1 ∷ 7 ∷ []) ⟹ only 8 leaving 3 ∷ 1 ∷ 7 ∷ [])
-    ∷ (read square planA (hidden 1) (99 ∷ sure 8) (nines 3) ⟹ only 8 leaving nines 3)
-    ∷ (check (plan 1 1 0 0 0 0) ⟹ only 2 leaving [])
-    ∷ (check (plan 7 0 0 0 0 0) ⟹ only 3 leaving [])
-    ∷ (check (plan 19 17 1 1 2 4) ⟹ only 3 leaving [])
-    ∷ (check (plan 2 3 1 0 1 0) ⟹ only 3 leaving [])
-    ∷ (check (plan 7 3 1 1 2 7) ⟹ only 5 leaving [])
-    ∷ (check (set planA 8 1) ⟹ only 5 leaving [])
-    ∷ (read square planA (0 ∷ 255 ∷ drop 2 mark₁) (0 ∷ 100 ∷ sure 7) (nines 3) ⟹ gives 300 300 1 1 1 leaving record₁)
-    ∷ (measure square planA (0 ∷ 255 ∷ drop 2 mark₁) (0 ∷ 100 ∷ sure 7) record₁ ⟹ gives 300 300 1 1 1 leaving record₁)
-    ∷ (read strip (plan 7 3 0 1 2 4) (5 ∷ 255 ∷ 4 ∷ []) (0 ∷ 100 ∷ 1 ∷ []) (nines 1) ⟹ gives 299 1 1 1 1 leaving 5 ∷ [])
-    ∷ (measure strip (plan 7 3 0 1 2 4) (5 ∷ 255 ∷ 4 ∷ []) (0 ∷ 100 ∷ 1 ∷ []) (5 ∷ []) ⟹ gives 299 1 1 1 1 leaving 5 ∷ [])
-    ∷ (read square planA (set mark₁ 3 255) (set (sure 9) 3 100) (nines 3) ⟹ gives 100 500 0 1 0 leaving record₁)
-    ∷ (read square planA (6 ∷ 1 ∷ 3 ∷ 0 ∷ 255 ∷ 6 ∷ 2 ∷ 0 ∷ 1 ∷ []) (0 ∷ 20 ∷ 0 ∷ 0 ∷ 100 ∷ 0 ∷ 0 ∷ 90 ∷ 5 ∷ []) (nines 3)
+    ∷ (check (set planA 38 1) ⟹ only 1 leaving [])
+    ∷ (check (set planA 39 1) ⟹ only 1 leaving [])
+    ∷ (read oblong planA (7 ∷ drop 1 mark₁) (101 ∷ sure 8) (nines 3) ⟹ only 7 leaving nines 3)
+    ∷ (measure oblong planA mark₁ (101 ∷ sure 8) (3 ∷ 1 ∷ 7 ∷ []) ⟹ only 8 leaving 3 ∷ 1 ∷ 7 ∷ [])
+    ∷ (read oblong planA (hidden 1) (99 ∷ sure 8) (nines 3) ⟹ only 8 leaving nines 3)
+    ∷ (check (even 1 1 0 (0 ∷ [])) ⟹ only 2 leaving [])
+    ∷ (check (even 7 0 0 []) ⟹ only 3 leaving [])
+    ∷ (check (even 19 17 1 (1 ∷ 2 ∷ 4 ∷ [])) ⟹ only 3 leaving [])
+    ∷ (check (even 2 3 1 (0 ∷ 1 ∷ [])) ⟹ only 3 leaving [])
+    ∷ (check (even 7 3 1 (1 ∷ 2 ∷ 7 ∷ [])) ⟹ only 5 leaving [])
+    ∷ (check (set planA 9 1) ⟹ only 5 leaving [])
+    ∷ (read oblong planA (0 ∷ 255 ∷ drop 2 mark₁) (0 ∷ 100 ∷ sure 7) (nines 3) ⟹ gives 300 300 1 1 1 leaving record₁)
+    ∷ (measure oblong planA (0 ∷ 255 ∷ drop 2 mark₁) (0 ∷ 100 ∷ sure 7) record₁ ⟹ gives 300 300 1 1 1 leaving record₁)
+    ∷ (read strip (even 7 3 0 (1 ∷ 2 ∷ 4 ∷ [])) (5 ∷ 255 ∷ 4 ∷ []) (0 ∷ 100 ∷ 1 ∷ []) (nines 1) ⟹ gives 299 1 1 1 1 leaving 5 ∷ [])
+    ∷ (measure strip (even 7 3 0 (1 ∷ 2 ∷ 4 ∷ [])) (5 ∷ 255 ∷ 4 ∷ []) (0 ∷ 100 ∷ 1 ∷ []) (5 ∷ []) ⟹ gives 299 1 1 1 1 leaving 5 ∷ [])
+    ∷ (read oblong planA (set mark₁ 3 255) (set (sure 9) 3 100) (nines 3) ⟹ gives 100 500 0 1 0 leaving record₁)
+    ∷ (read oblong planA (6 ∷ 1 ∷ 3 ∷ 0 ∷ 255 ∷ 6 ∷ 2 ∷ 0 ∷ 1 ∷ []) (0 ∷ 20 ∷ 0 ∷ 0 ∷ 100 ∷ 0 ∷ 0 ∷ 90 ∷ 5 ∷ []) (nines 3)
     ⟹ gives 435 165 2 1 1 leaving record₁)
-    ∷ (read square planA (0 ∷ drop 1 mark₁) (100 ∷ 100 ∷ sure 7) (nines 3) ⟹ gives 200 400 1 0 1 leaving record₁)
+    ∷ (read oblong planA (0 ∷ drop 1 mark₁) (100 ∷ 100 ∷ sure 7) (nines 3) ⟹ gives 200 400 1 0 1 leaving record₁)
     ∷ (measure strip planA (255 ∷ 5 ∷ 1 ∷ []) (100 ∷ 0 ∷ 100 ∷ []) (3 ∷ 1 ∷ []) ⟹ gives 200 0 1 1 1 leaving 3 ∷ 1 ∷ [])
-    ∷ (read square planA (set mark₁ 8 255) (set (sure 9) 8 100) (nines 3) ⟹ gives 100 500 0 1 0 leaving record₁)
-    ∷ (read square planA (hidden 1) (101 ∷ sure 8) (nines 3) ⟹ only 8 leaving nines 3)
-    ∷ (measure square (set (set (plan 7 5 0 0 1 2) 8 3) 9 4) (replicate 17 255 ++ replicate 4 4 ++ replicate 4 5)
+    ∷ (read oblong planA (set mark₁ 8 255) (set (sure 9) 8 100) (nines 3) ⟹ gives 100 500 0 1 0 leaving record₁)
+    ∷ (read oblong planA (hidden 1) (101 ∷ sure 8) (nines 3) ⟹ only 8 leaving nines 3)
+    ∷ (measure oblong (even 7 5 0 (0 ∷ 1 ∷ 2 ∷ 3 ∷ 4 ∷ [])) (replicate 17 255 ++ replicate 4 4 ++ replicate 4 5)
     (replicate 17 100 ++ sure 8) (5 ∷ []) ⟹ gives 2500 0 4 17 2 leaving 5 ∷ [])
-    ∷ (measure square planA (hidden 1) (doubts 1) (3 ∷ 1 ∷ 7 ∷ []) ⟹ only 9 leaving 3 ∷ 1 ∷ 7 ∷ [])
+    ∷ (measure oblong planA (hidden 1) (doubts 1) (3 ∷ 1 ∷ 7 ∷ []) ⟹ only 9 leaving 3 ∷ 1 ∷ 7 ∷ [])
     ∷ []

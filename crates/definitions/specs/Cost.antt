@@ -6,20 +6,21 @@
 --   unreadCell s           1 for a cell that was not read
 --   changed n s v          how many of n cells were read and have another symbol than the value
 --   unreadCells n s        how many of n cells were not read
---   radius f C P           R, for a strip f (n - d), for a square mark f n (n - d)
+--   radius f C P           R, the full doubt f times the distance of the code (crate `polynomial`, specs/Sides.antt)
 --   margin R D             the signed number R - D
 --   class n                by changed count: 0; 1 to 3; 4 to 15; 16 and more
 --
 -- What this file is for: how far is too far, and what is said of a record beside its cost.
 use mathlib.Core.Bool.{cond}
 use mathlib.Core.List.{List}
-use Prim.Native.Nat.{ℕ, _*_, _-_}
+use Prim.Native.Nat.{ℕ, _*_}
 use lib.Dec.{eqb, ltb}
 use lib.IntN.{ℤ, pos, _-ℤ_}
 use Rattle.bounded.specs.Bounded.{sum}
 use Rattle.distance.specs.Cost.{differ}
+use Rattle.polynomial.specs.Sides.{distance}
 use Rattle.definitions.specs.Plan.{side, degree}
-use Rattle.definitions.specs.Code.{Code, strip, square}
+use Rattle.definitions.specs.Code.{Code, more}
 
 abbrev pub full : ℕ
 full = 100
@@ -40,8 +41,7 @@ abbrev pub unreadCells : (n : ℕ) (s : ℕ → ℕ) → ℕ
 unreadCells n s = sum n λ c. unreadCell (s c)
 
 abbrev pub radius : ℕ → Code → List ℕ → ℕ
-radius f strip P = f * (side P - degree P)
-radius f square P = f * side P * (side P - degree P)
+radius f C P = f * distance (more C) (side P) (degree P)
 
 unfoldable pub margin : (R D : ℕ) → ℤ
 margin R D = pos R -ℤ pos D

@@ -3,39 +3,47 @@
 --
 --   RefusalsKeep            demand 1: a refused call gives its number and zeros or an empty part, and leaves the buffer lent for
 --                           its result
+--   Shapes P                a strip has a cell for each row point and d + 1 coefficients, and its limit is 100 (rows - d); a mark
+--                           has rows times columns cells, and its limit is 100 times the larger side times (the smaller - d)
 --   Written C P F b         demand 2: in b each cell has the value, modulo p, of the polynomial of F at its row and column
---                           points, or of a strip at its point
+--                           points, or of a strip at its row point
 --   RoundTrip C P F B B′    demand 2: reading what was written of F into B, with all doubts 0, gives F into B′ at cost 0, with
 --                           the whole limit as the margin; so does measuring
 --   Weighed C P s u F r     demand 2: the reading r of the record F has as its cost 200 times the published distance, and as its
 --                           margin the limit less the cost
 --   Nearest C P s u B       demand 3: at most one record of the plan costs under the limit, the reading is that one with its
---                           cost, and it is 10 exactly when there is none. The limit is the radius: 100 n (n - d) for a
---                           mark, 100 (n - d) for a strip
+--                           cost, and it is 10 exactly when there is none. The limit is the radius, `Shapes`
 --   UnreadCosts C P s u F   an unread cell costs 100
 --   MarkMargins             a mark's margin is from -49,600 to 25,600, and both ends are reached
---   LowestGiven             the lowest number that applies is given, over those that concern the call
+--   LowestGiven             the number that is given is the first in the table's order of those that apply and concern the call;
+--                           in widening 11 stands before 6, since without whole plans no length of the buffer is right
 --   Measures C P s u F      measuring never gives 10: every record of a photograph's plan is measured, whatever its margin
---   FoundExactly file y     the finder gives 11 where the file's length is no multiple of 24, else 0 where some plan of the file
+--   FoundExactly file y     the finder gives 11 where the file's length is no multiple of 40, else 0 where some plan of the file
 --                           has the season y, else 12
 --   FirstOfSeason file y    what it finds is a whole plan of the file, with the season y, and no plan before it has that season
 --   GroupsFill d            the groups of degrees 0 to d fill the K = (d + 1)(d + 2)/2 places of a record one after another,
 --                           with no gap and no overlap
+--   Widened Q               the plan Q of 24 bytes, widened, has its season, modulus and degree, and its points each way; it has
+--                           the number of Q, but that bytes 21 to 23 of Q no longer count
+--   WidenedInOrder old      plan k of all that are widened is plan k of the bytes old, widened
 --
 -- Signed numbers are the kit's (lib.IntN, lib.Signed): pos n is n, negℤ (pos n) is -n, ≤ℤ their order.
 -- What this file is for: the sentences that a user relies on, each as one statement whose parts are named.
 use mathlib.Core.Path.{_≡_}
-use mathlib.Core.List.{List, []}
+use mathlib.Core.Bool.{false}
+use mathlib.Core.List.{List, [], _∷_}
 use mathlib.Core.Logic.{_≢_, _↔_}
-use Prim.Native.Nat.{ℕ, _+_, _*_, _-_, _/_, _%_, _^_, _≤_, _<_}
+use Prim.Native.Nat.{ℕ, _+_, _*_, _-_, _/_, _%_, _^_, _≤_, _<_, min, max}
 use lib.IntN.{ℤ, pos, negℤ, _-ℤ_}
 use lib.Signed.{_≤ℤ_}
 use lib.ListN.{length, take, drop}
 use Rattle.bounded.specs.Bounded.{at, sum}
 use Rattle.definitions.specs.declared.Reading.{Reading}
-use Rattle.definitions.specs.Refusals.{Lowest}
-use Rattle.definitions.specs.Plan.{season, modulus, side, degree, point, planRows, checkNumber}
-use Rattle.definitions.specs.Code.{Code, strip, square, size, cells, value}
+use Rattle.definitions.specs.Refusals.{table, Earliest}
+use Rattle.definitions.specs.Plan.{planBytes, season, modulus, rows, columns, degree, rowPoint, columnPoint}
+use Rattle.definitions.specs.Plan.{filled, planRows, checkNumber}
+use Rattle.definitions.specs.Code.{Code, strip, oblong, size, cells, value}
+use Rattle.polynomial.specs.Layout.{value as valueAt}
 use Rattle.polynomial.specs.Record.{start, valueX, valueXY}
 use Rattle.definitions.specs.Cost.{full, unread, radius}
 use Rattle.distance.specs.Cost.{cell}
@@ -47,6 +55,8 @@ use Rattle.definitions.specs.Calls.{readRows, readNumber, readReading, r
 use Rattle.definitions.specs.Finder.{findRows, findNumber, findOffset, findBytes}
 use Rattle.definitions.specs.Code.{IsRecord}
 use Rattle.definitions.specs.Photograph.{Photograph, sure}
+use Rattle.definitions.specs.Widening.{narrowBytes, narrowPlan, widened, widenedAll, widenRows, widenNumber, widenBuffer}
+use Rattle.definitions.specs.Widening.{narrowNumber, cleared}
 
 pub record RefusalsKeep : Type 0 where
   pub write : (C : Code) (P F B : List ℕ) → writeNumber C P F B ≢ 0 → writeBuffer C P F B ≡ B
@@ -55,11 +65,19 @@ pub record RefusalsKeep : Type 0 where
   pub read : (C : Code) (P s u B : List ℕ) → readNumber C P s u B ≢ 0 →
       (readReading C P s u B ≡ calls.refused (readNumber C P s u B)) × (readBuffer C P s u B ≡ B)
   pub find : (file : List ℕ) (y : ℕ) → findNumber file y ≢ 0 → (findOffset file y ≡ 0) × (findBytes file y ≡ [])
+  pub widen : (old wide : List ℕ) → widenNumber old wide ≢ 0 → widenBuffer old wide ≡ wide
+
+pub record Shapes (P : List ℕ) : Type 0 where
+  pub stripCells : cells strip P ≡ rows P
+  pub stripSize : size strip P ≡ degree P + 1
+  pub stripLimit : radius full strip P ≡ 100 * (rows P - degree P)
+  pub markCells : cells oblong P ≡ rows P * columns P
+  pub markLimit : radius full oblong P ≡ 100 * (max (rows P) (columns P) * (min (rows P) (columns P) - degree P))
 
 abbrev pub Written : Code → (P F b : List ℕ) → Type 0
-Written strip P F b = (length b ≡ side P) × ((j : ℕ) → j < side P → at b j ≡ valueX (modulus P) (degree P) F (point P j))
-Written square P F b = (length b ≡ side P * side P)
-    × ((i j : ℕ) → i < side P → j < side P → at b (i * side P + j) ≡ valueXY (modulus P) (degree P) F (point P i) (point P j))
+Written strip P F b = (length b ≡ rows P) × ((i : ℕ) → i < rows P → at b i ≡ valueX (modulus P) (degree P) F (rowPoint P i))
+Written oblong P F b = (length b ≡ rows P * columns P) × ((i j : ℕ) → i < rows P → j < columns P →
+    at b (i * columns P + j) ≡ valueXY (modulus P) (degree P) F (rowPoint P i) (columnPoint P j))
 
 -- what is said of a record whose mark was read as it was written
 abbrev pub clean : Code → List ℕ → Reading
@@ -105,42 +123,43 @@ pub record Reached (z : ℤ) : Type 0 where
   pub s : List ℕ
   pub u : List ℕ
   pub F : List ℕ
-  pub accepted : measureNumber square P s u F ≡ 0
-  pub margin : measureReading square P s u F .margin ≡ z
+  pub accepted : measureNumber oblong P s u F ≡ 0
+  pub margin : measureReading oblong P s u F .margin ≡ z
 
 pub record MarkMargins : Type 0 where
-  pub measured : (P s u F : List ℕ) → InRange (measureReading square P s u F .margin)
-  pub read : (P s u B : List ℕ) → InRange (readReading square P s u B .margin)
+  pub measured : (P s u F : List ℕ) → InRange (measureReading oblong P s u F .margin)
+  pub read : (P s u B : List ℕ) → InRange (readReading oblong P s u B .margin)
   pub lowest : Reached (negℤ (pos 49600))
   pub highest : Reached (pos 25600)
 
 pub record LowestGiven : Type 0 where
-  pub check : (P : List ℕ) → Lowest (planRows P) (checkNumber P)
-  pub write : (C : Code) (P F B : List ℕ) → Lowest (writeRows C P F B) (writeNumber C P F B)
-  pub measure : (C : Code) (P s u F : List ℕ) → Lowest (measureRows C P s u F) (measureNumber C P s u F)
-  pub read : (C : Code) (P s u B : List ℕ) → Lowest (readRows C P s u B) (readNumber C P s u B)
-  pub find : (file : List ℕ) (season : ℕ) → Lowest (findRows file season) (findNumber file season)
+  pub check : (P : List ℕ) → Earliest table (planRows P) (checkNumber P)
+  pub write : (C : Code) (P F B : List ℕ) → Earliest table (writeRows C P F B) (writeNumber C P F B)
+  pub measure : (C : Code) (P s u F : List ℕ) → Earliest table (measureRows C P s u F) (measureNumber C P s u F)
+  pub read : (C : Code) (P s u B : List ℕ) → Earliest table (readRows C P s u B) (readNumber C P s u B)
+  pub find : (file : List ℕ) (season : ℕ) → Earliest table (findRows file season) (findNumber file season)
+  pub widen : (old wide : List ℕ) → Earliest (11 ∷ 6 ∷ []) (widenRows old wide) (widenNumber old wide)
 
 pub record Measures (C : Code) (P s u F : List ℕ) : Type 0 where
   pub never : measureNumber C P s u F ≢ 10
   pub each : Photograph C P s u → IsRecord C P F → measureNumber C P s u F ≡ 0
 
--- a plan of the file begins at k * 24, and its season is in the first two bytes there
+-- a plan of the file begins at k * 40, and its season is in the first two bytes there
 pub record FoundExactly (file : List ℕ) (y : ℕ) : Type 0 where
-  pub broken : length file % 24 ≢ 0 → findNumber file y ≡ 11
-  pub found : length file % 24 ≡ 0 → (k : ℕ) → k * 24 < length file → season (drop (k * 24) file) ≡ y → findNumber file y ≡ 0
-  pub absent : length file % 24 ≡ 0 → ((k : ℕ) → k * 24 < length file → season (drop (k * 24) file) ≢ y) →
+  pub broken : length file % 40 ≢ 0 → findNumber file y ≡ 11
+  pub found : length file % 40 ≡ 0 → (k : ℕ) → k * 40 < length file → season (drop (k * 40) file) ≡ y → findNumber file y ≡ 0
+  pub absent : length file % 40 ≡ 0 → ((k : ℕ) → k * 40 < length file → season (drop (k * 40) file) ≢ y) →
       findNumber file y ≡ 12
 
 pub record FirstOfSeason (file : List ℕ) (y : ℕ) : Type 0 where
   -- it is plan k, whole
   pub k : ℕ
-  pub offset : findOffset file y ≡ k * 24
-  pub inside : k * 24 + 24 ≤ length file
-  pub bytes : findBytes file y ≡ take 24 (drop (k * 24) file)
+  pub offset : findOffset file y ≡ k * 40
+  pub inside : k * 40 + 40 ≤ length file
+  pub bytes : findBytes file y ≡ take 40 (drop (k * 40) file)
   -- which has the season, and no plan before it has
   pub same : season (findBytes file y) ≡ y
-  pub before : (i : ℕ) → i < k → season (drop (i * 24) file) ≢ y
+  pub before : (i : ℕ) → i < k → season (drop (i * 40) file) ≢ y
 
 -- K, the number of a record's places
 abbrev pub places : ℕ → ℕ
@@ -149,7 +168,7 @@ places d = (d + 1) * (d + 2) / 2
 -- the group of degree k has the k + 1 places from start k on
 pub record GroupsFill (d : ℕ) : Type 0 where
   -- K is the length that the calls ask of a record, for every plan of the degree d
-  pub asked : (P : List ℕ) → degree P ≡ d → size square P ≡ places d
+  pub asked : (P : List ℕ) → degree P ≡ d → size oblong P ≡ places d
   -- the first group begins at the first place, and each other one where the group before it ends
   pub first : start 0 ≡ 0
   pub next : (k : ℕ) → start (k + 1) ≡ start k + (k + 1)
@@ -160,5 +179,26 @@ pub record GroupsFill (d : ℕ) : Type 0 where
   -- and no overlap: no place is in two groups
   pub apart : (k j l i : ℕ) → j ≤ k → i ≤ l → start k + j ≡ start l + i → (k ≡ l) × (j ≡ i)
   -- within a group by rising power of Y: what stands at start k + j goes with X^(k - j) Y^j
-  pub holds : (p : ℕ) (F : List ℕ) (x y : ℕ) →
-      valueXY p d F x y ≡ sum (d + 1) (λ k. sum (k + 1) λ j. at F (start k + j) * (x ^ (k - j) * y ^ j)) % p
+  pub holds : (p : ℕ) (F : List ℕ) (z : ℕ → ℕ) →
+      valueAt 1 p d F z ≡ sum (d + 1) (λ k. sum (k + 1) λ j. at F (start k + j) * (z 0 ^ (k - j) * z 1 ^ j)) % p
+
+-- Q has 24 bytes, and they may be any
+pub record Widened (Q : List ℕ) : Type 0 where
+  pub whole : length (widened Q) ≡ planBytes
+  pub sameSeason : season (widened Q) ≡ season Q
+  pub sameModulus : modulus (widened Q) ≡ modulus Q
+  pub tall : rows (widened Q) ≡ at Q 3
+  pub wide : columns (widened Q) ≡ at Q 3
+  pub sameDegree : degree (widened Q) ≡ at Q 4
+  pub rowPoints : (i : ℕ) → i < 16 → rowPoint (widened Q) i ≡ at Q (5 + i)
+  pub columnPoints : (i : ℕ) → i < 16 → columnPoint (widened Q) i ≡ at Q (5 + i)
+  -- a plan that was sound stays sound
+  pub kept : narrowNumber Q ≡ 0 → checkNumber (widened Q) ≡ 0
+  -- one that was not keeps its number, if its bytes 21 to 23 are 0
+  pub refused : filled Q 21 3 ≡ false → checkNumber (widened Q) ≡ narrowNumber Q
+  -- and whatever they are, it gets the number that it had with them 0
+  pub number : checkNumber (widened Q) ≡ narrowNumber (cleared Q)
+
+pub record WidenedInOrder (old : List ℕ) : Type 0 where
+  pub whole : length (widenedAll old) ≡ length old / 24 * 40
+  pub each : (k : ℕ) → k < length old / 24 → take 40 (drop (k * 40) (widenedAll old)) ≡ widened (narrowPlan old k)

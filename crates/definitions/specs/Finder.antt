@@ -1,6 +1,6 @@
 -- Finding a season's plan in a plan file: the first in file order. Everything is decided from the file and the season alone.
 --
---   plans file, planAt file k     how many plans the file has, and plan k: 24 bytes at k * 24
+--   plans file, planAt file k     how many plans the file has, and plan k: 40 bytes at k * 40
 --   ofSeason, firstPlan           that a plan has the season, and which is the first that has, counted from 0
 --   findRows, findNumber          refusals 11 and 12; 0 where neither applies
 --   findOffset                    where the first plan of the season begins in the file, and 0 on a refusal
@@ -17,13 +17,13 @@ use lib.Dec.{eqb}
 use lib.ListN.{length, take, drop}
 use Rattle.bounded.specs.Bounded.{any, index}
 use Rattle.definitions.specs.Refusals.{Refusal, _when_, first, accepted}
-use Rattle.definitions.specs.Plan.{season}
+use Rattle.definitions.specs.Plan.{planBytes, season}
 
 abbrev pub plans : List ℕ → ℕ
-plans file = length file / 24
+plans file = length file / planBytes
 
 abbrev pub planAt : List ℕ → ℕ → List ℕ
-planAt file k = take 24 (drop (k * 24) file)
+planAt file k = take planBytes (drop (k * planBytes) file)
 
 abbrev pub ofSeason : List ℕ → (y k : ℕ) → Bool
 ofSeason file y k = eqb (season (planAt file k)) y
@@ -33,7 +33,7 @@ firstPlan file y = index (plans file) (ofSeason file y)
 
 unfoldable pub findRows : List ℕ → ℕ → List Refusal
 findRows file y =
-    (11 when not (eqb (length file % 24) 0))
+    (11 when not (eqb (length file % planBytes) 0))
     ∷ (12 when not (any (plans file) (ofSeason file y)))
     ∷ []
 
@@ -41,7 +41,7 @@ unfoldable pub findNumber : List ℕ → ℕ → ℕ
 findNumber file y = first (findRows file y)
 
 unfoldable pub findOffset : List ℕ → ℕ → ℕ
-findOffset file y = accepted (findNumber file y) (firstPlan file y * 24) 0
+findOffset file y = accepted (findNumber file y) (firstPlan file y * planBytes) 0
 
 unfoldable pub findBytes : List ℕ → ℕ → List ℕ
 findBytes file y = accepted (findNumber file y) (planAt file (firstPlan file y)) []

@@ -9,6 +9,7 @@ pub mod Calls
 pub mod Finder
 pub mod Tray
 pub mod Printed
+pub mod Widening
 pub mod Cases
 pub mod Sound
 pub mod Photograph

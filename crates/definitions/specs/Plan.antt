@@ -1,18 +1,29 @@
--- "The season plan": a record of 24 bytes, here P.
+-- "The season plan": a record of 40 bytes, here P. X takes the row points, and every other coordinate the column points.
 --
---   season, modulus, side, degree, point   the fields: season, p, n, d, and the i-th of the n points, counted from 0
---   planRows       refusals 1 to 5, in the table's order
---   checkNumber    what checking a plan returns; a plan is sound where it is 0
+--   planBytes                 the length of a plan
+--   season, modulus, degree   the season, p and d
+--   rows, columns             how many points there are each way
+--   rowPoint, columnPoint     the i-th row point and the j-th column point, counted from 0
+--   side P i, point P i j     how many points coordinate i has, and the j-th of them; X is coordinate 0
+--   filled, large, unordered  what is wrong with n bytes from byte a on: one is not 0; one is p or more; of n + 1, one after the
+--                             first is not above the one before it
+--   unfit p n                 refusals 3 and 13, of n points
+--   misplaced P a n           refusal 5, of n points in the sixteen bytes from byte a on
+--   planRows                  refusals 1 to 5 and 13, in the table's order
+--   checkNumber               what checking a plan returns; a plan is sound where it is 0
 --
 -- What this file is for: which plans are sound, and which number an unsound one gets.
-use mathlib.Core.Bool.{Bool, not}
+use mathlib.Core.Bool.{Bool, not, _||_}
 use mathlib.Core.List.{List, [], _∷_}
-use Prim.Native.Nat.{ℕ, _+_, _*_, _-_}
+use Prim.Native.Nat.{ℕ, zero, suc, _+_, _*_, _-_, min}
 use lib.Dec.{eqb, ltb, leb}
 use lib.ListN.{length}
 use Rattle.bounded.specs.Bounded.{at, any}
 use Rattle.field.specs.Prime.{isPrime}
 use Rattle.definitions.specs.Refusals.{Refusal, _when_, first}
+
+abbrev pub planBytes : ℕ
+planBytes = 40
 
 abbrev pub season : List ℕ → ℕ
 season P = at P 0 * 256 + at P 1
@@ -20,40 +31,57 @@ season P = at P 0 * 256 + at P 1
 abbrev pub modulus : List ℕ → ℕ
 modulus P = at P 2
 
-abbrev pub side : List ℕ → ℕ
-side P = at P 3
+abbrev pub rows : List ℕ → ℕ
+rows P = at P 3
+
+abbrev pub columns : List ℕ → ℕ
+columns P = at P 4
 
 abbrev pub degree : List ℕ → ℕ
-degree P = at P 4
+degree P = at P 5
 
-abbrev pub point : List ℕ → ℕ → ℕ
-point P i = at P (5 + i)
+abbrev pub rowPoint : List ℕ → ℕ → ℕ
+rowPoint P i = at P (6 + i)
 
--- one of the n bytes from byte a on is not 0
+abbrev pub columnPoint : List ℕ → ℕ → ℕ
+columnPoint P j = at P (22 + j)
+
+abbrev pub side : List ℕ → ℕ → ℕ
+side P zero = rows P
+side P (suc i) = columns P
+
+abbrev pub point : List ℕ → ℕ → ℕ → ℕ
+point P zero = rowPoint P
+point P (suc i) = columnPoint P
+
 abbrev pub filled : List ℕ → (a n : ℕ) → Bool
 filled P a n = any n λ i. ltb 0 (at P (a + i))
 
--- one of the first n points is p or more
-abbrev pub large : List ℕ → ℕ → Bool
-large P n = any n λ i. leb (modulus P) (point P i)
+abbrev pub large : List ℕ → (a n : ℕ) → Bool
+large P a n = any n λ i. leb (modulus P) (at P (a + i))
 
--- one of the n points after the first is not above the one before it
-abbrev pub unordered : List ℕ → ℕ → Bool
-unordered P n = any n λ i. leb (point P (i + 1)) (point P i)
+abbrev pub unordered : List ℕ → (a n : ℕ) → Bool
+unordered P a n = any n λ i. leb (at P (a + (i + 1))) (at P (a + i))
+
+-- none, above 16, or more than p
+abbrev pub unfit : (p n : ℕ) → Bool
+unfit p n = eqb n 0 || (ltb 16 n || ltb p n)
+
+-- a point is p or more, or not above the one before it, or an unused byte is not 0
+abbrev pub misplaced : List ℕ → (a n : ℕ) → Bool
+misplaced P a n = large P a n || (unordered P a (n - 1) || filled P (a + n) (16 - n))
 
 unfoldable pub planRows : List ℕ → List Refusal
 planRows P =
-    (1 when not (eqb (length P) 24))
-    ∷ (1 when filled P 21 3)
+    (1 when not (eqb (length P) planBytes))
+    ∷ (1 when filled P 38 2)
     ∷ (2 when not (isPrime (modulus P)))
     ∷ (2 when ltb 251 (modulus P))
-    ∷ (3 when eqb (side P) 0)
-    ∷ (3 when ltb 16 (side P))
-    ∷ (3 when ltb (modulus P) (side P))
-    ∷ (4 when leb (side P) (degree P))
-    ∷ (5 when large P (side P))
-    ∷ (5 when unordered P (side P - 1))
-    ∷ (5 when filled P (5 + side P) (16 - side P))
+    ∷ (3 when unfit (modulus P) (rows P))
+    ∷ (13 when unfit (modulus P) (columns P))
+    ∷ (4 when leb (min (rows P) (columns P)) (degree P))
+    ∷ (5 when misplaced P 6 (rows P))
+    ∷ (5 when misplaced P 22 (columns P))
     ∷ []
 
 unfoldable pub checkNumber : List ℕ → ℕ

@@ -1,19 +1,23 @@
 -- Refusals in order.
 --
---   k when b          a row of document 01's table "What is returned": the number k and the test when it applies
---   first rows        the number of the first row whose test holds, and 0 where none does
---   Applies rows k    a row numbered k applies: its test holds
---   Lowest rows k     k is the lowest number that applies, and 0 where none does
---   accepted k a b    what a call with the number k does: a where k is 0, else b
+--   k when b               a row of the table "What is returned": the number k and the test when it applies
+--   first rows             the number of the first row whose test holds, and 0 where none does
+--   table                  the numbers in the table's order: 13 stands between 3 and 4
+--   rank order k           how many numbers stand before k in an order
+--   Applies rows k         a row numbered k applies: its test holds
+--   Earliest order rows k  of the numbers that apply, k is the first in the order, and 0 where none applies
+--   accepted k a b         what a call with the number k does: a where k is 0, else b
 --
--- What this file is for: every call's number is `first` of the rows that concern the call, in the table's order. A number whose
--- condition has several tests has a row for each. Along the rows of each call the numbers rise, so that the first to apply is the
--- lowest.
+-- What this file is for: every call's number is `first` of the rows that concern the call, in the table's order. "The lowest number
+-- that applies" is the first in that order. A number whose condition has several tests may have a row for each.
 use mathlib.Core.Path.{_≡_}
 use mathlib.Core.Logic.{_≢_, _⊎_}
 use mathlib.Core.Bool.{Bool, true, false}
 use mathlib.Core.List.{List, [], _∷_}
 use Prim.Native.Nat.{ℕ, zero, suc, _≤_}
+use lib.Dec.{eqb}
+use lib.ListN.{length}
+use Rattle.bounded.specs.Bounded.{at, index}
 
 infix 20 _when_
 pub data Refusal : Type 0 where
@@ -24,14 +28,20 @@ first [] = 0
 first ((k when true) ∷ rows) = k
 first ((k when false) ∷ rows) = first rows
 
+abbrev pub table : List ℕ
+table = 1 ∷ 2 ∷ 3 ∷ 13 ∷ 4 ∷ 5 ∷ 6 ∷ 7 ∷ 8 ∷ 9 ∷ 10 ∷ 11 ∷ 12 ∷ []
+
+abbrev pub rank : (order : List ℕ) (k : ℕ) → ℕ
+rank order k = index (length order) λ i. eqb (at order i) k
+
 abbrev pub Applies : List Refusal → ℕ → Type 0
 Applies [] k = ⊥
 Applies ((j when b) ∷ rows) k = ((j ≡ k) × (b ≡ true)) ⊎ Applies rows k
 
-pub record Lowest (rows : List Refusal) (k : ℕ) : Type 0 where
+pub record Earliest (order : List ℕ) (rows : List Refusal) (k : ℕ) : Type 0 where
   pub none : k ≡ 0 → (j : ℕ) → ¬ (Applies rows j)
   pub applies : k ≢ 0 → Applies rows k
-  pub least : (j : ℕ) → Applies rows j → k ≤ j
+  pub before : (j : ℕ) → Applies rows j → rank order k ≤ rank order j
 
 abbrev pub accepted {ℓ} : {A : Type ℓ} → ℕ → A → A → A
 accepted zero a b = a

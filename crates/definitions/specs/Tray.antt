@@ -5,38 +5,39 @@
 --   HoldsFirst input room came    a room holds the first bytes of an input of any length: `came` of them, all or as many as fit
 --   longest                       the length of the longest input that a sound plan takes, with 16 times 16 cells
 --
--- What this file is for: fewer than 24 bytes are refusal 1, since the plan is short; a wrong count after a sound plan is 6, since
+-- What this file is for: fewer than 40 bytes are refusal 1, since the plan is short; a wrong count after a sound plan is 6, since
 -- the symbols or the doubts have not their length.
 use mathlib.Core.Path.{_≡_}
 use mathlib.Core.List.{List}
 use Prim.Native.Nat.{ℕ, _+_, min}
 use lib.ListN.{length, take, drop, replicate}
 use Rattle.definitions.specs.declared.Reading.{Reading}
-use Rattle.definitions.specs.Code.{square, size, cells}
+use Rattle.definitions.specs.Plan.{planBytes}
+use Rattle.definitions.specs.Code.{oblong, size, cells}
 use Rattle.definitions.specs.Calls.{readReading, readBuffer}
 
 abbrev pub planOf : List ℕ → List ℕ
-planOf input = take 24 input
+planOf input = take planBytes input
 
 abbrev pub symbolsOf : List ℕ → List ℕ
-symbolsOf input = take (cells square (planOf input)) (drop 24 input)
+symbolsOf input = take (cells oblong (planOf input)) (drop planBytes input)
 
 abbrev pub doubtsOf : List ℕ → List ℕ
-doubtsOf input = drop (24 + cells square (planOf input)) input
+doubtsOf input = drop (planBytes + cells oblong (planOf input)) input
 
 -- a buffer of the record's size
 abbrev pub bufferOf : List ℕ → List ℕ
-bufferOf input = replicate (size square (planOf input)) 0
+bufferOf input = replicate (size oblong (planOf input)) 0
 
 unfoldable pub trayReading : List ℕ → Reading
-trayReading input = readReading square (planOf input) (symbolsOf input) (doubtsOf input) (bufferOf input)
+trayReading input = readReading oblong (planOf input) (symbolsOf input) (doubtsOf input) (bufferOf input)
 
 unfoldable pub trayRecord : List ℕ → List ℕ
-trayRecord input = readBuffer square (planOf input) (symbolsOf input) (doubtsOf input) (bufferOf input)
+trayRecord input = readBuffer oblong (planOf input) (symbolsOf input) (doubtsOf input) (bufferOf input)
 
 pub record HoldsFirst (input room : List ℕ) (came : ℕ) : Type 0 where
   pub count : came ≡ min (length input) (length room)
   pub bytes : take came room ≡ take came input
 
 abbrev pub longest : ℕ
-longest = 24 + 256 + 256
+longest = planBytes + 256 + 256

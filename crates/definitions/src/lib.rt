@@ -1,5 +1,5 @@
-// Document 01 as definitions: read specs/ in the order of its Lib.antt. The code here is the type that the calls answer with, and
-// the numbers that a photograph has for what is not known.
+// Documents 01 and 02 as definitions: read specs/ in the order of its Lib.antt. The code here is the type that the calls answer
+// with, the length of a plan, and the numbers that a photograph has for what is not known.
 
 // What measuring and reading answer. Of a refusal all but the number is 0.
 #[repr(C)]
@@ -17,6 +17,9 @@ pub struct Reading {
     // 0 to 3, by the changed count
     pub class: u32,
 }
+
+// The length of a plan.
+pub const PLAN_BYTES: usize = 40;
 
 // The doubt of a cell of which nothing is known.
 pub const FULL: u32 = 100;

@@ -18,7 +18,7 @@ use Rattle.bounded.proofs.Part.{part-at, part-length}
 use Rattle.polynomial.specs.Record.{gridValue}
 use Rattle.distance.specs.Cost.{cell, differ}
 use Rattle.definitions.specs.Plan.{side}
-use Rattle.definitions.specs.Code.{strip, square, cells, value}
+use Rattle.definitions.specs.Code.{strip, oblong, cells, value}
 use Rattle.definitions.specs.Cost.{full}
 use Rattle.definitions.specs.Photograph.{Photograph}
 use Rattle.plan.specs.declared.Plan.{Plan}
@@ -56,6 +56,6 @@ strip-measured photo says e m = measured-eq (λ i l. refl) (λ i l. refl) e (rw 
 pub mark-measured : {P : List ℕ} {plan : Plan} {s u : ℕ → ℕ} {D k : ℕ} → Says P plan → (F : List ℕ) →
     Measured (plan .grid .full) (plan .grid .a * plan .grid .b) s u
     (gridValue (plan .grid .p) (plan .grid .d) (plan .grid .b) (at (plan .grid .x)) (at (plan .grid .y)) F) D k →
-    Measured full (cells square P) s u (value square P F) D k
+    Measured full (cells oblong P) s u (value oblong P F) D k
 mark-measured says F m =
     measured-eq (λ i l. refl) (λ i l. refl) (λ i l. rw (says .fields) at (mark-value says F i l)) (rw (says .fields) at m)

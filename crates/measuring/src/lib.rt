@@ -16,7 +16,7 @@ ghost use Rattle.polynomial.specs.Record.{gridValue};
 ghost use Rattle.polynomial.specs.Powers.{Rows, Powers, Columns};
 ghost use Rattle.polynomial.specs.Fit.{Fit};
 ghost use Rattle.distance.specs.Doubts.{Doubts};
-ghost use Rattle.definitions.specs.Code.{strip, square, IsRecord};
+ghost use Rattle.definitions.specs.Code.{strip, oblong, IsRecord};
 ghost use Rattle.definitions.specs.Calls.{readingOf};
 ghost use Rattle.definitions.specs.Photograph.{Photograph};
 ghost use Rattle.plan.specs.Says.{Says};
@@ -24,10 +24,10 @@ ghost use Rattle.measuring.specs.Measured.{Measured};
 
 // The reading of a record against a mark. Rows and columns have the same points: one table of powers serves both.
 pub fn measure_mark(plan: Plan, record: &[u8], symbols: &[u8], doubts: &[u8]) -> Reading
-    requires { ⌜ ((P : List ℕ) × Says P plan × Photograph square P (now symbols) (now doubts)
-        × IsRecord square P (now «record»)) ⌝ }
-    ensures { λ r. ⌜ ((P : List ℕ) → Says P plan → Photograph square P (now (symbols .entry)) (now (doubts .entry)) →
-        r ≡ readingOf square P (now (symbols .entry)) (now (doubts .entry)) (now («record» .entry))) ⌝ }
+    requires { ⌜ ((P : List ℕ) × Says P plan × Photograph oblong P (now symbols) (now doubts)
+        × IsRecord oblong P (now «record»)) ⌝ }
+    ensures { λ r. ⌜ ((P : List ℕ) → Says P plan → Photograph oblong P (now (symbols .entry)) (now (doubts .entry)) →
+        r ≡ readingOf oblong P (now (symbols .entry)) (now (doubts .entry)) (now («record» .entry))) ⌝ }
 {
     let g = plan.grid;
     let x = g.x;

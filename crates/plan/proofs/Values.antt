@@ -1,6 +1,6 @@
 -- Records of a sound plan P, by the struct that says what P does: their values at its points are those of P's marks and strips.
 --
---   record-word     a square's record is a word of the grid's prime and degree
+--   record-word     a oblong's record is a word of the grid's prime and degree
 --   record-row      a strip's record, loaded as a row, is a row of residues
 --   same-points     rows and columns have the same points
 --   mark-cells      a mark has a row of cells for each row point
@@ -29,7 +29,7 @@ use Rattle.polynomial.specs.Distance.{gridDistance}
 use Rattle.polynomial.proofs.Record.{value-strip}
 use Rattle.polynomial.proofs.Distance.{distance-square}
 use Rattle.definitions.specs.Plan.{modulus, side, degree, point}
-use Rattle.definitions.specs.Code.{strip, square, cells, value, mark, IsRecord}
+use Rattle.definitions.specs.Code.{strip, oblong, cells, value, mark, IsRecord}
 use Rattle.definitions.specs.Cost.{full, radius}
 use Rattle.plan.specs.declared.Plan.{Plan}
 use Rattle.plan.specs.Says.{Says}
@@ -38,14 +38,14 @@ use Rattle.plan.proofs.Ready.{point-at}
 pub same-points : {P : List ℕ} {plan : Plan} → Says P plan → plan .grid .y ≡ plan .grid .x
 same-points says = rw (says .fields) refl
 
-pub mark-cells : {P : List ℕ} {plan : Plan} → Says P plan → cells square P ≡ plan .grid .a * plan .grid .b
+pub mark-cells : {P : List ℕ} {plan : Plan} → Says P plan → cells oblong P ≡ plan .grid .a * plan .grid .b
 mark-cells says = rw (says .fields) refl
 
 module _ {P : List ℕ} {plan : Plan} (says : Says P plan) where
   abbrev g : Grid
   g = plan .grid
 
-  pub record-word : {F : List ℕ} → IsRecord square P F → Word (g .p) (start (suc (g .d))) F
+  pub record-word : {F : List ℕ} → IsRecord oblong P F → Word (g .p) (start (suc (g .d))) F
   record-word f = rw (says .fields) (rw (add-one (degree P)) at f)
 
   pub record-row : {F w : List ℕ} → IsRecord strip P F → w ≡ row (at F) → Row (g .p) w
@@ -61,7 +61,7 @@ module _ {P : List ℕ} {plan : Plan} (says : Says P plan) where
 
   -- the value in a cell of the grid is the mark's
   pub mark-value : (F : List ℕ) (c : ℕ) → c < side P * side P →
-      gridValue (g .p) (g .d) (g .b) (at (g .x)) (at (g .y)) F c ≡ value square P F c
+      gridValue (g .p) (g .d) (g .b) (at (g .x)) (at (g .y)) F c ≡ value oblong P F c
   mark-value F c l = rw (says .fields)
       (ap₂ (valueXY (modulus P) (degree P) F) (point-at (says .sound) (c / side P) (div-lt-iff-lt-mul z .1 l))
       (point-at (says .sound) (c % side P) (mod-lt c z)))
@@ -69,12 +69,12 @@ module _ {P : List ℕ} {plan : Plan} (says : Says P plan) where
       z : 0 < side P
       z = omega (arith, says .sound .some)
 
-  pub mark-is : (F : List ℕ) → tab (g .a * g .b) (gridValue (g .p) (g .d) (g .b) (at (g .x)) (at (g .y)) F) ≡ mark square P F
+  pub mark-is : (F : List ℕ) → tab (g .a * g .b) (gridValue (g .p) (g .d) (g .b) (at (g .x)) (at (g .y)) F) ≡ mark oblong P F
   unfolding mark
   mark-is F = rw (← mark-cells says) (tab-eq (side P * side P) (mark-value F))
 
   -- how far a record may be
-  pub mark-radius : {R : ℕ} → R ≡ g .full * gridDistance (g .a) (g .b) (g .d) → R ≡ radius full square P
+  pub mark-radius : {R : ℕ} → R ≡ g .full * gridDistance (g .a) (g .b) (g .d) → R ≡ radius full oblong P
   mark-radius e = rw (says .fields) at e ∙ omega (arith, ap (λ n. full * n) (distance-square (side P) (degree P)))
 
   pub strip-radius : {R : ℕ} → R ≡ g .full * 1 * (g .a - g .d) → R ≡ radius full strip P

@@ -10,7 +10,7 @@ use native.Mathlib.Omega.{arith}
 use lib.ListN.{length}
 use Rattle.bounded.specs.Bounded.{at, sum}
 use Rattle.definitions.specs.Plan.{side}
-use Rattle.definitions.specs.Code.{square, value}
+use Rattle.definitions.specs.Code.{oblong, value}
 use Rattle.definitions.specs.Cost.{full}
 use Rattle.definitions.specs.Calls.{refused}
 use Rattle.definitions.specs.Reads.{Reads}
@@ -22,12 +22,12 @@ use Rattle.plan.specs.Says.{Says}
 use Rattle.plan.proofs.Values.{mark-radius}
 use Rattle.reading.specs.Loading.{Taken}
 
-pub doubts-refuse : {P s u B : List ℕ} {plan : Plan} {R : ℕ} → Says P plan → Taken square P s u B →
+pub doubts-refuse : {P s u B : List ℕ} {plan : Plan} {R : ℕ} → Says P plan → Taken oblong P s u B →
     R ≡ plan .grid .full * gridDistance (plan .grid .a) (plan .grid .b) (plan .grid .d) → R ≤ sum (length u) (at u) →
-    Reads square P s u B (refused 10) B
-doubts-refuse {P} {s} {u} {B} says t e h = reads-none square P s u B (t .clear) λ F f. cost-without square P s u F λ l. omega (
+    Reads oblong P s u B (refused 10) B
+doubts-refuse {P} {s} {u} {B} says t e h = reads-none oblong P s u B (t .clear) λ F f. cost-without oblong P s u F λ l. omega (
   arith,
   mark-radius says e,
-  doubts-cost full (side P * side P) (at s) (at u) (value square P F) (t .photo .doubt),
+  doubts-cost full (side P * side P) (at s) (at u) (value oblong P F) (t .photo .doubt),
   rw (t .photo .doubts) at h,
 )

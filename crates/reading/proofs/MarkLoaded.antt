@@ -27,7 +27,7 @@ use Rattle.field.specs.Row.{row}
 use Rattle.field.proofs.Congruence.{same, ~add, mod-cong, _⨾_}
 use Rattle.field.proofs.Row.{row-at, row-of, beyond}
 use Rattle.definitions.specs.Plan.{modulus, side, degree, point}
-use Rattle.definitions.specs.Code.{square, size, cells, value}
+use Rattle.definitions.specs.Code.{oblong, size, cells, value}
 use Rattle.polynomial.specs.Record.{place, longest}
 use Rattle.definitions.specs.Cost.{full, unread, radius}
 use Rattle.definitions.specs.Calls.{refused}
@@ -59,10 +59,10 @@ use Rattle.reading.proofs.Loading.{residue-below, residue-loaded}
 use Rattle.reading.proofs.Square.{cell-at, flag-differ}
 
 -- a record has a byte at least, and at most as many as a message has numbers
-pub record-room : {P s u B : List ℕ} → Taken square P s u B → (0 < length B) × (length B ≤ longest)
+pub record-room : {P s u B : List ℕ} → Taken oblong P s u B → (0 < length B) × (length B ≤ longest)
 record-room {P} t = rw (t .room) (place-below 0 0 (degree P + 1) (omega arith), plan-longest (t .photo .sound))
 
-module _ {P s u B : List ℕ} {left : List (List ℕ)} (t : Taken square P s u B) (es : SymbolRows (side P) s left) where
+module _ {P s u B : List ℕ} {left : List (List ℕ)} (t : Taken oblong P s u B) (es : SymbolRows (side P) s left) where
   positive : 0 < modulus P
   positive = omega (arith, t .photo .sound .prime .least)
 
@@ -93,7 +93,7 @@ module _ {P s u B : List ℕ} {left : List (List ℕ)} (t : Taken square P s u B
         rw (row-at (λ c. residue (gridCell (side P) s r c)) c m) (residue-below positive (known r c)));
   }
 
-module _ {P s u B : List ℕ} {left u′ : List (List ℕ)} (t : Taken square P s u B)
+module _ {P s u B : List ℕ} {left u′ : List (List ℕ)} (t : Taken oblong P s u B)
     (es : SymbolRows (side P) s left) (eu : DoubtLines (side P) u u′) where
   doubt-at : (r c : ℕ) → r < side P → c < side P → cellAt u′ r c ≡ at u (r * side P + c)
   doubt-at r c l m =
@@ -111,32 +111,32 @@ module _ {P s u B : List ℕ} {left u′ : List (List ℕ)} (t : Taken square P 
   -- what the decoder answers, and what it leaves
   module _ {m g : ℕ} {after : List (List ℕ)} {w : List ℕ}
       (D : Outcome (said P m .grid) left u′ after (under (said P m .grid) g) w g) where
-    limit-is : gridRadius (said P m .grid) ≡ radius full square P
+    limit-is : gridRadius (said P m .grid) ≡ radius full oblong P
     limit-is = omega (arith, ap (λ n. full * n) (distance-square (side P) (degree P)))
 
-    refused-said : radius full square P ≤ g → Reads square P s u B (refused 10) B
+    refused-said : radius full oblong P ≤ g → Reads oblong P s u B (refused 10) B
     refused-said h = mark-none P s u B (t .clear) (point-at (t .photo .sound)) loaded w (D .decoded)
         (le-ltb g _ (omega (arith, limit-is)))
 
-    found : g < radius full square P → under (said P m .grid) g ≡ true
+    found : g < radius full oblong P → under (said P m .grid) g ≡ true
     found h = lt-ltb g _ (omega (arith, limit-is))
 
     -- the message fits into bytes
-    small-said : g < radius full square P → (j : ℕ) → j < length B → at w j < 256
+    small-said : g < radius full oblong P → (j : ℕ) → j < length B → at w j < 256
     small-said h j l =
         let z = found h in
-        let k : j < size square P = omega (arith, t .room) in
-        let W = tab (size square P) (at w) in
-        let n = size square P in
+        let k : j < size oblong P = omega (arith, t .room) in
+        let W = tab (size oblong P) (at w) in
+        let n = size oblong P in
         let F = mark-record P s u B (t .clear) (point-at (t .photo .sound)) loaded w (D .decoded) z W (length-tab n (at w))
         (tab-at n (at w)) in
-        omega (arith, F .below j k, tab-at (size square P) (at w) j k, t .photo .sound .small)
+        omega (arith, F .below j k, tab-at (size oblong P) (at w) j k, t .photo .sound .small)
 
-    module _ (h : g < radius full square P) {W : List ℕ} (stored : W ≡ tab (length B) (at w)) where
-      word-length : length W ≡ size square P
+    module _ (h : g < radius full oblong P) {W : List ℕ} (stored : W ≡ tab (length B) (at w)) where
+      word-length : length W ≡ size oblong P
       word-length = rw stored (length-tab (length B) (at w)) ∙ t .room
 
-      word-at : (i : ℕ) → i < size square P → at W i ≡ at w i
+      word-at : (i : ℕ) → i < size oblong P → at W i ≡ at w i
       word-at i l = rw stored (tab-at (length B) (at w) i (omega (arith, t .room)))
 
       coefficients : (k i : ℕ) → i + k ≤ degree P → coef W i k ≡ coef w i k
@@ -145,7 +145,7 @@ module _ {P s u B : List ℕ} {left u′ : List (List ℕ)} (t : Taken square P 
       abbrev line-value : (r c : ℕ) → ℕ
       line-value r c = eval (suc (degree P)) (onRow (degree P) (coef w) (at (row (point P)) r)) (at (row (point P)) c)
 
-      value-at : (r c : ℕ) → r < side P → c < side P → value square P W (r * side P + c) ≡ line-value r c % modulus P
+      value-at : (r c : ℕ) → r < side P → c < side P → value oblong P W (r * side P + c) ≡ line-value r c % modulus P
       value-at r c l m =
           rw (cell-row (side P) r c m, cell-column (side P) r c m, point-at (t .photo .sound) r l, point-at (t .photo .sound) c m)
           (value-rows (modulus P) (degree P) W (point P r) (point P c) ∙ ap (λ e. e % modulus P)
@@ -154,7 +154,7 @@ module _ {P s u B : List ℕ} {left u′ : List (List ℕ)} (t : Taken square P 
 
       cell-differs : (r c : ℕ) → r < side P → c < side P →
           _≡_ {A = ℕ} (cond (eqb (flag (gridCell (side P) s r c) (cellAt after r c)) 0) 0 1)
-          (cond (eqb (at s (r * side P + c)) (value square P W (r * side P + c))) 0 1)
+          (cond (eqb (at s (r * side P + c)) (value oblong P W (r * side P + c))) 0 1)
       cell-differs r c l m =
           let R = D .remains (found h) in
           rw (cell-at (side P) s r c m, value-at r c l m)
@@ -162,11 +162,11 @@ module _ {P s u B : List ℕ} {left u′ : List (List ℕ)} (t : Taken square P 
           (omega (arith, R .below r c l m, positive t es)) (mod-lt (line-value r c) (positive t es))
           (~add (same refl) (mod-cong (positive t es) (line-value r c)) ⨾ R .whole r c l m ⨾ same (symbol-at t es r c l m)))
 
-      differing-of : differingCells (side P) (side P) s after ≡ hamming (cells square P) (at s) (value square P W)
+      differing-of : differingCells (side P) (side P) s after ≡ hamming (cells oblong P) (at s) (value oblong P W)
       differing-of = sym (sum-rows (side P) (side P) _ ∙ sum-eq (side P) λ r l. sum-eq (side P) λ c m. sym (cell-differs r c l m))
 
       reading-said : {k : ℕ} → k ≡ differingCells (side P) (side P) s after →
-          (unreadIn s ≤ k) × Reads square P s u B (summary (radius full square P) g k s) W
+          (unreadIn s ≤ k) × Reads oblong P s u B (summary (radius full oblong P) g k s) W
       reading-said e =
           let z = found h in
           let points = point-at (t .photo .sound) in
@@ -178,7 +178,7 @@ module _ {P s u B : List ℕ} {left u′ : List (List ℕ)} (t : Taken square P 
           )
 
 -- the same by the struct that says what the plan does
-module _ {P s u B : List ℕ} {left u′ : List (List ℕ)} {plan : Plan} (says : Says P plan) (t : Taken square P s u B)
+module _ {P s u B : List ℕ} {left u′ : List (List ℕ)} {plan : Plan} (says : Says P plan) (t : Taken oblong P s u B)
     (es : SymbolRows (plan .grid .b) s left) (eu : DoubtLines (plan .grid .b) u u′) where
   abbrev g : Grid
   g = plan .grid
@@ -194,14 +194,14 @@ module _ {P s u B : List ℕ} {left u′ : List (List ℕ)} {plan : Plan} (says 
 
   module _ {c R : ℕ} {after : List (List ℕ)} {w : List ℕ} (D : Outcome g left u′ after (under g c) w c)
       (h : R ≡ g .full * gridDistance (g .a) (g .b) (g .d)) where
-    pub mark-refused : R ≤ c → Reads square P s u B (refused 10) B
+    pub mark-refused : R ≤ c → Reads oblong P s u B (refused 10) B
     mark-refused l = refused-said t (sides .0) (sides .1) (rw (says .fields) at D) (omega (arith, mark-radius says h))
 
     pub message-small : c < R → (j : ℕ) → j < length B → at w j < 256
     message-small l = small-said t (sides .0) (sides .1) (rw (says .fields) at D) (omega (arith, mark-radius says h))
 
     pub mark-reading : {W : List ℕ} {k : ℕ} → c < R → W ≡ tab (length B) (at w) → k ≡ differingCells (g .a) (g .b) s after →
-        (unreadIn s ≤ k) × Reads square P s u B (summary R c k s) W
+        (unreadIn s ≤ k) × Reads oblong P s u B (summary R c k s) W
     mark-reading l stored e = rw (mark-radius says h)
         (reading-said t (sides .0) (sides .1) (rw (says .fields) at D) (omega (arith, mark-radius says h)) stored
         (rw (says .fields) at e))

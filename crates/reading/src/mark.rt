@@ -15,7 +15,7 @@ ghost use Prim.Native.Nat.{ℕ, _*_, _≤_};
 ghost use lib.ListN.{length};
 ghost use Rattle.bounded.specs.Bounded.{at, sum};
 ghost use Rattle.distance.specs.Cost.{hamming};
-ghost use Rattle.definitions.specs.Code.{square};
+ghost use Rattle.definitions.specs.Code.{oblong};
 ghost use Rattle.definitions.specs.Reads.{Reads};
 ghost use Rattle.plan.specs.Says.{Says};
 ghost use Rattle.reading.specs.Loading.{Taken};
@@ -74,10 +74,10 @@ fn total(doubts: &[u8]) -> u32
 
 // The mark, by the decoder.
 fn decoded(plan: Plan, symbols: &[u8], doubts: &[u8], record: &mut [u8]) -> Reading
-    requires { ⌜ ((P : List ℕ) × Says P plan × Taken square P (now symbols) (now doubts) (now «record»)) ⌝ }
+    requires { ⌜ ((P : List ℕ) × Says P plan × Taken oblong P (now symbols) (now doubts) (now «record»)) ⌝ }
     ensures { λ r.
-        ⌜ ((P : List ℕ) → Says P plan → Taken square P (now (symbols .entry)) (now (doubts .entry)) (now («record» .entry)) →
-        Reads square P (now (symbols .entry)) (now (doubts .entry)) (now («record» .entry)) r (now («record» .exit))) ⌝ }
+        ⌜ ((P : List ℕ) → Says P plan → Taken oblong P (now (symbols .entry)) (now (doubts .entry)) (now («record» .entry)) →
+        Reads oblong P (now (symbols .entry)) (now (doubts .entry)) (now («record» .entry)) r (now («record» .exit))) ⌝ }
 {
     let g = plan.grid;
     let u = load::doubt_rows(doubts, g.a, g.b);
@@ -98,10 +98,10 @@ fn decoded(plan: Plan, symbols: &[u8], doubts: &[u8], record: &mut [u8]) -> Read
 // The one record within the radius goes into the lent buffer; where there is none the buffer stays as it was, and the number is
 // 10. Doubts that come to the radius leave no record under it.
 pub fn read_mark(plan: Plan, symbols: &[u8], doubts: &[u8], record: &mut [u8]) -> Reading
-    requires { ⌜ ((P : List ℕ) × Says P plan × Taken square P (now symbols) (now doubts) (now «record»)) ⌝ }
+    requires { ⌜ ((P : List ℕ) × Says P plan × Taken oblong P (now symbols) (now doubts) (now «record»)) ⌝ }
     ensures { λ r.
-        ⌜ ((P : List ℕ) → Says P plan → Taken square P (now (symbols .entry)) (now (doubts .entry)) (now («record» .entry)) →
-        Reads square P (now (symbols .entry)) (now (doubts .entry)) (now («record» .entry)) r (now («record» .exit))) ⌝ }
+        ⌜ ((P : List ℕ) → Says P plan → Taken oblong P (now (symbols .entry)) (now (doubts .entry)) (now («record» .entry)) →
+        Reads oblong P (now (symbols .entry)) (now (doubts .entry)) (now («record» .entry)) r (now («record» .exit))) ⌝ }
 {
     let g = plan.grid;
     if total(doubts) >= limit::radius(g) {

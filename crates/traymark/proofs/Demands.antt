@@ -21,7 +21,7 @@ use native.Mathlib.Numerals.{add-one}
 use lib.ListN.{length}
 use Rattle.bounded.specs.Bounded.{at}
 use Rattle.definitions.specs.Plan.{planRows, checkNumber}
-use Rattle.definitions.specs.Code.{Code, strip, square, size, cells, value, mark}
+use Rattle.definitions.specs.Code.{Code, strip, oblong, size, cells, value, mark}
 use Rattle.definitions.specs.Cost.{full}
 use Rattle.definitions.specs.Calls.{photoRows, writeRows, writeNumber, writeBuffer}
 use Rattle.definitions.specs.Calls.{measureRows, measureNumber, measureReading, readRows, readNumber, readReading, readBuffer}
@@ -43,7 +43,7 @@ use Rattle.definitions.proofs.Margin.{measured-range, read-range, lowest, highe
 use Rattle.distance.proofs.Cost.{cell-full}
 use Rattle.polynomial.proofs.Record.{value-places, start-next, start-below, start-apart, placed}
 use Rattle.reading.proofs.StripReading.{only-strip}
-use Rattle.reading.proofs.MarkReading.{only-square}
+use Rattle.reading.proofs.MarkReading.{only-oblong}
 use Rattle.traymark.proofs.Answer.{write-keeps, write-fills, measure-refuses, measure-gives, read-keeps, read-gives}
 use Rattle.writing.proofs.Written.{mark-written}
 
@@ -66,7 +66,7 @@ demand-1 = record {
 -- limit with its cost; it is refusal 10 exactly when no record costs under the limit.
 pub demand-3 : (C : Code) (P s u B : List ℕ) → Photograph C P s u → length B ≡ size C P → Nearest C P s u B
 demand-3 strip P s u B h l = nearest-one strip P s u B h l (only-strip P s u h)
-demand-3 square P s u B h l = nearest-one square P s u B h l (only-square P s u h)
+demand-3 oblong P s u B h l = nearest-one oblong P s u B h l (only-oblong P s u h)
 
 -- Demand 2, writing: for every plan, record and buffer that the writer accepts, each cell of the buffer afterwards has the value,
 -- modulo p, of the record's polynomial at its row and column points; for a strip, at its point.

@@ -8,10 +8,10 @@ use mathlib.Core.Bool.{Bool, true, false}
 use Prim.Native.Nat.{ℕ, _+_, _*_}
 use Rattle.polynomial.specs.Record.{start}
 use Rattle.polynomial.specs.declared.Grid.{Grid}
-use Rattle.definitions.specs.Code.{Code, strip, square}
+use Rattle.definitions.specs.Code.{Code, strip, oblong}
 
 abbrev pub codeOf : Bool → Code
-codeOf true = square
+codeOf true = oblong
 codeOf false = strip
 
 unfoldable pub sizeOf : Bool → Grid → ℕ

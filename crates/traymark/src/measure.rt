@@ -2,7 +2,7 @@
 use crate::checks;
 use definitions::Reading;
 ghost use mathlib.Core.Path.{_≡_};
-ghost use Rattle.definitions.specs.Code.{strip, square};
+ghost use Rattle.definitions.specs.Code.{strip, oblong};
 ghost use Rattle.definitions.specs.Calls.{measureReading};
 
 // Measures a record against a photographed mark, from Rattle and from C. All four are any bytes of any length, and are only read.
@@ -23,7 +23,7 @@ pub extern "C" fn traymark_measure_mark(
     doubts: &[u8],
 ) -> Reading
     ensures { λ r. ⌜ r
-        ≡ measureReading square (now (plan .entry)) (now (symbols .entry)) (now (doubts .entry)) (now («record» .entry)) ⌝ }
+        ≡ measureReading oblong (now (plan .entry)) (now (symbols .entry)) (now (doubts .entry)) (now («record» .entry)) ⌝ }
 {
     let number = plan::check(plan);
     if number != 0 {

@@ -2,7 +2,7 @@
 use crate::checks;
 use definitions::Reading;
 ghost use mathlib.Core.Path.{_≡_};
-ghost use Rattle.definitions.specs.Code.{strip, square};
+ghost use Rattle.definitions.specs.Code.{strip, oblong};
 ghost use Rattle.definitions.specs.Calls.{readReading, readBuffer};
 
 // Reads a photographed mark, from Rattle and from C.
@@ -24,9 +24,9 @@ pub extern "C" fn traymark_read_mark(
     record: &mut [u8],
 ) -> Reading
     ensures reading { λ r. ⌜ r
-        ≡ readReading square (now (plan .entry)) (now (symbols .entry)) (now (doubts .entry)) (now («record» .entry)) ⌝ }
+        ≡ readReading oblong (now (plan .entry)) (now (symbols .entry)) (now (doubts .entry)) (now («record» .entry)) ⌝ }
     ensures bytes { λ r. ⌜ now («record» .exit)
-        ≡ readBuffer square (now (plan .entry)) (now (symbols .entry)) (now (doubts .entry)) (now («record» .entry)) ⌝ }
+        ≡ readBuffer oblong (now (plan .entry)) (now (symbols .entry)) (now (doubts .entry)) (now («record» .entry)) ⌝ }
 {
     let number = plan::check(plan);
     if number != 0 {

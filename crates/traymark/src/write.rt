@@ -1,7 +1,7 @@
 // Writing the mark or the strip of a record.
 use crate::checks;
 ghost use mathlib.Core.Path.{_≡_};
-ghost use Rattle.definitions.specs.Code.{strip as stripCode, square};
+ghost use Rattle.definitions.specs.Code.{strip as stripCode, oblong};
 ghost use Rattle.definitions.specs.Calls.{writeNumber, writeBuffer};
 
 // Writes the mark of a record, from Rattle and from C. `plan` and `record` are any bytes of any length, and are only read.
@@ -13,9 +13,9 @@ ghost use Rattle.definitions.specs.Calls.{writeNumber, writeBuffer};
 //   9       a coefficient is p or more
 #[no_mangle]
 pub extern "C" fn traymark_write_mark(plan: &[u8], record: &[u8], mark: &mut [u8]) -> u32
-    ensures number { λ r. ⌜ r ≡ writeNumber square (now (plan .entry)) (now («record» .entry)) (now (mark .entry)) ⌝ }
+    ensures number { λ r. ⌜ r ≡ writeNumber oblong (now (plan .entry)) (now («record» .entry)) (now (mark .entry)) ⌝ }
     ensures bytes { λ r. ⌜ now (mark .exit)
-        ≡ writeBuffer square (now (plan .entry)) (now («record» .entry)) (now (mark .entry)) ⌝ }
+        ≡ writeBuffer oblong (now (plan .entry)) (now («record» .entry)) (now (mark .entry)) ⌝ }
 {
     let number = plan::check(plan);
     if number != 0 {

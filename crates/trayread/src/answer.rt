@@ -9,7 +9,7 @@ ghost use mathlib.Core.List.{List};
 ghost use Prim.Native.Nat.{ℕ, _+_, _*_, _≤_};
 ghost use lib.ListN.{length, take};
 ghost use Rattle.definitions.specs.Plan.{checkNumber};
-ghost use Rattle.definitions.specs.Code.{square};
+ghost use Rattle.definitions.specs.Code.{oblong};
 ghost use Rattle.definitions.specs.Calls.{readReading, readBuffer};
 ghost use Rattle.definitions.specs.Tray.{planOf, HoldsFirst};
 ghost use Rattle.definitions.specs.Printed.{answerText, trayText};
@@ -88,8 +88,8 @@ fn answer_mark(
 ) -> usize
     requires { ⌜ 79 + 4 * length (now «record») ≤ length (now text) ⌝ }
     ensures { λ r. ⌜ Put (now (text .entry)) 0 (answerText season
-        (readReading square (now (plan .entry)) (now (symbols .entry)) (now (doubts .entry)) (now («record» .entry)))
-        (readBuffer square (now (plan .entry)) (now (symbols .entry)) (now (doubts .entry)) (now («record» .entry))))
+        (readReading oblong (now (plan .entry)) (now (symbols .entry)) (now (doubts .entry)) (now («record» .entry)))
+        (readBuffer oblong (now (plan .entry)) (now (symbols .entry)) (now (doubts .entry)) (now («record» .entry))))
         (now (text .exit)) r ⌝ }
 {
     let reading = traymark_read_mark(plan, symbols, doubts, record);

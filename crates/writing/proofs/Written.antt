@@ -18,7 +18,7 @@ use Rattle.bounded.proofs.Sum.{cell-row, cell-column}
 use Rattle.bounded.proofs.Tab.{length-tab, tab-at, tab-append}
 use Rattle.bounded.proofs.Part.{row-in}
 use Rattle.definitions.specs.Plan.{modulus, side, degree, point}
-use Rattle.definitions.specs.Code.{Code, strip, square, cells, value, mark}
+use Rattle.definitions.specs.Code.{Code, strip, oblong, cells, value, mark}
 use Rattle.polynomial.specs.Record.{valueXY}
 use Rattle.definitions.specs.Demands.{Written}
 
@@ -46,10 +46,10 @@ mark-at C P F c l = tab-at (cells C P) (value C P F) c l
 pub mark-written : (C : Code) (P F : List ℕ) → Written C P F (mark C P F)
 unfolding mark
 mark-written strip P F = (length-tab _ _, λ j l. mark-at strip P F j l)
-mark-written square P F = (
+mark-written oblong P F = (
   length-tab _ _,
   λ i j k l.
-      mark-at square P F (i * side P + j) (omega (arith, row-in i (side P) (side P) k))
+      mark-at oblong P F (i * side P + j) (omega (arith, row-in i (side P) (side P) k))
       ∙ ap₂ (λ r c. valueXY (modulus P) (degree P) F (point P r) (point P c)) (cell-row (side P) i j l)
       (cell-column (side P) i j l),
 )

@@ -12,14 +12,14 @@ ghost use Rattle.bounded.specs.Bounded.{at, tab};
 ghost use Rattle.polynomial.specs.Record.{gridValue};
 ghost use Rattle.polynomial.specs.Powers.{Rows, Powers, Columns};
 ghost use Rattle.polynomial.specs.Fit.{Fit};
-ghost use Rattle.definitions.specs.Code.{strip as stripCode, square, mark as markOf};
+ghost use Rattle.definitions.specs.Code.{strip as stripCode, oblong, mark as markOf};
 ghost use Rattle.definitions.specs.Accepted.{Writing};
 ghost use Rattle.plan.specs.Says.{Says};
 
 // Fills the mark. Rows and columns have the same points: one table of powers serves both.
 pub fn write_mark(plan: Plan, record: &[u8], mark: &mut [u8])
-    requires { ⌜ ((P : List ℕ) × Says P plan × Writing square P (now «record») (now mark)) ⌝ }
-    ensures { λ _. ⌜ ((P : List ℕ) → Says P plan → now (mark .exit) ≡ markOf square P (now («record» .entry))) ⌝ }
+    requires { ⌜ ((P : List ℕ) × Says P plan × Writing oblong P (now «record») (now mark)) ⌝ }
+    ensures { λ _. ⌜ ((P : List ℕ) → Says P plan → now (mark .exit) ≡ markOf oblong P (now («record» .entry))) ⌝ }
 {
     let g = plan.grid;
     let x = g.x;

@@ -4,7 +4,7 @@ use mathlib.Core.List.{List}
 use Prim.Native.Nat.{ℕ}
 use native.Mathlib.Omega.{arith}
 use Rattle.bounded.specs.Bounded.{at}
-use Rattle.definitions.specs.Code.{square, cells, value}
+use Rattle.definitions.specs.Code.{oblong, cells, value}
 use Rattle.definitions.specs.Cost.{full}
 use Rattle.plan.specs.Says.{Says}
 use Rattle.plan.proofs.Ready.{ready}
@@ -26,8 +26,8 @@ module _ (c : tie.After-measure-rows) where
   abbrev start : tie.Start
   start = powers .before .before .before .before .before .before
 
-  measured : {P : List ℕ} → Says P (start .args .plan) → Measured full (cells square P) (at (start .args .symbols .now))
-      (at (start .args .doubts .now)) (value square P (start .args .«record» .now)) (c .measure-rows .result .cost)
+  measured : {P : List ℕ} → Says P (start .args .plan) → Measured full (cells oblong P) (at (start .args .symbols .now))
+      (at (start .args .doubts .now)) (value oblong P (start .args .«record» .now)) (c .measure-rows .result .cost)
       (c .measure-rows .result .differing)
   measured says =
       let g = start .args .plan .grid in
@@ -66,7 +66,7 @@ reading-requires c κs =
     let (P, says, photo, given) = start tally .pre in (
       omega (arith, c .radius .ensures .1),
       omega (arith, tally .measure-rows .ensures .0),
-      few-cells square photo,
+      few-cells oblong photo,
       unread-within _ photo (measured tally says .count),
     )
 

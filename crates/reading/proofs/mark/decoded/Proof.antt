@@ -2,7 +2,7 @@
 -- Assumes nothing.
 use mathlib.Core.Path.{refl, sym, _∙_}
 use native.Mathlib.Omega.{arith}
-use Rattle.definitions.specs.Code.{square}
+use Rattle.definitions.specs.Code.{oblong}
 use Rattle.plan.proofs.Ready.{ready}
 use Rattle.plan.proofs.Values.{mark-cells}
 use Rattle.answers.proofs.Summary.{few-cells}
@@ -77,7 +77,7 @@ reading-requires c κs =
     let (P, says, t) = doubts c .before .before .before .before .before .pre in (
       omega (arith, radius c .radius .ensures .1),
       omega (arith, radius c .radius .ensures .1, under),
-      few-cells square (t .photo),
+      few-cells oblong (t .photo),
       mark-reading says t (symbols c .residue-rows .ensures) (doubts c .doubt-rows .ensures) (decoded c .decode .ensures .0)
           (radius c .radius .ensures .0) (omega (arith, under)) (stored c .store .ensures) (c .differing-cells .ensures) .0,
     )

@@ -1,6 +1,6 @@
 -- `reading::mark::read_mark` meets its contract: by the law of the doubts' sum, and else by the decoder. Assumes nothing.
 use native.Mathlib.Omega.{arith}
-use Rattle.definitions.specs.Code.{square}
+use Rattle.definitions.specs.Code.{oblong}
 use Rattle.definitions.proofs.Sound.{cells-most}
 use Rattle.plan.proofs.Ready.{ready}
 use Rattle.reading.proofs.Early.{doubts-refuse}
@@ -28,7 +28,7 @@ read-mark-spec =
     (tie.spec
     (λ c κs.
     let (P, says, t) = c .before .before .before .before .pre in
-    omega (arith, cells-most square (t .photo .sound), t .photo .doubts))
+    omega (arith, cells-most oblong (t .photo .sound), t .photo .doubts))
     radius-requires
     (λ c κs. search needs)
     returns

@@ -8,7 +8,7 @@ use lib.ListN.{length, take, drop, replicate, length-replicate, length-drop}
 use lib.Seq.{take-all}
 use borrow.Author.Needs.{needs}
 use Rattle.definitions.specs.Plan.{season}
-use Rattle.definitions.specs.Code.{square, size, cells}
+use Rattle.definitions.specs.Code.{oblong, size, cells}
 use Rattle.polynomial.specs.declared.Grid.{Grid}
 use Rattle.polynomial.specs.Fit.{Fit}
 use Rattle.polynomial.specs.Record.{start, longest}
@@ -39,11 +39,11 @@ module _ (s : tie.Start) where
   plan = sound (planOf input) (s .pre .0)
 
   -- the plan's record fits, and there are zeros for it
-  size-most : size square (planOf input) ≤ longest
+  size-most : size oblong (planOf input) ≤ longest
   size-most = plan-longest plan
 
-  cut : (n : ℕ) → n ≡ size square (planOf input) → take {A = ℕ} n (replicate longest 0) ≡ bufferOf input
-  cut n e = rw e (zeros (size square (planOf input)) longest size-most)
+  cut : (n : ℕ) → n ≡ size oblong (planOf input) → take {A = ℕ} n (replicate longest 0) ≡ bufferOf input
+  cut n e = rw e (zeros (size oblong (planOf input)) longest size-most)
 
   -- what the plan's struct says
   module _ {said : Plan} (says : Says (planOf input) said) where
@@ -56,7 +56,7 @@ module _ (s : tie.Start) where
     cells-most : g .a * g .b ≤ 256
     cells-most = mul-le-mul (fits .rows) (fits .columns)
 
-    size-is : {n : ℕ} → n ≡ start (g .d + 1) → n ≡ size square (planOf input)
+    size-is : {n : ℕ} → n ≡ start (g .d + 1) → n ≡ size oblong (planOf input)
     size-is e = rw (says .fields) at e
 
     season-is : said .season ≡ season (planOf input)
@@ -81,7 +81,7 @@ returns-2 c =
     let s = parsed .before .before .before .before in
     let says = parsed .parse .ensures in
     let i = input s in
-    let n = cells square (planOf i) in
+    let n = cells oblong (planOf i) in
     let l : length (drop (24 + n) i) ≤ length i - (24 + n) = simp length-drop (omega arith) in
     let u = take-all (length i - (24 + n)) (drop (24 + n) i) l in
     let buffer = cut s (sized .start .result) (size-is s says (sized .start .ensures)) in
