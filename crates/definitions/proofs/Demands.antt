@@ -37,7 +37,9 @@ module _ (C : Code) (P s u B : List ℕ) (photo : Photograph C P s u) (buffer : 
 
   found : (F : List ℕ) → IsRecord C P F → costOf C P s u F < radius full C P →
       (readReading C P s u B ≡ readingOf C P s u F) × (readBuffer C P s u B ≡ F)
-  found F r l = let h = reads-the C P s u B clear (at-most-one C P s u photo) F r (near F l) in (sym (h .reading), sym (h .buffer))
+  found F r l =
+      let h = reads-the C P s u B clear (at-most-one C P s u photo) F r (near F l) in
+      (sym (h .reading), sym (h .buffer))
 
   -- the number stands in the reading
   number : readReading C P s u B .number ≡ readNumber C P s u B

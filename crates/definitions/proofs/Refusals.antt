@@ -16,8 +16,8 @@
 --   not-true, not-false           a test turned round
 --   neither, nor                  a test of two parts that fails
 --
--- What this file is for: a call tests row by row and stops at the first that refuses: its number is the definition's, and of those
--- that apply the first in the table's order. Assumes nothing.
+-- What this file is for: a call tests row by row and stops at the first that refuses: its number is the definition's, and of
+-- those that apply the first in the table's order. Assumes nothing.
 use mathlib.Core.Path.{_≡_, refl, sym, ap, _∙_}
 use mathlib.Core.Logic.{_≢_, inl, inr}
 use mathlib.Core.Bool.{Bool, true, false, not, _&&_, _||_, false≢true, true≢false}
@@ -112,21 +112,23 @@ module _ (order : List ℕ) where
   ordered m [] = true
   ordered m ((k when b) ∷ rows) = leb m (rank order k) && ordered (rank order k) rows
 
+  in-order : (m k : ℕ) (b : Bool) (rows : List Refusal) → ordered m ((k when b) ∷ rows) ≡ true →
+      (m ≤ rank order k) × (ordered (rank order k) rows ≡ true)
+  in-order m k b rows r =
+      let h = both (leb m (rank order k)) (ordered (rank order k) rows) r in (leb-true m (rank order k) (h .0), h .1)
+
   ordered-after : (m : ℕ) (rows : List Refusal) → ordered m rows ≡ true → (j : ℕ) → Applies rows j → m ≤ rank order j
-  ordered-after m ((k when b) ∷ rows) r j (inl a) =
-      let h = both (leb m (rank order k)) (ordered (rank order k) rows) r in
-      omega (arith, leb-true m (rank order k) (h .0), ap (rank order) (a .0))
+  ordered-after m ((k when b) ∷ rows) r j (inl a) = omega (arith, in-order m k b rows r .0, ap (rank order) (a .0))
   ordered-after m ((k when b) ∷ rows) r j (inr a) =
-      let h = both (leb m (rank order k)) (ordered (rank order k) rows) r in
-      omega (arith, leb-true m (rank order k) (h .0), ordered-after (rank order k) rows (h .1) j a)
+      let h = in-order m k b rows r in omega (arith, h .0, ordered-after (rank order k) rows (h .1) j a)
 
   first-before : (m : ℕ) (rows : List Refusal) → ordered m rows ≡ true → (j : ℕ) → Applies rows j →
       rank order (first rows) ≤ rank order j
   unfolding first
   first-before m ((k when true) ∷ rows) r j (inl a) = le-of-eq (ap (rank order) (a .0))
-  first-before m ((k when true) ∷ rows) r j (inr a) = ordered-after (rank order k) rows (both (leb m (rank order k)) (ordered (rank order k) rows) r .1) j a
+  first-before m ((k when true) ∷ rows) r j (inr a) = ordered-after (rank order k) rows (in-order m k true rows r .1) j a
   first-before m ((k when false) ∷ rows) r j (inl a) = absurd (false≢true (a .1))
-  first-before m ((k when false) ∷ rows) r j (inr a) = first-before (rank order k) rows (both (leb m (rank order k)) (ordered (rank order k) rows) r .1) j a
+  first-before m ((k when false) ∷ rows) r j (inr a) = first-before (rank order k) rows (in-order m k false rows r .1) j a
 
   -- the first is the earliest
   pub first-earliest : (rows : List Refusal) → Numbered rows → ordered 0 rows ≡ true → Earliest order rows (first rows)

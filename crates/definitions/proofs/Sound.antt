@@ -1,5 +1,6 @@
 -- A plan is sound exactly when its check gives 0.
 --
+--   fits             a side that is not found unfit
 --   sound, checked   from the number 0 to the facts, and back
 --   check-at         the check that stops at row i gives that row's number
 --   cells-most       strips and marks of a sound plan have at most 256 cells
@@ -35,7 +36,7 @@ filled-no P a n h = none-any _ _ λ i l.
     le-ltb _ _ z
 
 -- a side that fits, and one that a test finds unfit
-fits : (p n : ℕ) → unfit p n ≡ false → Fits p n
+pub fits : (p n : ℕ) → unfit p n ≡ false → Fits p n
 fits p n h =
     let (a, b) = neither (eqb n 0) _ h in
     let (c, d) = neither (ltb 16 n) _ b in

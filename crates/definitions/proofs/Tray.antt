@@ -96,4 +96,5 @@ room-text input room came l h = rw (h .bytes) (go (decLe (length input) came))
     go (yes m) = rw (take-all came input m)
     go (no m) =
         let c : longest < came = omega (arith, h .count) in
-        long-text (take came input) input (take-take planBytes came input (omega arith)) (simp length-take (omega arith)) (omega arith)
+        long-text (take came input) input (take-take planBytes came input (omega arith)) (simp length-take (omega arith))
+        (omega arith)

@@ -8,8 +8,8 @@
 --   Earliest order rows k  of the numbers that apply, k is the first in the order, and 0 where none applies
 --   accepted k a b         what a call with the number k does: a where k is 0, else b
 --
--- What this file is for: every call's number is `first` of the rows that concern the call, in the table's order. "The lowest number
--- that applies" is the first in that order. A number whose condition has several tests may have a row for each.
+-- What this file is for: every call's number is `first` of the rows that concern the call, in the table's order. "The lowest
+-- number that applies" is the first in that order. A number whose condition has several tests may have a row for each.
 use mathlib.Core.Path.{_≡_}
 use mathlib.Core.Logic.{_≢_, _⊎_}
 use mathlib.Core.Bool.{Bool, true, false}

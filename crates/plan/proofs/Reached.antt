@@ -1,32 +1,41 @@
--- The tests of a plan P of 24 bytes, asked of its parts.
+-- The tests of a plan P of 40 bytes, asked of its parts.
 --
---   spare-reached    of bytes 21 to 23
---   points-reached   of the points
---   unused-reached   of the bytes behind the points
+--   spare-reached    of bytes 38 and 39
+--   points-reached   of n points from byte a on
+--   unused-reached   of the bytes behind them, up to sixteen
+--   low, high        a number that is compared with what a function has answered
 --
 -- What this file is for: what `field::bytes::reaches` answered of the part is the answer to the definition's test.
 -- Assumes nothing.
 use mathlib.Core.Path.{_≡_, _∙_}
-use mathlib.Core.Bool.{Bool}
+use mathlib.Core.Bool.{Bool, true, false}
 use mathlib.Core.List.{List}
-use Prim.Native.Nat.{ℕ, _+_, _-_, _≤_}
+use Prim.Native.Nat.{ℕ, _+_, _-_, _≤_, _<_}
 use native.Mathlib.Omega.{arith}
 use lib.Dec.{leb}
+use borrow.Author.Tests.{le-leb, lt-leb}
 use lib.ListN.{length, take, drop}
 use Rattle.bounded.proofs.Part.{part-any}
 use Rattle.field.specs.Word.{reached}
-use Rattle.definitions.specs.Plan.{modulus, side, filled, large}
+use Rattle.definitions.specs.Plan.{planBytes, modulus, filled, large}
 use Rattle.definitions.proofs.Refusals.{answered}
 
-module _ (P : List ℕ) (l : length P ≡ 24) {r t : Bool} where
-  pub spare-reached : r ≡ reached 1 (take (24 - 21) (drop 21 P)) → r ≡ t → filled P 21 3 ≡ t
-  spare-reached e = answered (e ∙ part-any 21 3 P (leb 1) (omega arith))
+pub low : {r m x : ℕ} → r ≡ m → r ≤ x → leb m x ≡ true
+low {m} {x} e h = le-leb m x (omega arith)
 
-  pub points-reached : side P ≤ 16 → r ≡ reached (modulus P) (take (5 + side P - 5) (drop 5 P)) → r ≡ t → large P (side P) ≡ t
-  points-reached h e = answered (e ∙ part-any 5 (side P) P (leb (modulus P)) (omega arith))
+pub high : {r m x : ℕ} → r ≡ m → x < r → leb m x ≡ false
+high {m} {x} e h = lt-leb m x (omega arith)
 
-  pub unused-reached : side P ≤ 16 → r ≡ reached 1 (take (21 - (5 + side P)) (drop (5 + side P) P)) → r ≡ t →
-      filled P (5 + side P) (16 - side P) ≡ t
-  unused-reached h e =
-      let n : 21 ≡ 5 + side P + (16 - side P) = omega arith in
-      answered (rw n at e ∙ part-any (5 + side P) (16 - side P) P (leb 1) (omega arith))
+module _ (P : List ℕ) (l : length P ≡ planBytes) where
+  pub spare-reached : {r t : Bool} → r ≡ reached 1 (take (40 - 38) (drop 38 P)) → r ≡ t → filled P 38 2 ≡ t
+  spare-reached e = answered (e ∙ part-any 38 2 P (leb 1) (omega arith))
+
+  pub points-reached : (a n : ℕ) {r : Bool} → a + n ≤ planBytes → r ≡ reached (modulus P) (take (a + n - a) (drop a P)) →
+      r ≡ large P a n
+  points-reached a n h e = e ∙ part-any a n P (leb (modulus P)) (omega arith)
+
+  pub unused-reached : (a n : ℕ) {r : Bool} → n ≤ 16 → a + 16 ≤ planBytes →
+      r ≡ reached 1 (take (a + 16 - (a + n)) (drop (a + n) P)) → r ≡ filled P (a + n) (16 - n)
+  unused-reached a n h k e =
+      let m : a + 16 ≡ a + n + (16 - n) = omega arith in
+      (rw m at e) ∙ part-any (a + n) (16 - n) P (leb 1) (omega arith)

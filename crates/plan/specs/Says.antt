@@ -10,7 +10,7 @@ use mathlib.Core.List.{List}
 use Prim.Native.Nat.{ℕ, _<_}
 use Rattle.field.specs.Row.{row, Reciprocal}
 use Rattle.polynomial.specs.Fit.{Fit}
-use Rattle.definitions.specs.Plan.{season, modulus, side, degree, point}
+use Rattle.definitions.specs.Plan.{season, modulus, rows, columns, degree, rowPoint, columnPoint}
 use Rattle.definitions.specs.Cost.{full}
 use Rattle.definitions.specs.Sound.{Sound}
 use Rattle.plan.specs.declared.Plan.{Plan}
@@ -21,10 +21,10 @@ said P m = record {
   grid = record {
     p = modulus P;
     m = m;
-    x = row (point P);
-    a = side P;
-    y = row (point P);
-    b = side P;
+    x = row (rowPoint P);
+    a = rows P;
+    y = row (columnPoint P);
+    b = columns P;
     d = degree P;
     full = full;
   };

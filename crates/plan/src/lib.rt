@@ -1,14 +1,15 @@
-// The season plan, 24 bytes of document 01's first table: checking one, what a sound one says, finding one in a plan file. A plan
-// may be any bytes of any length. Its bytes are read here and nowhere else; everything above takes the struct that `parse` makes.
+// The season plan, the 40 bytes of the first table: checking one, what a sound one says, finding one in a plan file. A plan may
+// be any bytes of any length. Its bytes are read here and nowhere else; everything above takes the struct that `parse` makes.
 use definitions::FULL;
+use definitions::PLAN_BYTES;
 use field::bytes;
 use field::rows::reciprocal;
 use polynomial::Grid;
 ghost use mathlib.Core.Path.{_≡_};
-ghost use Prim.Native.Nat.{_+_, _*_, _-_, _≤_, _<_};
+ghost use Prim.Native.Nat.{_+_, _*_, _-_, _≤_, _<_, min};
 ghost use denote.Ref.{ptr};
 ghost use lib.ListN.{length};
-ghost use Rattle.definitions.specs.Plan.{unordered, checkNumber, side};
+ghost use Rattle.definitions.specs.Plan.{planBytes, unordered, unfit, misplaced, checkNumber};
 ghost use Rattle.definitions.specs.Sound.{Sound};
 ghost use Rattle.definitions.specs.Finder.{findNumber, findOffset, findBytes, addressAt};
 ghost use Rattle.plan.specs.Says.{Says};
@@ -19,15 +20,15 @@ pub struct Plan {
     pub grid: Grid,
 }
 
-// The number of the first refusal, 1 to 5, that applies to the plan; 0 where it is sound. The tests are the rows of
-// `planRows`, one for one.
+// The number of the first refusal, of 1, 2, 3, 13, 4, 5 in this order, that applies to the plan; 0 where it is sound. The tests
+// are the rows of `planRows`, one for one.
 pub fn check(plan: &[u8]) -> u32
     ensures { λ r. ⌜ r ≡ checkNumber (now (plan .entry)) ⌝ }
 {
-    if plan.len() != 24 {
+    if plan.len() != PLAN_BYTES {
         return 1;
     }
-    if bytes::reaches(&plan[21..24], 1) {
+    if bytes::reaches(&plan[38..40], 1) {
         return 1;
     }
     let p = plan[2];
@@ -37,61 +38,83 @@ pub fn check(plan: &[u8]) -> u32
     if 251 < p {
         return 2;
     }
-    let n = plan[3];
-    if n == 0 {
+    let rows = plan[3];
+    if is_unfit(rows, p) {
         return 3;
     }
-    if 16 < n {
-        return 3;
+    let columns = plan[4];
+    if is_unfit(columns, p) {
+        return 13;
     }
-    if p < n {
-        return 3;
-    }
-    if n <= plan[4] {
+    if smaller(rows, columns) <= plan[5] {
         return 4;
     }
-    let side = n as usize;
-    if bytes::reaches(&plan[5..5 + side], p) {
+    if is_misplaced(plan, 6, rows as usize) {
         return 5;
     }
-    if is_unordered(plan) {
-        return 5;
-    }
-    if bytes::reaches(&plan[5 + side..21], 1) {
+    if is_misplaced(plan, 22, columns as usize) {
         return 5;
     }
     0
 }
 
-// Whether one of the points is not above the one before it.
-fn is_unordered(plan: &[u8]) -> bool
-    requires { ⌜ (length (now plan) ≡ 24) × (side (now plan) ≤ 16) × (0 < side (now plan)) ⌝ }
-    ensures { λ r. ⌜ r ≡ unordered (now (plan .entry)) (side (now (plan .entry)) - 1) ⌝ }
+// Whether n points are none, above 16, or more than p.
+fn is_unfit(n: u8, p: u8) -> bool
+    ensures { λ r. ⌜ r ≡ unfit p n ⌝ }
 {
-    let n = plan[3] as usize - 1;
+    (n == 0) | ((16 < n) | (p < n))
+}
+
+// The smaller of two sides.
+fn smaller(a: u8, b: u8) -> u8
+    ensures { λ r. ⌜ r ≡ min a b ⌝ }
+{
+    if a < b {
+        return a;
+    }
+    b
+}
+
+// Whether, of n points in the sixteen bytes from byte a on, one is p or more or not above the one before it, or an unused byte is
+// not 0.
+fn is_misplaced(plan: &[u8], a: usize, n: usize) -> bool
+    requires { ⌜ (length (now plan) ≡ planBytes) × (a + 16 ≤ planBytes) × (0 < n) × (n ≤ 16) ⌝ }
+    ensures { λ r. ⌜ r ≡ misplaced (now (plan .entry)) a n ⌝ }
+{
+    let end = a + n;
+    let large = bytes::reaches(&plan[a..end], plan[2]);
+    let unordered = is_unordered(plan, a, n);
+    let filled = bytes::reaches(&plan[end..a + 16], 1);
+    large | (unordered | filled)
+}
+
+// Whether, of n points from byte a on, one is not above the one before it.
+fn is_unordered(plan: &[u8], a: usize, n: usize) -> bool
+    requires { ⌜ (length (now plan) ≡ planBytes) × (a + n ≤ planBytes) × (0 < n) ⌝ }
+    ensures { λ r. ⌜ r ≡ unordered (now (plan .entry)) a (n - 1) ⌝ }
+{
+    let steps = n - 1;
     let mut found = false;
-    for i in 0..n {
-        found = found | (plan[5 + (i + 1)] <= plan[5 + i]);
+    for i in 0..steps {
+        found = found | (plan[a + (i + 1)] <= plan[a + i]);
     }
     found
 }
 
-// What a sound plan says. Rows and columns have the same points.
+// What a sound plan says.
 pub fn parse(plan: &[u8]) -> Plan
     requires { ⌜ Sound (now plan) ⌝ }
     ensures { λ r. ⌜ Says (now (plan .entry)) r ⌝ }
 {
     let p = plan[2] as u16;
-    let n = plan[3] as usize;
-    let x = bytes::row(&plan[5..21]);
     let grid = Grid {
         p,
         m: reciprocal(p),
-        x,
-        a: n,
-        y: x,
-        b: n,
-        d: plan[4] as usize,
+        x: bytes::row(&plan[6..22]),
+        a: plan[3] as usize,
+        y: bytes::row(&plan[22..38]),
+        b: plan[4] as usize,
+        d: plan[5] as usize,
         full: FULL,
     };
     Plan {
@@ -107,7 +130,7 @@ fn season_of(high: u8, low: u8) -> u16
     high as u16 * 256 + low as u16
 }
 
-// Where the first record of the season begins in the plan file: answers 0 and sets the offset, a multiple of 24. Refusals: 11 for
+// Where the first record of the season begins in the plan file: answers 0 and sets the offset, a multiple of 40. Refusals: 11 for
 // a file of broken records, 12 where no record has the season; then the offset is 0. Only the season bytes are compared; the plan
 // is not checked.
 pub fn locate(file: &[u8], season: u16, offset: &mut usize) -> u32
@@ -115,12 +138,12 @@ pub fn locate(file: &[u8], season: u16, offset: &mut usize) -> u32
     ensures offset { λ r. ⌜ now (offset .exit) ≡ findOffset (now (file .entry)) season ⌝ }
 {
     *offset = 0;
-    if file.len() % 24 != 0 {
+    if file.len() % PLAN_BYTES != 0 {
         return 11;
     }
-    let n = file.len() / 24;
+    let n = file.len() / PLAN_BYTES;
     for k in 0..n {
-        let at = k * 24;
+        let at = k * PLAN_BYTES;
         if season_of(file[at], file[at + 1]) == season {
             *offset = at;
             return 0;
@@ -129,7 +152,7 @@ pub fn locate(file: &[u8], season: u16, offset: &mut usize) -> u32
     12
 }
 
-// The same, as the record itself: 24 bytes of the lent file and no copy, or an empty part at its start where the number is not 0.
+// The same, as the record itself: 40 bytes of the lent file and no copy, or an empty part at its start where the number is not 0.
 pub fn find<'a>(file: &'a [u8], season: u16, number: &mut u32) -> &'a [u8]
     ensures number { λ r. ⌜ now (number .exit) ≡ findNumber (now (file .entry)) season ⌝ }
     ensures address { λ r. ⌜ ptr r ≡ addressAt (file .entry) (findOffset (now (file .entry)) season) ⌝ }
@@ -140,5 +163,5 @@ pub fn find<'a>(file: &'a [u8], season: u16, number: &mut u32) -> &'a [u8]
     if *number != 0 {
         return &file[0..0];
     }
-    &file[at..at + 24]
+    &file[at..at + PLAN_BYTES]
 }

@@ -1,17 +1,35 @@
 -- `plan::check` meets its contract: at each return the tests before it failed, and its own holds. Assumes nothing.
+use mathlib.Core.List.{List}
+use Prim.Native.Nat.{ℕ}
 use native.Mathlib.Omega.{arith}
-use borrow.Author.Tests.{lt-ltb, le-ltb, le-leb, lt-leb, eq-eqb, ne-eqb}
-use Rattle.definitions.specs.Plan.{planRows}
+use borrow.Author.Tests.{lt-ltb, le-ltb}
+use Rattle.definitions.specs.Plan.{modulus, rows, columns, planRows}
+use Rattle.definitions.specs.Sound.{Fits}
 use Rattle.definitions.proofs.Refusals.{equal, unequal, answered, answered-not}
-use Rattle.definitions.proofs.Sound.{check-at}
-use Rattle.plan.proofs.Reached.{spare-reached, points-reached, unused-reached}
+use Rattle.definitions.proofs.Sound.{fits, check-at}
+use Rattle.plan.proofs.Reached.{low, high, spare-reached}
 use borrow.Author.Needs.{needs}
 use Rattle.plan.proofs.check.Statement.{statement}
 use Rattle.plan.proofs.check.Tie as tie
 
-ruleset parts = (spare-reached, points-reached, unused-reached)
+-- both sides were found to fit
+module _ (c : tie.Else6) where
+  abbrev tall-known : tie.Else5
+  tall-known = c .before .before .before
 
-ruleset tests = (parts, answered, answered-not, equal, unequal, lt-ltb, le-ltb, le-leb, lt-leb, ne-eqb, eq-eqb)
+  abbrev whole-known : tie.Else1
+  whole-known = tall-known .before .before .before .before .before .before .before .before .before .before
+
+  abbrev P : List ℕ
+  P = whole-known .before .before .args .plan .now
+
+  tall : Fits (modulus P) (rows P)
+  tall = fits _ _ (answered (tall-known .before .is-unfit .ensures) (tall-known .if5 .left))
+
+  wide : Fits (modulus P) (columns P)
+  wide = fits _ _ (answered (c .before .is-unfit2 .ensures) (c .if6 .left))
+
+ruleset tests = (spare-reached, low, high, answered, answered-not, equal, unequal, lt-ltb, le-ltb)
 
 returns : tie.Need-returns
 unfolding planRows
@@ -43,23 +61,15 @@ returns-7 c = check-at _ 6 (search tests depth 16)
 
 returns-8 : tie.Need-returns-8
 unfolding planRows
-returns-8 c = check-at _ 7 (search tests depth 16)
+returns-8 c = check-at _ 7 (search tests, (search tests, (search tests, (search tests, (search tests, (search tests, (search tests, search tests)))))))
 
 returns-9 : tie.Need-returns-9
 unfolding planRows
-returns-9 c = check-at _ 8 (search tests depth 16)
+returns-9 c = check-at _ 8 (search tests, (search tests, (search tests, (search tests, (search tests, (search tests, (search tests, (search tests, (search tests)))))))))
 
 returns-10 : tie.Need-returns-10
 unfolding planRows
-returns-10 c = check-at _ 9 (search tests depth 16)
-
-returns-11 : tie.Need-returns-11
-unfolding planRows
-returns-11 c = check-at _ 10 (search tests, (search tests, (search tests, (search tests, search tests depth 16))))
-
-returns-12 : tie.Need-returns-12
-unfolding planRows
-returns-12 c = check-at _ 11 (search tests, (search tests, (search tests, (search tests, (search tests, search tests depth 16)))))
+returns-10 c = check-at _ 9 (search tests, (search tests, (search tests, (search tests, (search tests, (search tests, (search tests, (search tests, (search tests)))))))))
 
 pub check-spec : {M : Type 1} → statement M
 check-spec =
@@ -73,16 +83,20 @@ check-spec =
     (λ c κs. search needs)
     returns-3
     returns-4
-    (λ c. search needs)
+    (λ c. search needs) (λ c κs. search needs)
     returns-5
+    (λ c. search needs) (λ c κs. search needs)
     returns-6
+    (λ c κs. search needs) (λ c. search needs)
     returns-7
-    (λ c. search needs)
+    (λ c. omega (arith, tall (c .before .before .before) .most))
+    (λ c κs.
+    let s = c .before .before .before in
+    (whole-known s .if1 .left, omega arith, omega (arith, tall s .some), tall s .most))
     returns-8
-    (λ c. search needs) (λ c. search needs) (λ c. search needs) (λ c. search needs) (λ c. search needs) (λ c κs. search needs)
+    (λ c. omega (arith, wide (c .before .before .before .before .before) .most))
+    (λ c κs.
+    let s = c .before .before .before .before .before in
+    (whole-known s .if1 .left, omega arith, omega (arith, wide s .some), wide s .most))
     returns-9
-    (λ c κs. search needs)
-    returns-10
-    (λ c. search needs) (λ c. search needs) (λ c. search needs) (λ c. search needs) (λ c κs. search needs)
-    returns-11
-    returns-12)
+    returns-10)

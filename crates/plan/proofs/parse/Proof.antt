@@ -1,4 +1,5 @@
--- `plan::parse` meets its contract: each field is what the plan's bytes say, and the points are sixteen of them. Assumes nothing.
+-- `plan::parse` meets its contract: each field is what the plan's bytes say, and the points are sixteen of them each way. Assumes
+-- nothing.
 use mathlib.Core.Path.{refl}
 use Rattle.plan.proofs.Ready.{points-loaded}
 use borrow.Author.Needs.{needs}
@@ -7,12 +8,18 @@ use Rattle.plan.proofs.parse.Tie as tie
 
 returns : tie.Need-returns
 returns c =
-    let inverse = c .before .before .before .before in
-    let points = inverse .before in
-    let start = points .before .before .before .before .before in record {
+    let columns = c .before .before .before .before .before in
+    let rows = columns .before .before .before in
+    let inverse = rows .before .before in
+    let start = inverse .before .before .before in
+    let P = start .args .plan .now in record {
       sound = start .pre;
       m = inverse .reciprocal .result;
-      fields = rw (c .season-of .ensures, points-loaded (start .args .plan .now) (points .row .ensures)) refl;
+      fields = rw (
+        c .season-of .ensures,
+        points-loaded 6 P (rows .row .ensures),
+        points-loaded 22 P (columns .row2 .ensures),
+      ) refl;
       reciprocal = inverse .reciprocal .ensures;
     }
 
@@ -20,7 +27,8 @@ pub parse-spec : {M : Type 1} → statement M
 parse-spec =
     tie.close
     (tie.spec
-    (λ c. search needs) (λ c. search needs) (λ c. search needs) (λ c. search needs) (λ c. search needs) (λ c. search needs)
-    (λ c. search needs) (λ c κs. search needs) (λ c κs. search needs) (λ c. search needs) (λ c. search needs)
+    (λ c. search needs) (λ c. search needs) (λ c κs. search needs) (λ c. search needs) (λ c. search needs) (λ c. search needs)
+    (λ c κs. search needs) (λ c. search needs) (λ c. search needs) (λ c. search needs) (λ c. search needs) (λ c. search needs)
+    (λ c κs. search needs) (λ c. search needs) (λ c. search needs) (λ c. search needs) (λ c. search needs)
     (λ c. search needs) (λ c. search needs) (λ c κs. search needs)
     returns)
