@@ -17,7 +17,7 @@ use Rattle.bounded.proofs.Sum.{sum-eq, sum-append}
 use Rattle.bounded.proofs.Part.{part-at, part-length}
 use Rattle.polynomial.specs.Record.{gridValue}
 use Rattle.distance.specs.Cost.{cell, differ}
-use Rattle.definitions.specs.Plan.{side}
+use Rattle.definitions.specs.Plan.{rows}
 use Rattle.definitions.specs.Code.{strip, oblong, cells, value}
 use Rattle.definitions.specs.Cost.{full}
 use Rattle.definitions.specs.Photograph.{Photograph}
@@ -49,8 +49,8 @@ measured-more {f} n r s u v a b = rw (add-one r, suc-mul r n) (record {
 })
 
 pub strip-measured : {P s u : List ℕ} {plan : Plan} {v w : ℕ → ℕ} {D k : ℕ} → Photograph strip P s u → Says P plan →
-    ((i : ℕ) → i < side P → v i ≡ w i) → Measured (plan .grid .full) (length s) (at s) (at u) v D k →
-    Measured full (side P) (at s) (at u) w D k
+    ((i : ℕ) → i < rows P → v i ≡ w i) → Measured (plan .grid .full) (length s) (at s) (at u) v D k →
+    Measured full (rows P) (at s) (at u) w D k
 strip-measured photo says e m = measured-eq (λ i l. refl) (λ i l. refl) e (rw (says .fields, photo .symbols) at m)
 
 pub mark-measured : {P : List ℕ} {plan : Plan} {s u : ℕ → ℕ} {D k : ℕ} → Says P plan → (F : List ℕ) →

@@ -22,7 +22,7 @@ ghost use Rattle.definitions.specs.Photograph.{Photograph};
 ghost use Rattle.plan.specs.Says.{Says};
 ghost use Rattle.measuring.specs.Measured.{Measured};
 
-// The reading of a record against a mark. Rows and columns have the same points: one table of powers serves both.
+// The reading of a record against a mark.
 pub fn measure_mark(plan: Plan, record: &[u8], symbols: &[u8], doubts: &[u8]) -> Reading
     requires { ⌜ ((P : List ℕ) × Says P plan × Photograph oblong P (now symbols) (now doubts)
         × IsRecord oblong P (now «record»)) ⌝ }
@@ -31,9 +31,11 @@ pub fn measure_mark(plan: Plan, record: &[u8], symbols: &[u8], doubts: &[u8]) ->
 {
     let g = plan.grid;
     let x = g.x;
-    let powers = evaluation::powers(x, g.d, g.p, g.m);
-    let columns = bivariate::columns(record, &powers, g.d, g.p, g.m);
-    let tally = measure_rows(g, &columns, &powers, symbols, doubts);
+    let xs = evaluation::powers(x, g.d, g.p, g.m);
+    let columns = bivariate::columns(record, &xs, g.d, g.p, g.m);
+    let y = g.y;
+    let ys = evaluation::powers(y, g.d, g.p, g.m);
+    let tally = measure_rows(g, &columns, &ys, symbols, doubts);
     let radius = limit::radius(g);
     answers::reading(radius, tally.cost, tally.differing, symbols)
 }

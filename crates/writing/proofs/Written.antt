@@ -17,9 +17,11 @@ use Rattle.bounded.specs.Bounded.{at, tab}
 use Rattle.bounded.proofs.Sum.{cell-row, cell-column}
 use Rattle.bounded.proofs.Tab.{length-tab, tab-at, tab-append}
 use Rattle.bounded.proofs.Part.{row-in}
-use Rattle.definitions.specs.Plan.{modulus, side, degree, point}
+use Rattle.definitions.specs.Plan.{modulus, rows, columns, degree, rowPoint, columnPoint, side, point}
 use Rattle.definitions.specs.Code.{Code, strip, oblong, cells, value, mark}
+use Rattle.polynomial.specs.Sides.{cellPoint}
 use Rattle.polynomial.specs.Record.{valueXY}
+use Rattle.polynomial.proofs.Known.{value-strip-is, value-cell}
 use Rattle.definitions.specs.Demands.{Written}
 
 -- the part from r * n on has come back with row r in it
@@ -45,11 +47,15 @@ mark-at C P F c l = tab-at (cells C P) (value C P F) c l
 
 pub mark-written : (C : Code) (P F : List ℕ) → Written C P F (mark C P F)
 unfolding mark
-mark-written strip P F = (length-tab _ _, λ j l. mark-at strip P F j l)
+mark-written strip P F = (
+  length-tab _ _,
+  λ i l. mark-at strip P F i l ∙ value-strip-is (modulus P) (degree P) F (cellPoint 0 (side P) (point P) i),
+)
 mark-written oblong P F = (
   length-tab _ _,
   λ i j k l.
-      mark-at oblong P F (i * side P + j) (omega (arith, row-in i (side P) (side P) k))
-      ∙ ap₂ (λ r c. valueXY (modulus P) (degree P) F (point P r) (point P c)) (cell-row (side P) i j l)
-      (cell-column (side P) i j l),
+      mark-at oblong P F (i * columns P + j) (omega (arith, row-in i (rows P) (columns P) k))
+      ∙ value-cell (modulus P) (degree P) F (side P) (point P) (i * columns P + j)
+      ∙ ap₂ (λ r c. valueXY (modulus P) (degree P) F (rowPoint P r) (columnPoint P c)) (cell-row (columns P) i j l)
+      (cell-column (columns P) i j l),
 )

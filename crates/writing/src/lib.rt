@@ -16,16 +16,18 @@ ghost use Rattle.definitions.specs.Code.{strip as stripCode, oblong, mark as ma
 ghost use Rattle.definitions.specs.Accepted.{Writing};
 ghost use Rattle.plan.specs.Says.{Says};
 
-// Fills the mark. Rows and columns have the same points: one table of powers serves both.
+// Fills the mark.
 pub fn write_mark(plan: Plan, record: &[u8], mark: &mut [u8])
     requires { ⌜ ((P : List ℕ) × Says P plan × Writing oblong P (now «record») (now mark)) ⌝ }
     ensures { λ _. ⌜ ((P : List ℕ) → Says P plan → now (mark .exit) ≡ markOf oblong P (now («record» .entry))) ⌝ }
 {
     let g = plan.grid;
     let x = g.x;
-    let powers = evaluation::powers(x, g.d, g.p, g.m);
-    let columns = bivariate::columns(record, &powers, g.d, g.p, g.m);
-    write_rows(g, &columns, &powers, mark);
+    let xs = evaluation::powers(x, g.d, g.p, g.m);
+    let columns = bivariate::columns(record, &xs, g.d, g.p, g.m);
+    let y = g.y;
+    let ys = evaluation::powers(y, g.d, g.p, g.m);
+    write_rows(g, &columns, &ys, mark);
 }
 
 // Its rows, one after the other, each into its own part of the mark. X was put in for all rows at once, which gave the columns.

@@ -8,7 +8,7 @@ use Rattle.definitions.specs.Code.{oblong, cells, value}
 use Rattle.definitions.specs.Cost.{full}
 use Rattle.plan.specs.Says.{Says}
 use Rattle.plan.proofs.Ready.{ready}
-use Rattle.plan.proofs.Values.{record-word, same-points, mark-cells, mark-radius}
+use Rattle.plan.proofs.Values.{record-word, mark-cells, mark-radius}
 use Rattle.answers.proofs.Summary.{few-cells, unread-within, summary-is}
 use Rattle.measuring.specs.Measured.{Measured}
 use Rattle.measuring.proofs.Rows.{mark-measured}
@@ -17,23 +17,25 @@ use Rattle.measuring.proofs.measure_mark.Tie as tie
 
 -- the rows are measured
 module _ (c : tie.After-measure-rows) where
-  abbrev columns : tie.After-columns
-  columns = c .before .before .before
+  abbrev ys : tie.After-powers2
+  ys = c .before .before .before
 
-  abbrev powers : tie.After-powers
-  powers = columns .before .before
+  abbrev columns : tie.After-columns
+  columns = ys .before .before
+
+  abbrev xs : tie.After-powers
+  xs = columns .before .before
 
   abbrev start : tie.Start
-  start = powers .before .before .before .before .before .before
+  start = xs .before .before .before .before .before .before
 
   measured : {P : List ℕ} → Says P (start .args .plan) → Measured full (cells oblong P) (at (start .args .symbols .now))
       (at (start .args .doubts .now)) (value oblong P (start .args .«record» .now)) (c .measure-rows .result .cost)
       (c .measure-rows .result .differing)
   measured says =
       let g = start .args .plan .grid in
-      let made = powers .powers .ensures .1 in
       mark-measured says (start .args .«record» .now) (c .measure-rows .ensures .1 (g .x) (g .y) _
-      (columns .columns .ensures .1 (g .x) made) (rw (same-points says) made))
+      (columns .columns .ensures .1 (g .x) (xs .powers .ensures .1)) (ys .powers2 .ensures .1))
 
 columns-requires : tie.Need-columns-requires
 columns-requires c κs =
@@ -44,12 +46,12 @@ columns-requires c κs =
 
 measure-rows-requires : tie.Need-measure-rows-requires
 measure-rows-requires c κs =
-    let columns = c .before .before in
-    let powers = columns .before .before in
-    let (P, says, photo, given) = powers .before .before .before .before .before .before .pre in (
+    let ys = c .before .before in
+    let columns = ys .before .before in
+    let (P, says, photo, given) = columns .before .before .before .before .before .before .before .before .pre in (
       ready says .fit,
       columns .columns .ensures .0,
-      powers .powers .ensures .0,
+      ys .powers2 .ensures .0,
       photo .symbols ∙ mark-cells says,
       photo .doubts ∙ mark-cells says,
       λ i l. rw (says .fields) (photo .doubt i (rw (says .fields) at l)),
@@ -85,6 +87,10 @@ measure-mark-spec =
     let g = ready says .fit in
     (g .reciprocal, g .rowPoints, omega (arith, g .low, g .rows)))
     columns-requires
+    (λ c κs.
+    let (P, says, photo, given) = c .before .before .before .before .before .before .before .before .before .pre in
+    let g = ready says .fit in
+    (g .reciprocal, g .columnPoints, omega (arith, g .low, g .rows)))
     measure-rows-requires
     radius-requires
     reading-requires

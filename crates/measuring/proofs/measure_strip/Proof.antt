@@ -7,6 +7,7 @@ use Rattle.bounded.specs.Bounded.{at}
 use Rattle.definitions.specs.Code.{strip, cells, value}
 use Rattle.definitions.specs.Cost.{full}
 use Rattle.definitions.specs.Photograph.{Photograph}
+use Rattle.definitions.proofs.Plan.{strip-size}
 use Rattle.plan.specs.Says.{Says}
 use Rattle.plan.proofs.Ready.{ready}
 use Rattle.plan.proofs.Values.{record-row, strip-values, strip-radius}
@@ -49,7 +50,7 @@ measure-row-requires : tie.Need-measure-row-requires
 measure-row-requires c κs =
     let (P, says, photo, given) = start (c .before .before .before) .pre in
     let g = ready says .fit in (
-      omega (arith, photo .symbols, photo .sound .most),
+      omega (arith, photo .symbols, photo .sound .tall .most),
       photo .doubts ∙ sym (photo .symbols),
       omega (arith, g .full),
       λ i l. rw (says .fields) (photo .doubt i (rw (photo .symbols) at l)),
@@ -81,7 +82,7 @@ measure-strip-spec =
     (g .reciprocal, g .rowPoints, omega (arith, g .low, g .rows)))
     (λ c κs.
     let (P, says, photo, given) = start (c .before) .pre in
-    omega (arith, given .size, photo .sound .low, photo .sound .most))
+    omega (arith, given .size, strip-size P, photo .sound .low, photo .sound .tall .most))
     values-requires
     measure-row-requires
     (λ c κs.

@@ -4,6 +4,7 @@ use native.Mathlib.Omega.{arith}
 use Rattle.bounded.specs.Bounded.{at, tab}
 use Rattle.bounded.proofs.Tab.{tab-eq}
 use Rattle.definitions.specs.Code.{mark}
+use Rattle.definitions.proofs.Plan.{strip-size}
 use Rattle.plan.proofs.Ready.{ready}
 use Rattle.plan.proofs.Values.{record-row, strip-values}
 use borrow.Author.Needs.{needs}
@@ -26,7 +27,7 @@ store-requires c κs =
     let values = c .before .before in
     let (P, says, w) = values .before .before .before .before .before .before .before .before .pre in
     let g = ready says .fit in (
-      omega (arith, w .room, w .sound .most, values .values .ensures .0 .size),
+      omega (arith, w .room, w .sound .tall .most, values .values .ensures .0 .size),
       λ j _. omega (arith, values .values .ensures .0 .small j, g .reciprocal .most),
     )
 
@@ -52,7 +53,7 @@ write-strip-spec =
     (g .reciprocal, g .rowPoints, omega (arith, g .low, g .rows)))
     (λ c κs.
     let (P, says, w) = c .before .before .before .before .before .before .pre in
-    omega (arith, w .given .size, w .sound .low, w .sound .most))
+    omega (arith, w .given .size, strip-size P, w .sound .low, w .sound .tall .most))
     values-requires
     (λ c. search needs)
     store-requires
