@@ -9,7 +9,7 @@ use Prim.Native.Nat.{ℕ, _*_, _≤_}
 use native.Mathlib.Omega.{arith}
 use lib.ListN.{length}
 use Rattle.bounded.specs.Bounded.{at, sum}
-use Rattle.definitions.specs.Plan.{side}
+use Rattle.definitions.specs.Plan.{rows, columns}
 use Rattle.definitions.specs.Code.{oblong, value}
 use Rattle.definitions.specs.Cost.{full}
 use Rattle.definitions.specs.Calls.{refused}
@@ -28,6 +28,6 @@ pub doubts-refuse : {P s u B : List ℕ} {plan : Plan} {R : ℕ} → Says P plan
 doubts-refuse {P} {s} {u} {B} says t e h = reads-none oblong P s u B (t .clear) λ F f. cost-without oblong P s u F λ l. omega (
   arith,
   mark-radius says e,
-  doubts-cost full (side P * side P) (at s) (at u) (value oblong P F) (t .photo .doubt),
+  doubts-cost full (rows P * columns P) (at s) (at u) (value oblong P F) (t .photo .doubt),
   rw (t .photo .doubts) at h,
 )

@@ -3,6 +3,6 @@ pub mod StripReading
 pub mod MarkReading
 pub mod Loading
 pub mod Early
-pub mod Square
+pub mod Cells
 pub mod StripLoaded
 pub mod MarkLoaded

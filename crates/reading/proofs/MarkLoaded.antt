@@ -26,7 +26,7 @@ use Rattle.bounded.proofs.Tab.{length-tab, tab-at}
 use Rattle.field.specs.Row.{row}
 use Rattle.field.proofs.Congruence.{same, ~add, mod-cong, _⨾_}
 use Rattle.field.proofs.Row.{row-at, row-of, beyond}
-use Rattle.definitions.specs.Plan.{modulus, side, degree, point}
+use Rattle.definitions.specs.Plan.{modulus, rows, columns, degree, rowPoint, columnPoint, side, point}
 use Rattle.definitions.specs.Code.{oblong, size, cells, value}
 use Rattle.polynomial.specs.Record.{place, longest}
 use Rattle.definitions.specs.Cost.{full, unread, radius}
@@ -39,8 +39,8 @@ use Rattle.polynomial.specs.Powers.{Rows}
 use Rattle.polynomial.specs.declared.Grid.{Grid}
 use Rattle.polynomial.specs.Fit.{gridRadius}
 use Rattle.polynomial.proofs.Record.{value-rows, place-below}
-use Rattle.polynomial.proofs.Distance.{distance-square}
-use Rattle.definitions.proofs.Plan.{plan-longest}
+use Rattle.polynomial.proofs.Known.{value-cell}
+use Rattle.definitions.proofs.Plan.{plan-longest, mark-size}
 use Rattle.plan.specs.declared.Plan.{Plan}
 use Rattle.plan.specs.Says.{said, Says}
 use Rattle.plan.proofs.Ready.{point-at}
@@ -56,66 +56,67 @@ use Rattle.reading.proofs.MarkReading.{mark-none, mark-record, mark-cos
 use Rattle.reading.specs.Loading.{residue, gridCell, SymbolRows, DoubtLines, Taken}
 use Rattle.reading.specs.Differing.{flag, differingCells}
 use Rattle.reading.proofs.Loading.{residue-below, residue-loaded}
-use Rattle.reading.proofs.Square.{cell-at, flag-differ}
+use Rattle.reading.proofs.Cells.{cell-at, flag-differ}
 
 -- a record has a byte at least, and at most as many as a message has numbers
 pub record-room : {P s u B : List ℕ} → Taken oblong P s u B → (0 < length B) × (length B ≤ longest)
-record-room {P} t = rw (t .room) (place-below 0 0 (degree P + 1) (omega arith), plan-longest (t .photo .sound))
+record-room {P} t =
+    rw (t .room) (rw (mark-size P) (place-below 0 0 (degree P + 1) (omega arith)), plan-longest (t .photo .sound))
 
-module _ {P s u B : List ℕ} {left : List (List ℕ)} (t : Taken oblong P s u B) (es : SymbolRows (side P) s left) where
+module _ {P s u B : List ℕ} {left : List (List ℕ)} (t : Taken oblong P s u B) (es : SymbolRows (columns P) s left) where
   positive : 0 < modulus P
   positive = omega (arith, t .photo .sound .prime .least)
 
-  inside : (r c : ℕ) → r < side P → c < side P → r * side P + c < side P * side P
-  inside r c l m = omega (arith, mul-le-mul-right (side P) l)
+  inside : (r c : ℕ) → r < rows P → c < columns P → r * columns P + c < rows P * columns P
+  inside r c l m = omega (arith, mul-le-mul-right (columns P) l)
 
-  symbol-at : (r c : ℕ) → r < side P → c < side P → cellAt left r c ≡ residue (at s (r * side P + c))
+  symbol-at : (r c : ℕ) → r < rows P → c < columns P → cellAt left r c ≡ residue (at s (r * columns P + c))
   symbol-at r c l m =
-      ap (λ v. at v c) (es .done r (omega (arith, t .photo .sound .most)))
-      ∙ row-at (λ c. residue (gridCell (side P) s r c)) c (omega (arith, t .photo .sound .most))
-      ∙ ap residue (cell-at (side P) s r c m)
+      ap (λ v. at v c) (es .done r (omega (arith, t .photo .sound .tall .most)))
+      ∙ row-at (λ c. residue (gridCell (columns P) s r c)) c (omega (arith, t .photo .sound .wide .most))
+      ∙ ap residue (cell-at (columns P) s r c m)
 
-  known : (r c : ℕ) → (gridCell (side P) s r c < modulus P) ⊎ (gridCell (side P) s r c ≡ unread)
-  known r c = column (decLt c (side P)) (decLt r (side P))
+  known : (r c : ℕ) → (gridCell (columns P) s r c < modulus P) ⊎ (gridCell (columns P) s r c ≡ unread)
+  known r c = column (decLt c (columns P)) (decLt r (rows P))
     where
-      column : Dec (c < side P) → Dec (r < side P) → (gridCell (side P) s r c < modulus P) ⊎ (gridCell (side P) s r c ≡ unread)
-      column (yes m) (yes l) = rw (cell-at (side P) s r c m) (t .photo .symbol (r * side P + c) (inside r c l m))
+      column : Dec (c < columns P) → Dec (r < rows P) → (gridCell (columns P) s r c < modulus P) ⊎ (gridCell (columns P) s r c ≡ unread)
+      column (yes m) (yes l) = rw (cell-at (columns P) s r c m) (t .photo .symbol (r * columns P + c) (inside r c l m))
       column (yes m) (no l) =
-          let k : side P ≤ r = omega arith in
-          let h : length s ≤ r * side P + c = omega (arith, t .photo .symbols, mul-le-mul-right (side P) k) in
-          inl (rw (cell-at (side P) s r c m, beyond s (r * side P + c) h) positive)
-      column (no m) l = let k : side P ≤ c = omega arith in inl (rw (le-ltb c (side P) k) positive)
+          let k : rows P ≤ r = omega arith in
+          let h : length s ≤ r * columns P + c = omega (arith, t .photo .symbols, mul-le-mul-right (columns P) k) in
+          inl (rw (cell-at (columns P) s r c m, beyond s (r * columns P + c) h) positive)
+      column (no m) l = let k : columns P ≤ c = omega arith in inl (rw (le-ltb c (columns P) k) positive)
 
   pub symbol-rows : Rows (modulus P) left
   symbol-rows = record {
     size = es .size;
     done = λ r k. rw (es .done r k) (row-of positive (length-tab 16 _) λ c m.
-        rw (row-at (λ c. residue (gridCell (side P) s r c)) c m) (residue-below positive (known r c)));
+        rw (row-at (λ c. residue (gridCell (columns P) s r c)) c m) (residue-below positive (known r c)));
   }
 
 module _ {P s u B : List ℕ} {left u′ : List (List ℕ)} (t : Taken oblong P s u B)
-    (es : SymbolRows (side P) s left) (eu : DoubtLines (side P) u u′) where
-  doubt-at : (r c : ℕ) → r < side P → c < side P → cellAt u′ r c ≡ at u (r * side P + c)
+    (es : SymbolRows (columns P) s left) (eu : DoubtLines (columns P) u u′) where
+  doubt-at : (r c : ℕ) → r < rows P → c < columns P → cellAt u′ r c ≡ at u (r * columns P + c)
   doubt-at r c l m =
-      ap (λ v. at v c) (eu .done r (omega (arith, t .photo .sound .most)))
-      ∙ row-at (gridCell (side P) u r) c (omega (arith, t .photo .sound .most))
-      ∙ cell-at (side P) u r c m
+      ap (λ v. at v c) (eu .done r (omega (arith, t .photo .sound .tall .most)))
+      ∙ row-at (gridCell (columns P) u r) c (omega (arith, t .photo .sound .wide .most))
+      ∙ cell-at (columns P) u r c m
 
-  loaded : LoadedGrid full (side P) (side P) s u (cellAt left) (cellAt u′)
+  loaded : LoadedGrid full (rows P) (columns P) s u (cellAt left) (cellAt u′)
   loaded r c l m = rw (symbol-at t es r c l m, doubt-at r c l m)
-      (residue-loaded (at s (r * side P + c)) (at u (r * side P + c)) (t .photo .erased (r * side P + c) (inside t es r c l m)))
+      (residue-loaded (at s (r * columns P + c)) (at u (r * columns P + c)) (t .photo .erased (r * columns P + c) (inside t es r c l m)))
 
-  doubts-most : (r c : ℕ) → r < side P → c < side P → cellAt u′ r c ≤ full
-  doubts-most r c l m = rw (doubt-at r c l m) (t .photo .doubt (r * side P + c) (inside t es r c l m))
+  doubts-most : (r c : ℕ) → r < rows P → c < columns P → cellAt u′ r c ≤ full
+  doubts-most r c l m = rw (doubt-at r c l m) (t .photo .doubt (r * columns P + c) (inside t es r c l m))
 
   -- what the decoder answers, and what it leaves
   module _ {m g : ℕ} {after : List (List ℕ)} {w : List ℕ}
       (D : Outcome (said P m .grid) left u′ after (under (said P m .grid) g) w g) where
     limit-is : gridRadius (said P m .grid) ≡ radius full oblong P
-    limit-is = omega (arith, ap (λ n. full * n) (distance-square (side P) (degree P)))
+    limit-is = refl
 
     refused-said : radius full oblong P ≤ g → Reads oblong P s u B (refused 10) B
-    refused-said h = mark-none P s u B (t .clear) (point-at (t .photo .sound)) loaded w (D .decoded)
+    refused-said h = mark-none P s u B (t .clear) (point-at (t .photo .sound) 0) (point-at (t .photo .sound) 1) loaded w (D .decoded)
         (le-ltb g _ (omega (arith, limit-is)))
 
     found : g < radius full oblong P → under (said P m .grid) g ≡ true
@@ -128,7 +129,7 @@ module _ {P s u B : List ℕ} {left u′ : List (List ℕ)} (t : Taken oblong P 
         let k : j < size oblong P = omega (arith, t .room) in
         let W = tab (size oblong P) (at w) in
         let n = size oblong P in
-        let F = mark-record P s u B (t .clear) (point-at (t .photo .sound)) loaded w (D .decoded) z W (length-tab n (at w))
+        let F = mark-record P s u B (t .clear) (point-at (t .photo .sound) 0) (point-at (t .photo .sound) 1) loaded w (D .decoded) z W (length-tab n (at w))
         (tab-at n (at w)) in
         omega (arith, F .below j k, tab-at (size oblong P) (at w) j k, t .photo .sound .small)
 
@@ -140,41 +141,48 @@ module _ {P s u B : List ℕ} {left u′ : List (List ℕ)} (t : Taken oblong P 
       word-at i l = rw stored (tab-at (length B) (at w) i (omega (arith, t .room)))
 
       coefficients : (k i : ℕ) → i + k ≤ degree P → coef W i k ≡ coef w i k
-      coefficients k i l = word-at (place i k) (place-below i k (degree P + 1) (omega arith))
+      coefficients k i l = word-at (place i k) (rw (mark-size P) (place-below i k (degree P + 1) (omega arith)))
 
       abbrev line-value : (r c : ℕ) → ℕ
-      line-value r c = eval (suc (degree P)) (onRow (degree P) (coef w) (at (row (point P)) r)) (at (row (point P)) c)
+      line-value r c = eval (suc (degree P)) (onRow (degree P) (coef w) (at (row (rowPoint P)) r)) (at (row (columnPoint P)) c)
 
-      value-at : (r c : ℕ) → r < side P → c < side P → value oblong P W (r * side P + c) ≡ line-value r c % modulus P
+      value-at : (r c : ℕ) → r < rows P → c < columns P → value oblong P W (r * columns P + c) ≡ line-value r c % modulus P
       value-at r c l m =
-          rw (cell-row (side P) r c m, cell-column (side P) r c m, point-at (t .photo .sound) r l, point-at (t .photo .sound) c m)
-          (value-rows (modulus P) (degree P) W (point P r) (point P c) ∙ ap (λ e. e % modulus P)
-          (sum-eq (suc (degree P)) λ k a. ap (λ e. e * point P c ^ k)
-          (sum-eq (suc (degree P - k)) λ i b. ap (λ e. e * point P r ^ i) (coefficients k i (omega arith)))))
+          value-cell (modulus P) (degree P) W (side P) (point P) (r * columns P + c)
+          ∙ rw (
+            cell-row (columns P) r c m,
+            cell-column (columns P) r c m,
+            point-at (t .photo .sound) 0 r l,
+            point-at (t .photo .sound) 1 c m,
+          )
+          (value-rows (modulus P) (degree P) W (rowPoint P r) (columnPoint P c) ∙ ap (λ e. e % modulus P)
+          (sum-eq (suc (degree P)) λ k a. ap (λ e. e * columnPoint P c ^ k)
+          (sum-eq (suc (degree P - k)) λ i b. ap (λ e. e * rowPoint P r ^ i) (coefficients k i (omega arith)))))
 
-      cell-differs : (r c : ℕ) → r < side P → c < side P →
-          _≡_ {A = ℕ} (cond (eqb (flag (gridCell (side P) s r c) (cellAt after r c)) 0) 0 1)
-          (cond (eqb (at s (r * side P + c)) (value oblong P W (r * side P + c))) 0 1)
+      cell-differs : (r c : ℕ) → r < rows P → c < columns P →
+          _≡_ {A = ℕ} (cond (eqb (flag (gridCell (columns P) s r c) (cellAt after r c)) 0) 0 1)
+          (cond (eqb (at s (r * columns P + c)) (value oblong P W (r * columns P + c))) 0 1)
       cell-differs r c l m =
           let R = D .remains (found h) in
-          rw (cell-at (side P) s r c m, value-at r c l m)
-          (flag-differ (t .photo .sound .small) (t .photo .symbol (r * side P + c) (inside t es r c l m))
+          rw (cell-at (columns P) s r c m, value-at r c l m)
+          (flag-differ (t .photo .sound .small) (t .photo .symbol (r * columns P + c) (inside t es r c l m))
           (omega (arith, R .below r c l m, positive t es)) (mod-lt (line-value r c) (positive t es))
           (~add (same refl) (mod-cong (positive t es) (line-value r c)) ⨾ R .whole r c l m ⨾ same (symbol-at t es r c l m)))
 
-      differing-of : differingCells (side P) (side P) s after ≡ hamming (cells oblong P) (at s) (value oblong P W)
-      differing-of = sym (sum-rows (side P) (side P) _ ∙ sum-eq (side P) λ r l. sum-eq (side P) λ c m. sym (cell-differs r c l m))
+      differing-of : differingCells (rows P) (columns P) s after ≡ hamming (cells oblong P) (at s) (value oblong P W)
+      differing-of = sym (sum-rows (rows P) (columns P) _ ∙ sum-eq (rows P) λ r l. sum-eq (columns P) λ c m. sym (cell-differs r c l m))
 
-      reading-said : {k : ℕ} → k ≡ differingCells (side P) (side P) s after →
+      reading-said : {k : ℕ} → k ≡ differingCells (rows P) (columns P) s after →
           (unreadIn s ≤ k) × Reads oblong P s u B (summary (radius full oblong P) g k s) W
       reading-said e =
           let z = found h in
-          let points = point-at (t .photo .sound) in
-          let paid = mark-cost P s u B (t .clear) points loaded w (D .decoded) z W word-length word-at in
+          let ex = point-at (t .photo .sound) 0 in
+          let ey = point-at (t .photo .sound) 1 in
+          let paid = mark-cost P s u B (t .clear) ex ey loaded w (D .decoded) z W word-length word-at in
           let differing = e ∙ differing-of in (
             unread-within W (t .photo) differing,
             rw (summary-is W (t .photo) differing refl paid)
-                (mark-found P s u B (t .clear) points loaded w (D .decoded) z W word-length word-at),
+                (mark-found P s u B (t .clear) ex ey loaded w (D .decoded) z W word-length word-at),
           )
 
 -- the same by the struct that says what the plan does
@@ -183,7 +191,7 @@ module _ {P s u B : List ℕ} {left u′ : List (List ℕ)} {plan : Plan} (says 
   abbrev g : Grid
   g = plan .grid
 
-  sides : SymbolRows (side P) s left × DoubtLines (side P) u u′
+  sides : SymbolRows (columns P) s left × DoubtLines (columns P) u u′
   sides = (rw (says .fields) at es, rw (says .fields) at eu)
 
   pub mark-received : Rows (g .p) left × DoubtRows g u′

@@ -22,7 +22,7 @@ use Rattle.bounded.proofs.Sum.{sum-eq}
 use Rattle.bounded.proofs.Tab.{length-tab, tab-at}
 use Rattle.field.specs.Row.{row}
 use Rattle.field.proofs.Row.{row-at, row-of, beyond}
-use Rattle.definitions.specs.Plan.{modulus, side, degree, point}
+use Rattle.definitions.specs.Plan.{modulus, rows, degree, rowPoint, side, point}
 use Rattle.definitions.specs.Code.{strip, size, cells, value}
 use Rattle.definitions.specs.Cost.{full, unread, radius}
 use Rattle.distance.specs.Cost.{hamming}
@@ -31,7 +31,10 @@ use Rattle.definitions.specs.Code.{IsRecord}
 use Rattle.definitions.specs.Reads.{Reads}
 use Rattle.polynomial.specs.declared.Grid.{Grid}
 use Rattle.polynomial.specs.Eval.{eval}
+use Rattle.polynomial.specs.Sides.{cellPoint}
 use Rattle.polynomial.proofs.Record.{value-strip}
+use Rattle.polynomial.proofs.Known.{value-strip-is}
+use Rattle.definitions.proofs.Plan.{strip-size}
 use Rattle.plan.specs.declared.Plan.{Plan}
 use Rattle.plan.specs.Says.{said, Says}
 use Rattle.plan.proofs.Ready.{point-at, ready}
@@ -62,9 +65,9 @@ module _ {P s u B s′ u′ : List ℕ} (t : Taken strip P s u B) (es : s′ ≡
   positive = omega (arith, t .photo .sound .prime .least)
 
   symbols-below : (i : ℕ) → i < 16 → at s′ i < modulus P
-  symbols-below i l = rw (symbol-at i l) (residue-below positive (known (decLt i (side P))))
+  symbols-below i l = rw (symbol-at i l) (residue-below positive (known (decLt i (rows P))))
     where
-      known : Dec (i < side P) → (at s i < modulus P) ⊎ (at s i ≡ unread)
+      known : Dec (i < rows P) → (at s i < modulus P) ⊎ (at s i ≡ unread)
       known (yes k) = t .photo .symbol i k
       known (no k) = inl (rw (beyond s i (omega (arith, t .photo .symbols))) positive)
 
@@ -83,16 +86,16 @@ module _ {P s u B s′ u′ : List ℕ} (t : Taken strip P s u B) (es : s′ ≡
       full = omega (arith, h .full);
     };
     symbols = rw (says .fields) (row-of positive symbols-length symbols-below);
-    doubts = rw (says .fields) λ j l. rw (doubt-at j (omega (arith, t .photo .sound .most))) (t .photo .doubt j l);
+    doubts = rw (says .fields) λ j l. rw (doubt-at j (omega (arith, t .photo .sound .tall .most))) (t .photo .doubt j l);
   }
 
-  loaded : (c : ℕ) → c < side P → Loaded full (at s c) (at u c) (at s′ c) (at u′ c)
-  loaded c l = let k : c < 16 = omega (arith, t .photo .sound .most) in
+  loaded : (c : ℕ) → c < rows P → Loaded full (at s c) (at u c) (at s′ c) (at u′ c)
+  loaded c l = let k : c < 16 = omega (arith, t .photo .sound .tall .most) in
       rw (symbol-at c k, doubt-at c k) (residue-loaded (at s c) (at u c) (t .photo .erased c l))
 
   module _ {m : ℕ} {r : Decoded} (D : StripDecoded (axisOf (said P m .grid)) s′ u′ r) where
     refused-said : r .found ≡ false → Reads strip P s u B (refused 10) B
-    refused-said z = strip-none P s u B (t .clear) (point-at (t .photo .sound)) loaded (D .strip) z
+    refused-said z = strip-none P s u B (t .clear) (point-at (t .photo .sound) 0) loaded (D .strip) z
 
     module _ (z : r .found ≡ true) {W : List ℕ} (stored : W ≡ tab (length B) (at (r .message))) where
       word-at : (i : ℕ) → i < size strip P → at W i ≡ at (r .message) i
@@ -104,25 +107,26 @@ module _ {P s u B s′ u′ : List ℕ} (t : Taken strip P s u B) (es : s′ ≡
         below = λ i l. rw (word-at i l) (D .small .small i);
       }
 
-      value-at : (j : ℕ) → j < side P → at (r .values) j ≡ value strip P W j
-      value-at j l = let k : j < 16 = omega (arith, t .photo .sound .most) in
+      value-at : (j : ℕ) → j < rows P → at (r .values) j ≡ value strip P W j
+      value-at j l = let k : j < 16 = omega (arith, t .photo .sound .tall .most) in
           rw (
             D .values z,
-            row-at (λ j. eval (suc (degree P)) (at (r .message)) (at (row (point P)) j) % modulus P) j k,
-            value-strip (modulus P) (degree P) W (point P j),
-            point-at (t .photo .sound) j l,
+            row-at (λ j. eval (suc (degree P)) (at (r .message)) (at (row (rowPoint P)) j) % modulus P) j k,
+            value-strip-is (modulus P) (degree P) W (cellPoint 0 (side P) (point P) j),
+            value-strip (modulus P) (degree P) W (rowPoint P j),
+            point-at (t .photo .sound) 0 j l,
           )
-          (ap (λ e. e % modulus P) (sum-eq (suc (degree P)) λ i m. ap (λ e. e * point P j ^ i) (sym (word-at i (omega arith)))))
+          (ap (λ e. e % modulus P) (sum-eq (suc (degree P)) λ i m. ap (λ e. e * rowPoint P j ^ i) (sym (word-at i (omega (arith, strip-size P))))))
 
-      differing-of : {seen : List ℕ} {n : ℕ} → seen ≡ row (at s) → n ≡ hamming (side P) (at seen) (at (r .values)) →
+      differing-of : {seen : List ℕ} {n : ℕ} → seen ≡ row (at s) → n ≡ hamming (rows P) (at seen) (at (r .values)) →
           n ≡ hamming (cells strip P) (at s) (value strip P W)
-      differing-of e i = i ∙ sum-eq (side P) λ c l.
-          ap₂ (λ a b. cond (eqb a b) 0 1) (rw e (row-at (at s) c (omega (arith, t .photo .sound .most)))) (value-at c l)
+      differing-of e i = i ∙ sum-eq (rows P) λ c l.
+          ap₂ (λ a b. cond (eqb a b) 0 1) (rw e (row-at (at s) c (omega (arith, t .photo .sound .tall .most)))) (value-at c l)
 
-      reading-said : {seen : List ℕ} {n : ℕ} → seen ≡ row (at s) → n ≡ hamming (side P) (at seen) (at (r .values)) →
+      reading-said : {seen : List ℕ} {n : ℕ} → seen ≡ row (at s) → n ≡ hamming (rows P) (at seen) (at (r .values)) →
           (unreadIn s ≤ n) × Reads strip P s u B (summary (radius full strip P) (r .cost) n s) W
       reading-said e i =
-          let points = point-at (t .photo .sound) in
+          let points = point-at (t .photo .sound) 0 in
           let paid = strip-cost P s u B (t .clear) points loaded (D .strip) z W word word-at in
           let differing = differing-of e i in (
             unread-within W (t .photo) differing,
@@ -134,7 +138,7 @@ module _ {P s u B s′ u′ : List ℕ} (t : Taken strip P s u B) (es : s′ ≡
   module _ {plan : Plan} (says : Says P plan) {r : Decoded} (D : StripDecoded (axisOf (plan .grid)) s′ u′ r) where
     -- a cost is a small number
     pub strip-under : r .found ≡ true → r .cost < 2147483648
-    strip-under z = omega (arith, (rw (says .fields) at D) .strip .sound z .1, t .photo .sound .most)
+    strip-under z = omega (arith, (rw (says .fields) at D) .strip .sound z .1, t .photo .sound .tall .most)
 
     pub strip-refused : r .found ≡ false → Reads strip P s u B (refused 10) B
     strip-refused z = refused-said (rw (says .fields) at D) z

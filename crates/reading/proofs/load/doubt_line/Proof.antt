@@ -1,7 +1,7 @@
 -- `reading::load::doubt_line` meets its contract: a row has its own part of the bytes. Assumes nothing.
 use native.Mathlib.Omega.{arith}
 use Rattle.bounded.proofs.Part.{row-in}
-use Rattle.reading.proofs.Square.{product-small, part-line}
+use Rattle.reading.proofs.Cells.{product-small, part-line}
 use borrow.Author.Needs.{needs}
 use Rattle.reading.proofs.load.doubt_line.Statement.{statement}
 use Rattle.reading.proofs.load.doubt_line.Tie as tie

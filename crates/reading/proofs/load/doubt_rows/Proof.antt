@@ -8,7 +8,7 @@ use Rattle.field.specs.Loop.{Passed}
 use Rattle.field.specs.Row.{row}
 use Rattle.field.proofs.Loop.{passed-step, passed-zeros, passed-rest}
 use Rattle.reading.specs.Loading.{gridCell}
-use Rattle.reading.proofs.Square.{no-line}
+use Rattle.reading.proofs.Cells.{no-line}
 use borrow.Author.Needs.{needs}
 use Rattle.reading.proofs.load.doubt_rows.Statement.{statement}
 use Rattle.reading.proofs.load.doubt_rows.Tie as tie

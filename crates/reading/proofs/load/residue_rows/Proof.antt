@@ -9,7 +9,7 @@ use Rattle.field.specs.Row.{row}
 use Rattle.field.proofs.Loop.{passed-step, passed-zeros, passed-rest}
 use Rattle.bounded.proofs.Part.{row-in}
 use Rattle.reading.specs.Loading.{residue, gridCell}
-use Rattle.reading.proofs.Square.{product-small, no-residues, residues-part}
+use Rattle.reading.proofs.Cells.{product-small, no-residues, residues-part}
 use borrow.Author.Needs.{needs}
 use Rattle.reading.proofs.load.residue_rows.Statement.{statement}
 use Rattle.reading.proofs.load.residue_rows.Tie as tie

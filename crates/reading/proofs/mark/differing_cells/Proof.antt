@@ -4,7 +4,7 @@ use Prim.Native.Nat.{_*_, _-_, _≤_}
 use native.Mathlib.Omega.{arith}
 use Rattle.bounded.proofs.Part.{row-in}
 use Rattle.reading.specs.Differing.{differingCells}
-use Rattle.reading.proofs.Square.{product-small, differing-more}
+use Rattle.reading.proofs.Cells.{product-small, differing-more}
 use borrow.Author.Needs.{needs}
 use Rattle.reading.proofs.mark.differing_cells.Statement.{statement}
 use Rattle.reading.proofs.mark.differing_cells.Tie as tie

@@ -2,6 +2,7 @@
 -- Assumes nothing.
 use native.Mathlib.Omega.{arith}
 use Rattle.definitions.specs.Code.{strip}
+use Rattle.definitions.proofs.Plan.{strip-size}
 use Rattle.plan.proofs.Ready.{ready}
 use Rattle.answers.proofs.Summary.{few-cells}
 use Rattle.reading.proofs.Loading.{negated}
@@ -48,7 +49,7 @@ store-requires c κs =
     let read = c .before .before .before .before .before .before in
     let (P, says, t) = start (doubts read) .pre in
     let g = ready says .fit in (
-      omega (arith, t .room, t .photo .sound .low, t .photo .sound .most, read .decode .ensures .small .size),
+      omega (arith, t .room, strip-size P, t .photo .sound .low, t .photo .sound .tall .most, read .decode .ensures .small .size),
       λ j _. omega (arith, read .decode .ensures .small .small j, g .reciprocal .most),
     )
 
@@ -94,10 +95,10 @@ read-strip-spec =
     (tie.spec
     (λ c κs.
     let (P, says, t) = c .before .before .before .before .before .pre in
-    omega (arith, t .photo .symbols, t .photo .sound .most))
+    omega (arith, t .photo .symbols, t .photo .sound .tall .most))
     (λ c κs.
     let (P, says, t) = c .before .before .before .before .before .before .pre in
-    omega (arith, t .photo .doubts, t .photo .sound .most))
+    omega (arith, t .photo .doubts, t .photo .sound .tall .most))
     (λ c κs.
     let (P, says, t) = start c .pre in
     let g = ready says .fit in
@@ -109,7 +110,7 @@ read-strip-spec =
     store-requires
     (λ c κs.
     let (P, says, t) = start (doubts (decoded (c .before .before))) .pre in
-    omega (arith, t .photo .symbols, t .photo .sound .most))
+    omega (arith, t .photo .symbols, t .photo .sound .tall .most))
     (λ c κs.
     let (P, says, t) = start (doubts (decoded (c .before .before .before))) .pre in
     ready says .fit .rows)
