@@ -1,6 +1,8 @@
--- The customer's demands, for marks and strips, and what document 01 says of every plan, cell, margin and number.
+-- The customer's demands, for strips and for marks of any two sides, and what the documents say of every plan, cell, margin and
+-- number.
 --
 --   sound-exactly                        "The season plan": which plans are sound
+--   shapes                               how many cells and coefficients there are, and the limits
 --   demand-1                             demand 1: what a refusal gives and leaves
 --   demand-2-written, demand-2           demand 2: what is written, and that it is read back
 --   demand-2-cost, demand-2-cost-read    demand 2: costs and margins, of measuring and of reading
@@ -9,19 +11,20 @@
 --   lowest-given, measures               "What is returned"
 --   found-exactly, first-found           document 02, request 2: when a plan of a season is found, and which
 --   groups-fill                          document 02, request 4: where the coefficients of a record stand
+--   widened, widened-in-order            document 02, request 3: what a plan of 24 bytes becomes, and all of a file
 --
 -- What this file is for: the customer's sentences as theorems over the definitions that the calls' contracts repeat. The names in
 -- the statements are of `definitions/specs`. Assumes nothing.
 use mathlib.Core.Path.{_≡_, refl, sym, _∙_}
 use mathlib.Core.Logic.{_↔_}
-use mathlib.Core.List.{List}
+use mathlib.Core.List.{List, [], _∷_}
 use Prim.Native.Nat.{ℕ, suc, _+_, _<_}
 use native.Mathlib.Omega.{arith}
 use native.Mathlib.Numerals.{add-one}
 use lib.ListN.{length}
-use Rattle.bounded.specs.Bounded.{at}
+use Rattle.bounded.specs.Bounded.{at, index}
 use Rattle.definitions.specs.Plan.{planRows, checkNumber}
-use Rattle.definitions.specs.Code.{Code, strip, oblong, size, cells, value, mark}
+use Rattle.definitions.specs.Code.{Code, size, cells, value, mark}
 use Rattle.definitions.specs.Cost.{full}
 use Rattle.definitions.specs.Calls.{photoRows, writeRows, writeNumber, writeBuffer}
 use Rattle.definitions.specs.Calls.{measureRows, measureNumber, measureReading, readRows, readNumber, readReading, readBuffer}
@@ -29,11 +32,15 @@ use Rattle.definitions.specs.Finder.{findRows, findNumber}
 use Rattle.definitions.specs.Sound.{Sound}
 use Rattle.definitions.specs.Photograph.{Photograph, sure}
 use Rattle.polynomial.specs.Record.{start}
-use Rattle.definitions.specs.Demands.{RefusalsKeep, Written, RoundTrip, Weighed, Nearest}
+use Rattle.definitions.specs.Widening.{narrowBytes, widenRows, widenNumber}
+use Rattle.definitions.specs.Demands.{RefusalsKeep, Shapes, Written, RoundTrip, Weighed, Nearest}
 use Rattle.definitions.specs.Demands.{UnreadCosts, MarkMargins, LowestGiven, Measures, FoundExactly, FirstOfSeason}
-use Rattle.definitions.specs.Demands.{GroupsFill, places}
-use Rattle.definitions.proofs.Refusals.{first-lowest, first-absent}
+use Rattle.definitions.specs.Demands.{GroupsFill, places, Widened, WidenedInOrder}
+use Rattle.definitions.specs.Refusals.{table}
+use Rattle.definitions.proofs.Refusals.{first-earliest, first-absent}
 use Rattle.definitions.proofs.Finder as finder
+use Rattle.definitions.proofs.Widening as widening
+use Rattle.definitions.proofs.Plan.{strip-size, mark-size}
 use Rattle.definitions.proofs.Sound.{sound, checked}
 use Rattle.definitions.proofs.Demands.{nearest-one}
 use Rattle.definitions.proofs.Accepted.{accepted-writing, accepted-measuring, accepted-reading, measuring-accepted}
@@ -42,14 +49,24 @@ use Rattle.definitions.proofs.Published.{photo-weighed}
 use Rattle.definitions.proofs.Margin.{measured-range, read-range, lowest, highest}
 use Rattle.distance.proofs.Cost.{cell-full}
 use Rattle.polynomial.proofs.Record.{value-places, start-next, start-below, start-apart, placed}
-use Rattle.reading.proofs.StripReading.{only-strip}
-use Rattle.reading.proofs.MarkReading.{only-oblong}
+use Rattle.polynomial.proofs.Known.{value-mark-is}
 use Rattle.traymark.proofs.Answer.{write-keeps, write-fills, measure-refuses, measure-gives, read-keeps, read-gives}
 use Rattle.writing.proofs.Written.{mark-written}
 
 -- A plan is sound, all its bytes as in the table, exactly when checking it gives 0.
 pub sound-exactly : (P : List ℕ) → Sound P ↔ (checkNumber P ≡ 0)
 sound-exactly P = (checked P, sound P)
+
+-- A strip is over the row points, with d + 1 coefficients and the limit 100 (rows - d). A mark has rows times columns cells and the
+-- limit 100 times the larger side times (the smaller side - d), whichever is the larger.
+pub shapes : (P : List ℕ) → Shapes P
+shapes P = record {
+  stripCells = refl;
+  stripSize = strip-size P;
+  stripLimit = omega arith;
+  markCells = refl;
+  markLimit = omega arith;
+}
 
 -- Demand 1: a refused call gives its number and zeros, or an empty part, and leaves the buffer that was lent for its result as it
 -- was.
@@ -59,17 +76,17 @@ demand-1 = record {
   measure = λ C P s u F n. sym (measure-refuses C P s u F refl n);
   read = read-keeps;
   find = finder.nowhere;
+  widen = widening.unwidened;
 }
 
 -- Demand 3. For every sound plan and every photograph in buffers of the right lengths, whatever the points, symbols and doubts:
 -- where a record costs under the limit, every other record of the plan costs the limit or more; the reading is the one under the
 -- limit with its cost; it is refusal 10 exactly when no record costs under the limit.
 pub demand-3 : (C : Code) (P s u B : List ℕ) → Photograph C P s u → length B ≡ size C P → Nearest C P s u B
-demand-3 strip P s u B h l = nearest-one strip P s u B h l (only-strip P s u h)
-demand-3 oblong P s u B h l = nearest-one oblong P s u B h l (only-oblong P s u h)
+demand-3 = nearest-one
 
 -- Demand 2, writing: for every plan, record and buffer that the writer accepts, each cell of the buffer afterwards has the value,
--- modulo p, of the record's polynomial at its row and column points; for a strip, at its point.
+-- modulo p, of the record's polynomial at its row and column points; for a strip, at its row point.
 pub demand-2-written : (C : Code) (P F B : List ℕ) → writeNumber C P F B ≡ 0 → Written C P F (writeBuffer C P F B)
 demand-2-written C P F B e = rw (← write-fills C P F B refl e) (mark-written C P F)
 
@@ -107,15 +124,18 @@ unread-costs C P s u F h c l e = rw (h .erased c l e) (cell-full full (at s c) (
 pub mark-margins : MarkMargins
 mark-margins = record { measured = measured-range; read = read-range; lowest = lowest; highest = highest }
 
--- The number that a call gives is the lowest that applies, over those that concern the call.
+-- The number that a call gives is the first in the table's order of those that apply and concern the call, 13 standing between 3
+-- and 4. In widening 11 comes before 6.
 pub lowest-given : LowestGiven
-unfolding checkNumber writeNumber measureNumber readNumber findNumber planRows photoRows writeRows measureRows readRows findRows
+unfolding checkNumber writeNumber measureNumber readNumber findNumber widenNumber
+    planRows photoRows writeRows measureRows readRows findRows widenRows index
 lowest-given = record {
-  check = λ P. first-lowest (planRows P) tt refl;
-  write = λ C P F B. first-lowest (writeRows C P F B) tt refl;
-  measure = λ C P s u F. first-lowest (measureRows C P s u F) tt refl;
-  read = λ C P s u B. first-lowest (readRows C P s u B) tt refl;
-  find = λ file y. first-lowest (findRows file y) tt refl;
+  check = λ P. first-earliest table (planRows P) tt refl;
+  write = λ C P F B. first-earliest table (writeRows C P F B) tt refl;
+  measure = λ C P s u F. first-earliest table (measureRows C P s u F) tt refl;
+  read = λ C P s u B. first-earliest table (readRows C P s u B) tt refl;
+  find = λ file y. first-earliest table (findRows file y) tt refl;
+  widen = λ old wide. first-earliest (11 ∷ 6 ∷ []) (widenRows old wide) tt refl;
 }
 
 -- Measuring never gives 10: a record of the plan is measured against every photograph, a margin of 0 or below returned as such.
@@ -126,7 +146,7 @@ measures C P s u F = record {
   each = measuring-accepted C P s u F;
 }
 
--- The finder gives 11 where the length of the file is no multiple of 24, else 0 where some plan of the file has the season, sound
+-- The finder gives 11 where the length of the file is no multiple of 40, else 0 where some plan of the file has the season, sound
 -- or not, else 12.
 pub found-exactly : (file : List ℕ) (season : ℕ) → FoundExactly file season
 found-exactly = finder.find-exactly
@@ -139,7 +159,7 @@ first-found = finder.first-of-season
 -- The groups of degrees 0 to d fill the K = (d + 1)(d + 2)/2 places of a record one after another, with no gap and no overlap.
 pub groups-fill : (d : ℕ) → GroupsFill d
 groups-fill d = record {
-  asked = λ P e. rw e length-is;
+  asked = λ P e. mark-size P ∙ rw e length-is;
   first = refl;
   next = λ k. omega (arith, start-next k);
   within = λ k j h l. rw (← length-is) (start-below k (d + 1) j (omega arith) h);
@@ -148,8 +168,17 @@ groups-fill d = record {
       let (i, t, s, e) = placed d m h in
       (i + t, t, omega arith, s, e);
   apart = start-apart;
-  holds = λ p. value-places p d;
+  holds = λ p F z. value-mark-is p d F z ∙ value-places p d F (z 0) (z 1);
 }
   where
     length-is : start (d + 1) ≡ places d
     length-is = omega arith
+
+-- A plan of 24 bytes, whatever they are, becomes a plan of the same season, modulus and degree, with its points each way. Where it
+-- was sound it stays sound; where it was not it keeps its number, but that its bytes 21 to 23 no longer count.
+pub widened : (Q : List ℕ) → length Q ≡ narrowBytes → Widened Q
+widened = widening.widened-plan
+
+-- All plans of a file are widened in order.
+pub widened-in-order : (old : List ℕ) → WidenedInOrder old
+widened-in-order = widening.widened-in-order

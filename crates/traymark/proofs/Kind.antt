@@ -4,7 +4,7 @@
 --   record-reached       what `field::bytes::reaches` answered of a record is the answer to its test
 --
 -- What this file is for: the checks give the definitions' numbers. Assumes nothing.
-use mathlib.Core.Path.{_≡_, refl, _∙_}
+use mathlib.Core.Path.{_≡_, refl, sym, _∙_}
 use mathlib.Core.Bool.{Bool, true, false}
 use mathlib.Core.List.{List}
 use Prim.Native.Nat.{ℕ}
@@ -15,6 +15,7 @@ use Rattle.definitions.specs.Code.{size, cells}
 use Rattle.definitions.specs.Calls.{overflowing, photoTests, photoRows, writeTests, writeNumber}
 use Rattle.definitions.proofs.Refusals.{Stops, numberAt, first-at, answered}
 use Rattle.definitions.proofs.Sound.{checked}
+use Rattle.definitions.proofs.Plan.{strip-size, mark-size}
 use Rattle.definitions.proofs.Accepted.{photo-passes, write-passes}
 use Rattle.plan.specs.declared.Plan.{Plan}
 use Rattle.plan.specs.Says.{Says}
@@ -28,8 +29,8 @@ cells-said false says = rw (says .fields) refl
 
 size-said : (mark : Bool) {P : List ℕ} {plan : Plan} → Says P plan → sizeOf mark (plan .grid) ≡ size (codeOf mark) P
 unfolding sizeOf
-size-said true says = rw (says .fields) refl
-size-said false says = rw (says .fields) refl
+size-said true {P} says = rw (says .fields) (sym (mark-size P))
+size-said false {P} says = rw (says .fields) (sym (strip-size P))
 
 module _ (mark : Bool) {P : List ℕ} {plan : Plan} (says : Says P plan) {n k : ℕ} where
   pub photo-at : (s u F : List ℕ) (i : ℕ) → n ≡ cellsOf mark (plan .grid) → k ≡ sizeOf mark (plan .grid) →

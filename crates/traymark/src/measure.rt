@@ -8,13 +8,13 @@ ghost use Rattle.definitions.specs.Calls.{measureReading};
 // Measures a record against a photographed mark, from Rattle and from C. All four are any bytes of any length, and are only read.
 //
 // Returns number 0, the record's cost D, the margin R - D, the changed and the unread count, and the class by the changed count.
-// A margin of 0 or below is returned as such: measuring never gives 10. Else all but the number is 0, and that is the lowest that
-// applies of
-//   1 to 5  the plan is refused, as by `traymark_check_plan`
-//   6       `symbols` or `doubts` has not n times n bytes, or `record` has not (d + 1)(d + 2) / 2
-//   7       a symbol is p or more and not 255
-//   8       a doubt is above 100, or an unread cell's is not 100
-//   9       a coefficient is p or more
+// A margin of 0 or below is returned as such: measuring never gives 10. Else all but the number is 0, and that is the first that
+// applies, in this order, of
+//   1, 2, 3, 13, 4, 5  the plan is refused, as by `traymark_check_plan`
+//   6                  `symbols` or `doubts` has not rows times columns bytes, or `record` has not (d + 1)(d + 2) / 2
+//   7                  a symbol is p or more and not 255
+//   8                  a doubt is above 100, or an unread cell's is not 100
+//   9                  a coefficient is p or more
 #[no_mangle]
 pub extern "C" fn traymark_measure_mark(
     plan: &[u8],
@@ -37,7 +37,8 @@ pub extern "C" fn traymark_measure_mark(
     measuring::measure_mark(said, record, symbols, doubts)
 }
 
-// The same for a strip: `record` has d + 1 bytes, lowest power first, `symbols` and `doubts` have n.
+// The same for a strip: `record` has d + 1 bytes, lowest power first, `symbols` and `doubts` have a byte for each
+// row.
 #[no_mangle]
 pub extern "C" fn traymark_measure_strip(
     plan: &[u8],

@@ -1,17 +1,20 @@
-// Season plans: checking one, and finding one in a plan file.
+// Season plans: checking one, finding one in a plan file, and widening those of the first form.
 ghost use mathlib.Core.Path.{_≡_};
 ghost use denote.Ref.{ptr};
 ghost use Rattle.definitions.specs.Plan.{checkNumber};
 ghost use Rattle.definitions.specs.Finder.{findNumber, findOffset, findBytes, addressAt};
+ghost use Rattle.definitions.specs.Widening.{widenNumber, widenBuffer};
 
 // Checks a plan, from Rattle and from C. `plan` is any bytes of any length, and is only read.
 //
-// Returns 0 where the plan is sound, else the lowest that applies of
-//   1  the plan is not 24 bytes, or one of the bytes 21 to 23 is not 0
-//   2  p, byte 2, is not a prime from 2 to 251
-//   3  n, byte 3, is 0, above 16 or above p
-//   4  d, byte 4, is n or more
-//   5  a point is p or more, or not above the one before it, or an unused point byte is not 0
+// Returns 0 where the plan is sound, else the first that applies, in this order, of
+//   1   the plan is not 40 bytes, or byte 38 or 39 is not 0
+//   2   p, byte 2, is not a prime from 2 to 251
+//   3   the rows, byte 3, are 0, above 16 or above p
+//   13  the columns, byte 4, are 0, above 16 or above p
+//   4   d, byte 5, is not below the smaller side
+//   5   a row point is p or more, or not above the one before it, or an unused byte of the sixteen from byte 6 on is not 0; or the
+//       same of the column points, from byte 22 on
 #[no_mangle]
 pub extern "C" fn traymark_check_plan(plan: &[u8]) -> u32
     ensures { λ r. ⌜ r ≡ checkNumber (now (plan .entry)) ⌝ }
@@ -19,12 +22,12 @@ pub extern "C" fn traymark_check_plan(plan: &[u8]) -> u32
     plan::check(plan)
 }
 
-// Finds the first plan of a season in a plan file, for Rattle. `file` is 24-byte records one after another, and is only read;
+// Finds the first plan of a season in a plan file, for Rattle. `file` is 40-byte records one after another, and is only read;
 // only their season bytes are looked at, so the plan that is found may be unsound. `number` is set, whatever it was.
 //
-// Sets the number to 0 and returns the 24 bytes of the first record of that season, in the order of the file: a part of `file`
-// itself, at a multiple of 24. Else returns an empty part, at the start of `file`, and sets the number to the lowest of
-//   11  the file's length is no multiple of 24
+// Sets the number to 0 and returns the 40 bytes of the first record of that season, in the order of the file: a part of `file`
+// itself, at a multiple of 40. Else returns an empty part, at the start of `file`, and sets the number to the first of
+//   11  the file's length is no multiple of 40
 //   12  no record has the season; so for an empty file
 pub fn find_plan<'a>(file: &'a [u8], season: u16, number: &mut u32) -> &'a [u8]
     ensures number { λ r. ⌜ now (number .exit) ≡ findNumber (now (file .entry)) season ⌝ }
@@ -34,7 +37,7 @@ pub fn find_plan<'a>(file: &'a [u8], season: u16, number: &mut u32) -> &'a [u8]
     plan::find(file, season, number)
 }
 
-// The same for C, which is handed no part: returns the number, and sets `offset`, whatever it was, to where the 24 bytes begin in
+// The same for C, which is handed no part: returns the number, and sets `offset`, whatever it was, to where the 40 bytes begin in
 // `file`. On a refusal `offset` is set to 0.
 #[no_mangle]
 pub extern "C" fn traymark_find_plan(file: &[u8], season: u16, offset: &mut usize) -> u32
@@ -42,4 +45,20 @@ pub extern "C" fn traymark_find_plan(file: &[u8], season: u16, offset: &mut usiz
     ensures offset { λ r. ⌜ now (offset .exit) ≡ findOffset (now (file .entry)) season ⌝ }
 {
     plan::locate(file, season, offset)
+}
+
+// Widens plans of the first form, from Rattle and from C. `old` is 24-byte records one after another, and is only read: season,
+// p, n, d, sixteen points, three bytes that are dropped. No plan is checked: an unsound one is widened all the same.
+//
+// Returns 0 and has filled `wide` with a plan of 40 bytes for each of them, in order: n and the points are given twice, for the
+// rows and for the columns, season, p and d are kept, and the last two bytes are 0. Else leaves `wide` as it was and returns the
+// first of
+//   11  `old` has more than 1,000 records, or its length is no multiple of 24
+//   6   `wide` has not 40 bytes for each 24 of `old`
+#[no_mangle]
+pub extern "C" fn traymark_widen_plans(old: &[u8], wide: &mut [u8]) -> u32
+    ensures number { λ r. ⌜ r ≡ widenNumber (now (old .entry)) (now (wide .entry)) ⌝ }
+    ensures buffer { λ r. ⌜ now (wide .exit) ≡ widenBuffer (now (old .entry)) (now (wide .entry)) ⌝ }
+{
+    widening::widen(old, wide)
 }

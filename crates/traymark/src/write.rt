@@ -6,11 +6,11 @@ ghost use Rattle.definitions.specs.Calls.{writeNumber, writeBuffer};
 
 // Writes the mark of a record, from Rattle and from C. `plan` and `record` are any bytes of any length, and are only read.
 //
-// Returns 0 and has filled `mark`, n times n bytes: the value at the i-th row point and the j-th column point, modulo p, is at i
-// n + j. Else leaves `mark` as it was and returns the lowest that applies of
-//   1 to 5  the plan is refused, as by `traymark_check_plan`
-//   6       `record` has not (d + 1)(d + 2) / 2 bytes, or `mark` has not n times n
-//   9       a coefficient is p or more
+// Returns 0 and has filled `mark`, rows times columns bytes: the value at the i-th row point and the j-th column point, modulo p,
+// is at i columns + j. Else leaves `mark` as it was and returns the first that applies, in this order, of
+//   1, 2, 3, 13, 4, 5  the plan is refused, as by `traymark_check_plan`
+//   6                  `record` has not (d + 1)(d + 2) / 2 bytes, or `mark` has not rows times columns
+//   9                  a coefficient is p or more
 #[no_mangle]
 pub extern "C" fn traymark_write_mark(plan: &[u8], record: &[u8], mark: &mut [u8]) -> u32
     ensures number { λ r. ⌜ r ≡ writeNumber oblong (now (plan .entry)) (now («record» .entry)) (now (mark .entry)) ⌝ }
@@ -30,8 +30,8 @@ pub extern "C" fn traymark_write_mark(plan: &[u8], record: &[u8], mark: &mut [u8
     0
 }
 
-// The same for a strip: `record` has d + 1 bytes, lowest power first, and `strip` n, of which the j-th is the
-// value at the j-th point.
+// The same for a strip: `record` has d + 1 bytes, lowest power first, and `strip` has a byte for each row, of which the i-th is
+// the value at the i-th row point.
 #[no_mangle]
 pub extern "C" fn traymark_write_strip(plan: &[u8], record: &[u8], strip: &mut [u8]) -> u32
     ensures number { λ r. ⌜ r ≡ writeNumber stripCode (now (plan .entry)) (now («record» .entry)) (now (strip .entry)) ⌝ }
