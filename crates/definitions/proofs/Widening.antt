@@ -1,6 +1,7 @@
 -- Plans of 24 bytes that become plans of 40.
 --
---   source, widened-at            where byte c of a widened plan is from
+--   wide-head, wide-rows, wide-columns, wide-end
+--                                 byte c of a widened plan is which byte of the plan, or 0
 --   widened-plan                  it says what the plan said, and is sound where the plan was
 --   wideByte, widened-row         byte c of all widened plans, and the 40 bytes of plan k
 --   widened-in-order              the plans keep their order
@@ -18,7 +19,7 @@ use mathlib.Core.List.{List, [], _∷_}
 use Prim.Native.Nat.{ℕ, _+_, _*_, _-_, _/_, _%_, _≤_, _<_, min}
 use native.Mathlib.Omega.{arith}
 use native.Mathlib.Decide.{decLe}
-use native.Mathlib.Nat.{add-assoc}
+use native.Mathlib.Nat.{add-assoc, add-sub-cancel}
 use lib.Dec.{eqb, ltb, leb, lit<}
 use lib.ListN.{length, take, drop, length-append, length-take, length-drop, List·getD-append}
 use lib.Seq.{take-all, length-take-le, getD-take, getD-drop, getD-append-add}
@@ -38,31 +39,55 @@ use Rattle.definitions.specs.Widening.{widenNumber, widenBuffer, widenTe
 use Rattle.definitions.specs.Demands.{Widened, WidenedInOrder}
 use Rattle.definitions.proofs.Refusals.{Stops, numberAt, first-at, first-clear, otherwise, equal, neither}
 
--- season, p and n; then n, d and the row points; then the column points
-abbrev pub source : List ℕ → ℕ → ℕ
+-- byte c of a widened plan
+abbrev source : List ℕ → ℕ → ℕ
 source Q c = cond (ltb c 4) (at Q c) (cond (ltb c 22) (at Q (c - 1)) (cond (ltb c 38) (at Q (c - 17)) 0))
 
 widened-tab : (Q : List ℕ) → widened Q ≡ tab planBytes (source Q)
 unfolding widened tab
 widened-tab Q = refl
 
-pub widened-at : (Q : List ℕ) (c : ℕ) → c < planBytes → at (widened Q) c ≡ source Q c
-widened-at Q c l = rw (widened-tab Q) (tab-at planBytes (source Q) c l)
+module _ (Q : List ℕ) where
+  widened-at : (c : ℕ) → c < planBytes → source Q c ≡ at (widened Q) c
+  widened-at c l = rw (widened-tab Q) (sym (tab-at planBytes (source Q) c l))
 
-row-point : (Q : List ℕ) (i : ℕ) → i < 16 → rowPoint (widened Q) i ≡ at Q (5 + i)
-row-point Q i l =
-    let a : 4 ≤ 6 + i = omega arith in
-    let b : 6 + i < 22 = omega arith in
-    let e : 6 + i - 1 ≡ 5 + i = omega arith in
-    widened-at Q (6 + i) (omega arith) ∙ rw (le-ltb _ _ a, lt-ltb _ _ b, e)
+  -- season, p and n
+  pub wide-head : (c : ℕ) → c < 4 → at Q c ≡ at (widened Q) c
+  wide-head c l = rw (← widened-at c (omega arith), lt-ltb c 4 l)
 
-column-point : (Q : List ℕ) (i : ℕ) → i < 16 → columnPoint (widened Q) i ≡ at Q (5 + i)
-column-point Q i l =
-    let a : 4 ≤ 22 + i = omega arith in
-    let b : 22 ≤ 22 + i = omega arith in
-    let c : 22 + i < 38 = omega arith in
-    let e : 22 + i - 17 ≡ 5 + i = omega arith in
-    widened-at Q (22 + i) (omega arith) ∙ rw (le-ltb _ _ a, le-ltb _ _ b, lt-ltb _ _ c, e)
+  -- n again, d and the row points
+  pub wide-rows : (i c : ℕ) → c ≡ i + 1 → 3 ≤ i → i < 21 → at Q i ≡ at (widened Q) c
+  wide-rows i c e k l =
+      let a : 4 ≤ i + 1 = omega arith in
+      let b : i + 1 < 22 = omega arith in
+      rw (e, ← widened-at (i + 1) (omega arith), le-ltb (i + 1) 4 a, lt-ltb (i + 1) 22 b, add-sub-cancel i 1)
+
+  -- the column points
+  pub wide-columns : (i c : ℕ) → c ≡ i + 17 → 5 ≤ i → i < 21 → at Q i ≡ at (widened Q) c
+  wide-columns i c e k l =
+      let a : 4 ≤ i + 17 = omega arith in
+      let b : 22 ≤ i + 17 = omega arith in
+      let d : i + 17 < 38 = omega arith in
+      rw (
+        e,
+        ← widened-at (i + 17) (omega arith),
+        le-ltb (i + 17) 4 a,
+        le-ltb (i + 17) 22 b,
+        lt-ltb (i + 17) 38 d,
+        add-sub-cancel i 17,
+      )
+
+  pub wide-end : (c : ℕ) → 38 ≤ c → c < planBytes → 0 ≡ at (widened Q) c
+  wide-end c k l =
+      let a : 4 ≤ c = omega arith in
+      let b : 22 ≤ c = omega arith in
+      rw (← widened-at c l, le-ltb c 4 a, le-ltb c 22 b, le-ltb c 38 k)
+
+  row-point : (i : ℕ) → i < 16 → rowPoint (widened Q) i ≡ at Q (5 + i)
+  row-point i l = sym (wide-rows (5 + i) (6 + i) (omega arith) (omega arith) (omega arith))
+
+  column-point : (i : ℕ) → i < 16 → columnPoint (widened Q) i ≡ at Q (5 + i)
+  column-point i l = sym (wide-columns (5 + i) (22 + i) (omega arith) (omega arith) (omega arith))
 
 -- n entries of a table, from entry a on
 tab-part : (a n m : ℕ) (f : ℕ → ℕ) → a + n ≤ m → take n (drop a (tab m f)) ≡ tab n λ i. f (a + i)
