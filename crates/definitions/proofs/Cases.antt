@@ -11,23 +11,27 @@
 --   tray-cases                    case c as `trayread` reads it
 --   text-cases                    what it prints
 --   decimal-cases, signed-cases   numbers in print
+--   widening-cases                plans of 24 bytes widened, and refused
+--   widening-limits               1,000 plans and one more
+--   widening-texts                what `planwiden` prints
 --
 -- What this file is for: the definitions say what the customer worked out by hand; each is one computed comparison. Assumes
 -- nothing.
 use mathlib.Core.Path.{_≡_, refl}
 use mathlib.Core.List.{List, [], _∷_, _++_, map}
-use Prim.Native.Nat.{ℕ}
+use Prim.Native.Nat.{ℕ, _+_}
 use native.Mathlib.Omega.{arith}
 use lib.IntN.{pos, negsuc}
 use lib.Dec.{leb}
-use lib.ListN.{replicate, drop, set}
-use Rattle.bounded.specs.Bounded.{at, index}
+use lib.ListN.{length, replicate, take, drop, set}
+use Rattle.bounded.specs.Bounded.{at, tab, index}
 use Rattle.definitions.specs.Cost.{class}
 use Rattle.definitions.specs.Photograph.{sure}
 use Rattle.definitions.specs.Finder.{findRows, findNumber, findOffset, findBytes}
 use Rattle.definitions.specs.Published.{_over_, _is_times_, distance, weighted}
 use Rattle.definitions.specs.Tray.{trayReading, trayRecord}
 use Rattle.definitions.specs.Printed.{decimal, signed, spaced, readLine, recordLine, refusedLine, answerText, trayText}
+use Rattle.definitions.specs.Widening.{widened, widenedAll, widenRows, widenNumber, widenBuffer, widenText}
 use Rattle.definitions.specs.Cases.{effect, only, call, expected, cases, oblongCases, moreCases}
 use Rattle.definitions.specs.Cases.{planA, mark₁, photoC, photoD, hidden, doubts}
 
@@ -125,3 +129,40 @@ pub signed-cases : map signed (pos 0 ∷ pos 25600 ∷ negsuc 0 ∷ negsuc 49599
     ≡ (48 ∷ []) ∷ (50 ∷ 53 ∷ 54 ∷ 48 ∷ 48 ∷ []) ∷ (45 ∷ 49 ∷ []) ∷ (45 ∷ 52 ∷ 57 ∷ 54 ∷ 48 ∷ 48 ∷ []) ∷ []
 unfolding decimal signed
 signed-cases = refl
+
+-- a plan of 24 bytes, of season 12; and the number and the bytes, with a buffer of n bytes
+abbrev narrow : (p n d : ℕ) (x : List ℕ) → List ℕ
+narrow p n d x = 0 ∷ 12 ∷ p ∷ n ∷ d ∷ take 19 (x ++ replicate 19 0)
+
+abbrev narrowA : List ℕ
+narrowA = narrow 7 3 1 (1 ∷ 2 ∷ 4 ∷ [])
+
+abbrev lent : ℕ → List ℕ
+lent n = replicate n 9
+
+abbrev widens : List ℕ → ℕ → ℕ × List ℕ
+widens old n = (widenNumber old (lent n), widenBuffer old (lent n))
+
+-- a plan by itself; one whose bytes all differ, which is not sound; two in order, the first with p 9; bytes 21 to 23 not 0; none;
+-- a byte too many and a byte too few, whatever the buffer; the buffer a byte too long, a byte too short, and one for no plan
+pub widening-cases :
+    widens narrowA 40 ∷ widens (tab 24 (λ i. 100 + i)) 40 ∷ widens (set narrowA 2 9 ++ narrowA) 80
+    ∷ widens (take 21 narrowA ++ 1 ∷ 2 ∷ 3 ∷ []) 40 ∷ widens [] 0
+    ∷ widens (narrowA ++ 0 ∷ []) 40 ∷ widens (drop 1 narrowA) 0 ∷ widens (drop 1 narrowA) 40
+    ∷ widens narrowA 41 ∷ widens narrowA 39 ∷ widens [] 1 ∷ []
+    ≡ (0, planA) ∷ (0, 100 ∷ 101 ∷ 102 ∷ 103 ∷ 103 ∷ 104 ∷ tab 16 (λ i. 105 + i) ++ tab 16 (λ i. 105 + i) ++ 0 ∷ 0 ∷ [])
+    ∷ (0, set planA 2 9 ++ planA) ∷ (0, planA) ∷ (0, [])
+    ∷ (11, lent 40) ∷ (11, []) ∷ (11, lent 40) ∷ (6, lent 41) ∷ (6, lent 39) ∷ (6, lent 1) ∷ []
+unfolding effect widened widenedAll widenRows widenNumber widenBuffer
+widening-cases = refl
+
+pub widening-limits : (old wide : List ℕ) → length wide ≡ 40000 →
+    (length old ≡ 24000 → widenNumber old wide ≡ 0) × (length old ≡ 24024 → widenNumber old wide ≡ 11)
+unfolding effect widenRows widenNumber
+widening-limits old wide e = (λ h. rw (h, e), λ h. rw h)
+
+-- two plans; none; a byte too many
+pub widening-texts : map widenText ((narrowA ++ narrowA) ∷ [] ∷ (narrowA ++ 0 ∷ []) ∷ [])
+    ≡ (planA ++ planA) ∷ [] ∷ refusal (49 ∷ 49 ∷ []) ∷ []
+unfolding effect decimal spaced refusedLine widened widenedAll widenText
+widening-texts = refl

@@ -16,3 +16,4 @@ pub mod Finder
 pub mod Accepted
 pub mod Printed
 pub mod Tray
+pub mod Widening

@@ -1,0 +1,13 @@
+-- `widening::widened_byte` meets its contract. Assumes nothing.
+use native.Mathlib.Omega.{arith}
+use borrow.Author.Needs.{needs}
+use Rattle.definitions.proofs.Widening.{wide-head, wide-rows, wide-columns, wide-end}
+use Rattle.widening.proofs.widened_byte.Statement.{statement}
+use Rattle.widening.proofs.widened_byte.Tie as tie
+
+pub widened-byte-spec : {M : Type 1} → statement M
+widened-byte-spec = tie.close (tie.spec
+    (λ c. search needs) (λ c. wide-head _ _ (omega arith))
+    (λ c. search needs) (λ c. search needs) (λ c. wide-rows _ _ _ (omega arith) (omega arith) (omega arith))
+    (λ c. search needs) (λ c. search needs) (λ c. wide-columns _ _ _ (omega arith) (omega arith) (omega arith))
+    (λ c. wide-end _ _ (omega arith) (omega arith)))
