@@ -9,6 +9,7 @@ pub mod Nearest
 pub mod Unique
 pub mod Demands
 pub mod Counts
+pub mod Written
 pub mod Own
 pub mod Margin
 pub mod Published

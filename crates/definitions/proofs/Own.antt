@@ -20,7 +20,7 @@ use lib.ListN.{length, replicate}
 use borrow.Author.Tests.{eq-eqb}
 use Rattle.bounded.specs.Bounded.{at, sum}
 use Rattle.bounded.proofs.Sum.{sum-eq, sum-const}
-use Rattle.bounded.proofs.Tab.{length-tab, tab-at}
+use Rattle.bounded.proofs.Tab.{length-tab}
 use Rattle.polynomial.specs.Sides.{least, others}
 use Rattle.definitions.specs.Plan.{side, degree}
 use Rattle.definitions.specs.Code.{Code, strip, oblong, cells, value, mark}
@@ -32,6 +32,7 @@ use Rattle.definitions.specs.Sound.{Sound}
 use Rattle.definitions.specs.Photograph.{Photograph, sure}
 use Rattle.definitions.specs.Demands.{Nearest, clean}
 use Rattle.definitions.proofs.Counts.{value-below, differing-split}
+use Rattle.definitions.proofs.Written.{mark-at}
 
 zeros-at : (n c : ℕ) → at (replicate n 0) c ≡ 0
 zeros-at zero c = refl
@@ -43,12 +44,8 @@ zeros-length zero = refl
 zeros-length (suc n) = ap suc (zeros-length n)
 
 module _ (C : Code) (P F : List ℕ) where
-  mark-at : (c : ℕ) → c < cells C P → at (mark C P F) c ≡ value C P F c
-  unfolding mark
-  mark-at c l = tab-at (cells C P) (value C P F) c l
-
   equal : (c : ℕ) → c < cells C P → eqb (at (mark C P F) c) (value C P F c) ≡ true
-  equal c l = eq-eqb _ _ (mark-at c l)
+  equal c l = eq-eqb _ _ (mark-at C P F c l)
 
   pub own-cost : costOf C P (mark C P F) (sure (cells C P)) F ≡ 0
   own-cost = sum-eq (cells C P) {g = λ c. 0} own ∙ none (cells C P)

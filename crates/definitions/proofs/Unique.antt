@@ -8,7 +8,7 @@
 use mathlib.Core.Path.{_≡_, sym, ap, _∙_}
 use mathlib.Core.Bool.{true}
 use mathlib.Core.List.{List}
-use Prim.Native.Nat.{ℕ, suc, _+_, _*_, _-_, _%_, _<_}
+use Prim.Native.Nat.{ℕ, suc, _*_, _-_, _%_, _<_}
 use native.Mathlib.Omega.{arith}
 use native.Mathlib.Numerals.{add-one}
 use Rattle.bounded.specs.Bounded.{at}
@@ -23,7 +23,7 @@ use Rattle.polynomial.proofs.Far.{poly-one}
 use Rattle.definitions.specs.Plan.{modulus, degree, side, point}
 use Rattle.definitions.specs.Code.{Code, more, cells, value, IsRecord}
 use Rattle.definitions.specs.Cost.{full}
-use Rattle.definitions.specs.Calls.{costOf, within}
+use Rattle.definitions.specs.Calls.{within}
 use Rattle.definitions.specs.Sound.{Sound}
 use Rattle.definitions.specs.Photograph.{Photograph}
 use Rattle.definitions.proofs.Plan.{plan-modulus, plan-apart, plan-low}

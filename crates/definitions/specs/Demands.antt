@@ -55,7 +55,7 @@ use Rattle.definitions.specs.Calls.{readRows, readNumber, readReading, r
 use Rattle.definitions.specs.Finder.{findRows, findNumber, findOffset, findBytes}
 use Rattle.definitions.specs.Code.{IsRecord}
 use Rattle.definitions.specs.Photograph.{Photograph, sure}
-use Rattle.definitions.specs.Widening.{narrowBytes, narrowPlan, widened, widenedAll, widenRows, widenNumber, widenBuffer}
+use Rattle.definitions.specs.Widening.{narrowPlan, widened, widenedAll, widenRows, widenNumber, widenBuffer}
 use Rattle.definitions.specs.Widening.{narrowNumber, cleared}
 
 pub record RefusalsKeep : Type 0 where

@@ -44,6 +44,7 @@ use Rattle.definitions.proofs.Plan.{strip-size, mark-size}
 use Rattle.definitions.proofs.Sound.{sound, checked}
 use Rattle.definitions.proofs.Demands.{nearest-one}
 use Rattle.definitions.proofs.Accepted.{accepted-writing, accepted-measuring, accepted-reading, measuring-accepted}
+use Rattle.definitions.proofs.Written.{mark-written}
 use Rattle.definitions.proofs.Own.{own-photo, own-reading, own-read}
 use Rattle.definitions.proofs.Published.{photo-weighed}
 use Rattle.definitions.proofs.Margin.{measured-range, read-range, lowest, highest}
@@ -51,7 +52,6 @@ use Rattle.distance.proofs.Cost.{cell-full}
 use Rattle.polynomial.proofs.Record.{value-places, start-next, start-below, start-apart, placed}
 use Rattle.polynomial.proofs.Known.{value-mark-is}
 use Rattle.traymark.proofs.Answer.{write-keeps, write-fills, measure-refuses, measure-gives, read-keeps, read-gives}
-use Rattle.writing.proofs.Written.{mark-written}
 
 -- A plan is sound, all its bytes as in the table, exactly when checking it gives 0.
 pub sound-exactly : (P : List ℕ) → Sound P ↔ (checkNumber P ≡ 0)
@@ -76,7 +76,7 @@ demand-1 = record {
   measure = λ C P s u F n. sym (measure-refuses C P s u F refl n);
   read = read-keeps;
   find = finder.nowhere;
-  widen = widening.unwidened;
+  widen = widening.widen-refused;
 }
 
 -- Demand 3. For every sound plan and every photograph in buffers of the right lengths, whatever the points, symbols and doubts:

@@ -7,11 +7,10 @@ use native.Mathlib.Nat.{zero-mul, add-sub-cancel-left}
 use lib.ListN.{length, drop}
 use Rattle.bounded.specs.Bounded.{at, tab}
 use Rattle.bounded.proofs.Tab.{tab-eq, tab-whole}
-use Rattle.bounded.proofs.Part.{row-in}
+use Rattle.bounded.proofs.Part.{row-in, row-more}
 use Rattle.polynomial.specs.Record.{gridValue}
 use Rattle.polynomial.specs.Powers.{Powers, Columns}
 use Rattle.polynomial.proofs.Cells.{grid-row}
-use Rattle.writing.proofs.Written.{row-more}
 use borrow.Author.Needs.{needs}
 use Rattle.writing.proofs.write_rows.Statement.{statement}
 use Rattle.writing.proofs.write_rows.Tie as tie

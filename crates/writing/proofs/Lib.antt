@@ -1,2 +1,0 @@
--- The laws of a mark that is written row by row.
-pub mod Written
