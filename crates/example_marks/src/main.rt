@@ -1,5 +1,5 @@
 // Writing and measuring at work: cases a and k of document 01, plan A with the record 3 1 2; a strip of that plan, clean and with
-// a cell unread and another wrong; a record beyond the radius; and refusals 6 to 9. Each line says what was asked, the number
+// a cell unread and another wrong; a record beyond the radius; a half tray; and refusals 6 to 9. Each line says what was asked, the number
 // that was answered, and then the buffer or the reading; the file stdout has them as worked out by hand.
 use definitions::Reading;
 use text::magnitude;
@@ -20,10 +20,11 @@ fn main() {
     measure(b"k first three cells 0", &record, &photo);
     measure(b"measure 0 0 0", &[0u8; 3], &mark);
     strips();
+    half_tray();
     refusals();
 }
 
-// The same on one row: the record 3 1 at the points 1 2 4.
+// The same on one row: the record 3 1 at the row points 1 2 4.
 fn strips() {
     let plan = plan_a();
     let record = [3u8, 1];
@@ -37,6 +38,24 @@ fn strips() {
     measured(
         b"a cell unread, another wrong",
         traymark_measure_strip(&plan, &record, &[255u8, 5, 1], &[100u8, 0, 0]),
+    );
+}
+
+// Three rows at the points 1 2 4, and two columns at 0 and 5: the same record in six cells, with a cell wrong.
+fn half_tray() {
+    let mut plan = plan_a();
+    plan[4] = 2;
+    plan[22] = 0;
+    plan[23] = 5;
+    plan[24] = 0;
+    let record = [3u8, 1, 2];
+    let mut mark = [9u8; 6];
+    let number = traymark_write_mark(&plan, &record, &mut mark);
+    written(b"write 3 1 2 on a half tray", number, &mark);
+    mark[0] = 6;
+    measured(
+        b"first cell 6",
+        traymark_measure_mark(&plan, &record, &mark, &[0u8; 6]),
     );
 }
 
@@ -69,16 +88,20 @@ fn measure(name: &[u8], record: &[u8; 3], photo: &[u8; 9]) {
     );
 }
 
-// Plan A: season 12, p 7, three points, degree 1, points 1 2 4.
-fn plan_a() -> [u8; 24] {
-    let mut plan = [0u8; 24];
+// Plan A: season 12, p 7, three rows, three columns, degree 1, points 1 2 4 each way.
+fn plan_a() -> [u8; 40] {
+    let mut plan = [0u8; 40];
     plan[1] = 12;
     plan[2] = 7;
     plan[3] = 3;
-    plan[4] = 1;
+    plan[4] = 3;
     plan[5] = 1;
-    plan[6] = 2;
-    plan[7] = 4;
+    plan[6] = 1;
+    plan[7] = 2;
+    plan[8] = 4;
+    plan[22] = 1;
+    plan[23] = 2;
+    plan[24] = 4;
     plan
 }
 

@@ -1,12 +1,12 @@
-// Photographed strips around the radius, read. Standard input is cases of 56 bytes: a plan, sixteen symbols, sixteen doubts, of
-// which as many count as the plan has points. Each line says p, n and d, the number, the reading, and the record. The file stdin
+// Photographed strips around the radius, read. Standard input is cases of 72 bytes: a plan, sixteen symbols, sixteen doubts, of
+// which as many count as the plan has rows, n. Each line says p, n and d, the number, the reading, and the record. The file stdin
 // has costs R - 1, R and R + 1, unread cells and doubts from 0 to 100 over several primes; the file stdout is what another
 // decoder makes of it.
 use traymark::read::traymark_read_strip;
 ghost use mathlib.Core.Path.{_≡_};
 ghost use lib.ListN.{length};
 
-const SIZE: usize = 56;
+const SIZE: usize = 72;
 
 fn main() {
     let mut i: u32 = 0;
@@ -22,29 +22,29 @@ fn main() {
     }
 }
 
-// One case. A plan of more than sixteen points, or of a degree above 15, has no record of at most sixteen bytes.
+// One case. A plan of more than sixteen rows, or of a degree above 15, has no record of at most sixteen bytes.
 fn read(case: &[u8], record: &mut [u8])
-    requires { ⌜ (length (now case) ≡ 56) × (length (now «record») ≡ 16) ⌝ }
+    requires { ⌜ (length (now case) ≡ 72) × (length (now «record») ≡ 16) ⌝ }
 {
     let n = wide(case[3]) as usize;
-    let d = wide(case[4]) as usize;
+    let d = wide(case[5]) as usize;
     if n > 16 {
         return;
     }
     if d > 15 {
         return;
     }
-    let symbols = 24 + n;
-    let doubts = 40 + n;
+    let symbols = 40 + n;
+    let doubts = 56 + n;
     let size = d + 1;
     number(b"p ", wide(case[2]));
     number(b" n ", wide(case[3]));
-    number(b" d ", wide(case[4]));
+    number(b" d ", wide(case[5]));
     io::write_all(1, b": ");
     tell(
-        &case[0..24],
-        &case[24..symbols],
-        &case[40..doubts],
+        &case[0..40],
+        &case[40..symbols],
+        &case[56..doubts],
         &mut record[0..size],
     );
 }

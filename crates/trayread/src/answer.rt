@@ -1,5 +1,6 @@
 // The whole answer to an input, as text.
 use crate::lines;
+use definitions::PLAN_BYTES;
 use polynomial::bivariate::LONGEST;
 use polynomial::bivariate::start;
 use traymark::plans::traymark_check_plan;
@@ -15,8 +16,8 @@ ghost use Rattle.definitions.specs.Tray.{planOf, HoldsFirst};
 ghost use Rattle.definitions.specs.Printed.{answerText, trayText};
 ghost use Rattle.text.specs.Put.{Put};
 
-// One byte more than the longest input, 24 + 256 + 256, so that an excess is seen.
-pub const ROOM: usize = 537;
+// One byte more than the longest input, 40 + 256 + 256, so that an excess is seen.
+pub const ROOM: usize = 553;
 
 // The longest answer: 72 bytes of READ, and of RECORD 7 and 4 for each coefficient of the longest record.
 pub const TEXT: usize = 623;
@@ -46,7 +47,7 @@ fn answer_input(input: &[u8], text: &mut [u8]) -> usize
     requires { ⌜ 623 ≤ length (now text) ⌝ }
     ensures { λ r. ⌜ Put (now (text .entry)) 0 (trayText (now (input .entry))) (now (text .exit)) r ⌝ }
 {
-    let number = traymark_check_plan(first(input, 24));
+    let number = traymark_check_plan(first(input, PLAN_BYTES));
     if number != 0 {
         return lines::put_refused(text, number);
     }
@@ -58,10 +59,10 @@ fn answer_photo(input: &[u8], text: &mut [u8]) -> usize
     requires { ⌜ (checkNumber (planOf (now input)) ≡ 0) × (623 ≤ length (now text)) ⌝ }
     ensures { λ r. ⌜ Put (now (text .entry)) 0 (trayText (now (input .entry))) (now (text .exit)) r ⌝ }
 {
-    let plan = &input[..24];
+    let plan = &input[..PLAN_BYTES];
     let said = plan::parse(plan);
     let cells = said.grid.a * said.grid.b;
-    let end = 24 + cells;
+    let end = PLAN_BYTES + cells;
     if input.len() != end + cells {
         return lines::put_refused(text, 6);
     }
@@ -70,7 +71,7 @@ fn answer_photo(input: &[u8], text: &mut [u8]) -> usize
     answer_mark(
         said.season as u32,
         plan,
-        &input[24..end],
+        &input[PLAN_BYTES..end],
         &input[end..],
         &mut record[..size],
         text,

@@ -7,7 +7,7 @@ use native.Mathlib.Nat.{mul-le-mul, add-sub-cancel-left}
 use lib.ListN.{length, take, drop, replicate, length-replicate, length-drop}
 use lib.Seq.{take-all}
 use borrow.Author.Needs.{needs}
-use Rattle.definitions.specs.Plan.{season}
+use Rattle.definitions.specs.Plan.{planBytes, season}
 use Rattle.definitions.specs.Code.{oblong, size, cells}
 use Rattle.polynomial.specs.declared.Grid.{Grid}
 use Rattle.polynomial.specs.Fit.{Fit}
@@ -15,7 +15,7 @@ use Rattle.polynomial.specs.Record.{start, longest}
 use Rattle.definitions.specs.Sound.{Sound}
 use Rattle.definitions.specs.Tray.{planOf, bufferOf, trayReading, trayRecord}
 use Rattle.definitions.specs.Printed.{trayText}
-use Rattle.definitions.proofs.Plan.{plan-longest}
+use Rattle.definitions.proofs.Plan.{plan-longest, mark-size}
 use Rattle.definitions.proofs.Sound.{sound}
 use Rattle.definitions.proofs.Tray.{count-text}
 use Rattle.plan.specs.declared.Plan.{Plan}
@@ -57,7 +57,7 @@ module _ (s : tie.Start) where
     cells-most = mul-le-mul (fits .rows) (fits .columns)
 
     size-is : {n : ℕ} → n ≡ start (g .d + 1) → n ≡ size oblong (planOf input)
-    size-is e = rw (says .fields) at e
+    size-is e = (rw (says .fields) at e) ∙ sym (mark-size (planOf input))
 
     season-is : said .season ≡ season (planOf input)
     season-is = rw (says .fields) refl
@@ -82,10 +82,10 @@ returns-2 c =
     let says = parsed .parse .ensures in
     let i = input s in
     let n = cells oblong (planOf i) in
-    let l : length (drop (24 + n) i) ≤ length i - (24 + n) = simp length-drop (omega arith) in
-    let u = take-all (length i - (24 + n)) (drop (24 + n) i) l in
+    let l : length (drop (planBytes + n) i) ≤ length i - (planBytes + n) = simp length-drop (omega arith) in
+    let u = take-all (length i - (planBytes + n)) (drop (planBytes + n) i) l in
     let buffer = cut s (sized .start .result) (size-is s says (sized .start .ensures)) in
-    rw (← season-is s says) (rw (← mark-cells says, add-sub-cancel-left 24 n, u, buffer) at (answered .answer-mark .ensures))
+    rw (← season-is s says) (rw (← mark-cells says, add-sub-cancel-left planBytes n, u, buffer) at (answered .answer-mark .ensures))
 
 pub answer-photo-spec : {M : Type 1} → statement M
 answer-photo-spec =
