@@ -1,11 +1,11 @@
 // Text put into a lent buffer, piece after piece: each function puts its bytes from `at` on, changes no other byte, and returns
-// the place after them. The caller sees to it that they fit.
+// the place after them. The caller sees to it that they fit. And the part of a room that holds what a program read.
 ghost use mathlib.Core.Path.{_≡_};
 ghost use mathlib.Core.List.{[], _∷_};
 ghost use Prim.Native.Nat.{_+_, _≤_, _<_};
 ghost use lib.IntN.{natAbs};
-ghost use lib.ListN.{length};
-ghost use Rattle.definitions.specs.Printed.{digit, decimal, signed, spaced};
+ghost use lib.ListN.{length, take};
+ghost use Rattle.definitions.specs.Printed.{digit, decimal, signed, spaced, refusedLine};
 ghost use Rattle.text.specs.Put.{Put};
 
 // A word.
@@ -94,4 +94,24 @@ fn wide(byte: u8) -> u32
     ensures { λ r. ⌜ r ≡ byte ⌝ }
 {
     byte as u32
+}
+
+// The line of a refusal: REFUSED and a number of at most 10 digits, from the start of the text.
+pub fn put_refused(text: &mut [u8], number: u32) -> usize
+    requires { ⌜ 19 ≤ length (now text) ⌝ }
+    ensures { λ r. ⌜ Put (now (text .entry)) 0 (refusedLine number) (now (text .exit)) r ⌝ }
+{
+    let at = put_bytes(text, 0, b"REFUSED");
+    let at = put_spaced(text, at, number);
+    put_bytes(text, at, b"\n")
+}
+
+// The first n bytes, or all where there are fewer.
+pub fn first<'a>(bytes: &'a [u8], n: usize) -> &'a [u8]
+    ensures { λ r. ⌜ now r ≡ take n (now (bytes .entry)) ⌝ }
+{
+    if bytes.len() < n {
+        return bytes;
+    }
+    &bytes[..n]
 }
