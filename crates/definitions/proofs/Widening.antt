@@ -191,9 +191,9 @@ module _ (old wide : List ℕ) where
     unfolding widenNumber widenRows first
     file-number = rw (equal _ _ e)
 
-    pub print-widened : 0 ≡ widenNumber old wide → widenBuffer old wide ≡ widenText old
+    pub print-widened : 0 ≡ widenNumber old wide → widenedAll old ≡ widenText old
     unfolding widenText
-    print-widened z = sym (widen-filled z) ∙ rw (← file-number, ← z)
+    print-widened z = rw (← file-number, ← z)
 
     pub print-refused : (k : ℕ) → k ≡ widenNumber old wide → k ≢ 0 → refusedLine k ≡ widenText old
     unfolding widenText
