@@ -6,7 +6,7 @@ use widening::NARROW_BYTES;
 use widening::widen;
 ghost use mathlib.Core.Path.{_≡_};
 ghost use mathlib.Core.List.{List};
-ghost use Prim.Native.Nat.{ℕ, _≤_};
+ghost use Prim.Native.Nat.{ℕ, _*_, _/_, _≤_};
 ghost use lib.ListN.{length, take};
 ghost use Rattle.definitions.specs.Tray.{HoldsFirst};
 ghost use Rattle.definitions.specs.Widening.{widenText};
@@ -28,9 +28,9 @@ pub fn answer(space: &[u8; ROOM], came: usize, text: &mut [u8; TEXT]) -> usize
     answer_input(first(space, came), text)
 }
 
-// The plans go where the text begins; a refusal leaves it as it was, for the line.
+// The plans go where the text begins; a refusal leaves it as it was, for the line. It has room for either.
 fn answer_input(old: &[u8], text: &mut [u8]) -> usize
-    requires { ⌜ (length (now old) ≤ 24001) × (40000 ≤ length (now text)) ⌝ }
+    requires { ⌜ (length (now old) / 24 * 40 ≤ length (now text)) × (19 ≤ length (now text)) ⌝ }
     ensures { λ r. ⌜ Put (now (text .entry)) 0 (widenText (now (old .entry))) (now (text .exit)) r ⌝ }
 {
     let n = old.len() / NARROW_BYTES * PLAN_BYTES;
