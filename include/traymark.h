@@ -1,22 +1,25 @@
 /*
- * traymark: square marks on fruit trays, written and read.
+ * traymark: square and oblong marks on fruit trays, written and read.
  *
- * Eight calls over plain bytes. Each is proved to give what its comment says, for any bytes and any lengths.
+ * Nine calls over plain bytes. Each is proved to give what its comment says, for any bytes and any lengths.
  * `make lib` writes the library, and `cc -Iinclude program.c target/staticlib/libtraymark.a` links a program with it.
  *
  * Words
- *   plan     24 bytes: season (2, high byte first), p, n, d, sixteen points, three zeros. p is a prime from 2 to 251,
- *            n (1 to 16, at most p) the number of points, d (0 to n - 1) the degree; the first n points are below p and
- *            strictly rising, the other point bytes 0. Point 0 may be used.
+ *   plan     40 bytes: season (2, high byte first), p, rows, columns, d, sixteen row points, sixteen column points, two
+ *            zeros. p is a prime from 2 to 251; rows and columns, the sides, are each 1 to 16 and at most p; d, the
+ *            degree, is below the smaller side. As many row points as there are rows are below p and strictly rising,
+ *            the other row point bytes 0; the column points likewise. Point 0 may be used.
  *   record   the coefficients of a polynomial, each below p. Of a mark: K = (d + 1)(d + 2) / 2 bytes, a polynomial in X
  *            and Y, by total degree from 0 to d and within one degree by rising power of Y: the coefficient of
  *            X^(k - j) Y^j is at k(k + 1) / 2 + j. Of a strip: K = d + 1 bytes, a polynomial in X, lowest power first.
- *   mark     N = n * n bytes: at i * n + j the polynomial's value modulo p for X the i-th point and Y the j-th.
- *   strip    N = n bytes: at i the polynomial's value modulo p for X the i-th point.
+ *   mark     N = rows * columns bytes: at i * columns + j the polynomial's value modulo p for X the i-th row point and Y
+ *            the j-th column point, both counted from 0.
+ *   strip    N = rows bytes: at i the polynomial's value modulo p for X the i-th row point. The plan is checked whole.
  *   symbols  N bytes of a photograph: each below p, or 255 for an unread cell.
  *   doubts   N bytes of a photograph: each 0 to 100, and exactly 100 where the cell is unread.
  *   cost     D, the sum over the cells: the doubt where the symbol is the record's value, else 200 less the doubt.
- *   radius   R, of a mark 100 * n * (n - d), of a strip 100 * (n - d). At most one record costs under R.
+ *   radius   R, of a mark 100 * the larger side * (the smaller side - d), of a strip 100 * (rows - d). At most one record
+ *            costs under R.
  *
  * Buffers
  *   A buffer is a pointer and a length, in that order. The pointer is not null and points to that many bytes; where the
@@ -25,20 +28,23 @@
  *   there is no state: calls may run in several threads at once.
  *
  * Numbers
- *   Every call answers with a number: 0, or the refusal that applies. Where several apply, the lowest of those that
- *   the call names is given. A REFUSAL CHANGES NO LENT BYTE. (The finder's *offset is a result, and is then 0.)
+ *   Every call answers with a number: 0, or the refusal that applies. Where several apply, the first of those that the
+ *   call names is given; they are named in the order of this list, 13 between 3 and 4, but for widening, 11 before 6.
+ *   A REFUSAL CHANGES NO LENT BYTE. (The finder's *offset is a result, and is then 0.)
  *
- *    1  the plan is not 24 bytes long, or its bytes 21 to 23 are not all 0
+ *    1  the plan is not 40 bytes long, or its byte 38 or 39 is not 0
  *    2  p is not a prime from 2 to 251
- *    3  n is 0, above 16 or above p
- *    4  d is n or more
- *    5  a point is p or more or not above the one before it, or an unused point byte is not 0
- *    6  a lent buffer (symbols, doubts, record, mark or strip) has not its exact length
+ *    3  rows are 0, above 16 or above p
+ *   13  columns are 0, above 16 or above p
+ *    4  d is not below the smaller side
+ *    5  a row point, or then a column point, is p or more or not above the one before it, or an unused point byte of
+ *       either set is not 0
+ *    6  a lent buffer (symbols, doubts, record, mark, strip or widened plans) has not its exact length
  *    7  a symbol is p or more and not 255
  *    8  a doubt is above 100, or that of an unread cell is not 100
  *    9  a coefficient of a given record is p or more
  *   10  reading only: no record costs under R
- *   11  the plan file's length is no multiple of 24
+ *   11  the plan file's length is no multiple of 40; widening: more than 1,000 plans, or a length no multiple of 24
  *   12  no plan in the file has the season
  */
 #ifndef TRAYMARK_H
@@ -65,29 +71,42 @@ typedef struct {
  * Checks a plan.
  *
  *   plan     read
- *   result   0 where the plan is sound; refusals 1 2 3 4 5
+ *   result   0 where the plan is sound; refusals 1 2 3 13 4 5
  */
 uint32_t traymark_check_plan(const uint8_t *plan, size_t plan_len);
 
 /*
- * Finds the first plan of a season in a plan file, which is plans of 24 bytes one after another with no header.
+ * Finds the first plan of a season in a plan file, which is plans of 40 bytes one after another with no header.
  * So a plan is corrected by putting the right one ahead of it in the file. Only the season bytes are compared; the plan
  * found is not checked. An empty file has no plan.
  *
  *   file     read
  *   offset   always written: where the number is 0, the place in the file of the first plan of the season, a multiple
- *            of 24, so that the plan is the 24 bytes from file + *offset; else 0
+ *            of 40, so that the plan is the 40 bytes from file + *offset; else 0
  *   result   0; refusals 11 12
  */
 uint32_t traymark_find_plan(const uint8_t *file, size_t file_len, uint16_t season, size_t *offset);
+
+/*
+ * Widens plans of the old form, for squares alone: season (2), p, n, d, sixteen points, three bytes of 0, 24 bytes in all.
+ * Each becomes a plan of 40 bytes with n for rows and columns, the points for both sets and zeros at the end, in the same
+ * order. No plan is checked: an unsound one is widened all the same, and its last three bytes are dropped, whatever they
+ * hold.
+ *
+ *   old      read; at most 1,000 plans of the old form, one after another with no header
+ *   wide     written whole where the number is 0; 40 bytes for each plan
+ *   result   0; refusals 11 6: 11 where there are more than 1,000 plans or old_len is no multiple of 24, else 6 where
+ *            wide_len is not 40 for each 24 of old_len
+ */
+uint32_t traymark_widen_plans(const uint8_t *old, size_t old_len, uint8_t *wide, size_t wide_len);
 
 /*
  * Writes the mark of a record.
  *
  *   plan     read
  *   record   read; K bytes
- *   mark     written whole where the number is 0; n * n bytes
- *   result   0; refusals 1 2 3 4 5 6 9
+ *   mark     written whole where the number is 0; rows * columns bytes
+ *   result   0; refusals 1 2 3 13 4 5 6 9
  */
 uint32_t traymark_write_mark(const uint8_t *plan, size_t plan_len,
                              const uint8_t *record, size_t record_len,
@@ -99,9 +118,9 @@ uint32_t traymark_write_mark(const uint8_t *plan, size_t plan_len,
  *
  *   plan     read
  *   record   read; K bytes
- *   symbols  read; n * n bytes
- *   doubts   read; n * n bytes
- *   result   the record's cost, margin, changed and unread counts and class; refusals 1 2 3 4 5 6 7 8 9
+ *   symbols  read; rows * columns bytes
+ *   doubts   read; rows * columns bytes
+ *   result   the record's cost, margin, changed and unread counts and class; refusals 1 2 3 13 4 5 6 7 8 9
  */
 traymark_reading traymark_measure_mark(const uint8_t *plan, size_t plan_len,
                                        const uint8_t *record, size_t record_len,
@@ -112,10 +131,10 @@ traymark_reading traymark_measure_mark(const uint8_t *plan, size_t plan_len,
  * Reads a photographed mark: the one record that costs under R, or refusal 10 exactly where there is none.
  *
  *   plan     read
- *   symbols  read; n * n bytes
- *   doubts   read; n * n bytes
+ *   symbols  read; rows * columns bytes
+ *   doubts   read; rows * columns bytes
  *   record   written whole where the number is 0; K bytes
- *   result   that record's cost, margin, changed and unread counts and class; refusals 1 2 3 4 5 6 7 8 10
+ *   result   that record's cost, margin, changed and unread counts and class; refusals 1 2 3 13 4 5 6 7 8 10
  */
 traymark_reading traymark_read_mark(const uint8_t *plan, size_t plan_len,
                                     const uint8_t *symbols, size_t symbols_len,
@@ -123,14 +142,14 @@ traymark_reading traymark_read_mark(const uint8_t *plan, size_t plan_len,
                                     uint8_t *record, size_t record_len);
 
 /*
- * The same three for a strip, one row of n cells: its record has d + 1 bytes and its radius is 100 * (n - d).
+ * The same three for a strip, a cell for each row point: its record has d + 1 bytes and its radius is 100 * (rows - d).
  *
  * Writes the strip of a record.
  *
  *   plan     read
  *   record   read; d + 1 bytes
- *   strip    written whole where the number is 0; n bytes
- *   result   0; refusals 1 2 3 4 5 6 9
+ *   strip    written whole where the number is 0; rows bytes
+ *   result   0; refusals 1 2 3 13 4 5 6 9
  */
 uint32_t traymark_write_strip(const uint8_t *plan, size_t plan_len,
                               const uint8_t *record, size_t record_len,
@@ -141,9 +160,9 @@ uint32_t traymark_write_strip(const uint8_t *plan, size_t plan_len,
  *
  *   plan     read
  *   record   read; d + 1 bytes
- *   symbols  read; n bytes
- *   doubts   read; n bytes
- *   result   the record's cost, margin, changed and unread counts and class; refusals 1 2 3 4 5 6 7 8 9
+ *   symbols  read; rows bytes
+ *   doubts   read; rows bytes
+ *   result   the record's cost, margin, changed and unread counts and class; refusals 1 2 3 13 4 5 6 7 8 9
  */
 traymark_reading traymark_measure_strip(const uint8_t *plan, size_t plan_len,
                                         const uint8_t *record, size_t record_len,
@@ -154,10 +173,10 @@ traymark_reading traymark_measure_strip(const uint8_t *plan, size_t plan_len,
  * Reads a photographed strip: the one record that costs under R, or refusal 10 exactly where there is none.
  *
  *   plan     read
- *   symbols  read; n bytes
- *   doubts   read; n bytes
+ *   symbols  read; rows bytes
+ *   doubts   read; rows bytes
  *   record   written whole where the number is 0; d + 1 bytes
- *   result   that record's cost, margin, changed and unread counts and class; refusals 1 2 3 4 5 6 7 8 10
+ *   result   that record's cost, margin, changed and unread counts and class; refusals 1 2 3 13 4 5 6 7 8 10
  */
 traymark_reading traymark_read_strip(const uint8_t *plan, size_t plan_len,
                                      const uint8_t *symbols, size_t symbols_len,

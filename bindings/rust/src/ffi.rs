@@ -20,6 +20,8 @@ extern "C" {
 
     pub fn traymark_find_plan(file: *const u8, file_len: usize, season: u16, offset: *mut usize) -> u32;
 
+    pub fn traymark_widen_plans(old: *const u8, old_len: usize, wide: *mut u8, wide_len: usize) -> u32;
+
     pub fn traymark_write_mark(
         plan: *const u8,
         plan_len: usize,

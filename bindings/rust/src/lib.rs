@@ -1,4 +1,4 @@
-//! Square marks on fruit trays, written and read: a safe wrapper over the proved static library.
+//! Square and oblong marks on fruit trays, written and read: a safe wrapper over the proved static library.
 //!
 //! Plans, records, marks, strips and photographs are plain bytes; `include/traymark.h` says what each holds. A call
 //! that writes takes the buffer to write into, of the exact length; a refusal changes no byte of it.
@@ -7,7 +7,10 @@
 //! else from the repository's `target/staticlib`, where `make lib` writes it.
 //!
 //! ```
-//! let plan = [0, 12, 7, 3, 1, 1, 2, 4, 0, 0, 0, 0, 0, 0, 0, 0, 0, 0, 0, 0, 0, 0, 0, 0];
+//! // season 12, p 7, 3 rows, 3 columns, d 1, row points 1 2 4, column points 1 2 4
+//! let mut plan = [0; traymark::PLAN_LENGTH];
+//! plan[..9].copy_from_slice(&[0, 12, 7, 3, 3, 1, 1, 2, 4]);
+//! plan[22..25].copy_from_slice(&[1, 2, 4]);
 //! let mut mark = [0; 9];
 //! traymark::write_mark(&plan, &[3, 1, 2], &mut mark)?;
 //! assert_eq!(mark, [6, 1, 5, 0, 2, 6, 2, 4, 1]);
@@ -33,7 +36,10 @@ mod refusal;
 pub use refusal::Refusal;
 
 /// The length of a plan in bytes.
-pub const PLAN_LENGTH: usize = 24;
+pub const PLAN_LENGTH: usize = 40;
+
+/// The length of a plan of the old form, for squares alone, which `widen_plans` takes.
+pub const OLD_PLAN_LENGTH: usize = 24;
 
 /// What measuring and reading say of a record against a photograph. A cell is right, changed or unread.
 #[derive(Clone, Copy, Debug, PartialEq, Eq)]
@@ -50,12 +56,12 @@ pub struct Reading {
     pub class: u32,
 }
 
-/// Checks a plan. Refusals 1 to 5.
+/// Checks a plan. Refusals 1 2 3 13 4 5.
 pub fn check_plan(plan: &[u8]) -> Result<(), Refusal> {
     accepted(unsafe { ffi::traymark_check_plan(plan.as_ptr(), plan.len()) })
 }
 
-/// The first plan of the season, in the order of the file: 24 bytes of `file` itself, at a multiple of 24.
+/// The first plan of the season, in the order of the file: 40 bytes of `file` itself, at a multiple of 40.
 /// Only the season bytes are compared; the plan is not checked. Refusals 11 and 12.
 pub fn find_plan(file: &[u8], season: u16) -> Result<&[u8], Refusal> {
     let mut offset = 0;
@@ -63,34 +69,51 @@ pub fn find_plan(file: &[u8], season: u16) -> Result<&[u8], Refusal> {
     Ok(&file[offset..offset + PLAN_LENGTH])
 }
 
-/// Writes the mark of a record: `record` has (d + 1)(d + 2) / 2 bytes, `mark` n * n. Refusals 1 to 6 and 9.
+/// Gives plans of the old form, 24 bytes each, the form with rows and columns: `wide` has 40 bytes for each of them. n and
+/// the points are given twice, bytes 21 to 23 dropped. No plan is checked. Refusal 11 where `old` has more than 1,000 plans
+/// or its length is no multiple of 24, then 6.
+///
+/// ```
+/// let mut old = [0; traymark::OLD_PLAN_LENGTH];
+/// old[..8].copy_from_slice(&[0, 12, 7, 3, 1, 1, 2, 4]); // season 12, p 7, n 3, d 1, points 1 2 4
+/// let mut wide = [0; traymark::PLAN_LENGTH];
+/// traymark::widen_plans(&old, &mut wide)?;
+/// assert_eq!(wide[..9], [0, 12, 7, 3, 3, 1, 1, 2, 4]);
+/// assert_eq!(wide[22..25], [1, 2, 4]);
+/// # Ok::<(), traymark::Refusal>(())
+/// ```
+pub fn widen_plans(old: &[u8], wide: &mut [u8]) -> Result<(), Refusal> {
+    accepted(unsafe { ffi::traymark_widen_plans(old.as_ptr(), old.len(), wide.as_mut_ptr(), wide.len()) })
+}
+
+/// Writes the mark of a record: `record` has (d + 1)(d + 2) / 2 bytes, `mark` rows * columns. Refusals 1 2 3 13 4 5 6 9.
 pub fn write_mark(plan: &[u8], record: &[u8], mark: &mut [u8]) -> Result<(), Refusal> {
     write_by(ffi::traymark_write_mark, plan, record, mark)
 }
 
-/// Measures a record against a photographed mark; a margin of 0 or below is no refusal. Refusals 1 to 9.
+/// Measures a record against a photographed mark; a margin of 0 or below is no refusal. Refusals 1 2 3 13 4 5 6 7 8 9.
 pub fn measure_mark(plan: &[u8], record: &[u8], symbols: &[u8], doubts: &[u8]) -> Result<Reading, Refusal> {
     measure_by(ffi::traymark_measure_mark, plan, record, symbols, doubts)
 }
 
-/// Reads a photographed mark: the one record within the radius goes into `record`. Refusals 1 to 8, and 10 exactly
-/// where no record is within the radius.
+/// Reads a photographed mark: the one record within the radius goes into `record`. Refusals 1 2 3 13 4 5 6 7 8,
+/// and 10 exactly where no record is within the radius.
 pub fn read_mark(plan: &[u8], symbols: &[u8], doubts: &[u8], record: &mut [u8]) -> Result<Reading, Refusal> {
     read_by(ffi::traymark_read_mark, plan, symbols, doubts, record)
 }
 
-/// Writes the strip of a record: `record` has d + 1 bytes, `strip` n. Refusals 1 to 6 and 9.
+/// Writes the strip of a record: `record` has d + 1 bytes, `strip` as many as there are rows. Refusals 1 2 3 13 4 5 6 9.
 pub fn write_strip(plan: &[u8], record: &[u8], strip: &mut [u8]) -> Result<(), Refusal> {
     write_by(ffi::traymark_write_strip, plan, record, strip)
 }
 
-/// Measures a record against a photographed strip; a margin of 0 or below is no refusal. Refusals 1 to 9.
+/// Measures a record against a photographed strip; a margin of 0 or below is no refusal. Refusals 1 2 3 13 4 5 6 7 8 9.
 pub fn measure_strip(plan: &[u8], record: &[u8], symbols: &[u8], doubts: &[u8]) -> Result<Reading, Refusal> {
     measure_by(ffi::traymark_measure_strip, plan, record, symbols, doubts)
 }
 
-/// Reads a photographed strip: the one record within the radius goes into `record`. Refusals 1 to 8, and 10 exactly
-/// where no record is within the radius.
+/// Reads a photographed strip: the one record within the radius goes into `record`. Refusals 1 2 3 13 4 5 6 7 8,
+/// and 10 exactly where no record is within the radius.
 pub fn read_strip(plan: &[u8], symbols: &[u8], doubts: &[u8], record: &mut [u8]) -> Result<Reading, Refusal> {
     read_by(ffi::traymark_read_strip, plan, symbols, doubts, record)
 }

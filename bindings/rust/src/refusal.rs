@@ -3,13 +3,14 @@
 use std::error::Error;
 use std::fmt;
 
-/// Why a call was refused. Where several reasons apply, the one with the lowest number is given.
-#[derive(Clone, Copy, Debug, PartialEq, Eq, PartialOrd, Ord, Hash)]
+/// Why a call was refused. Where several reasons apply, the first of them in the order of `ALL` is given.
+#[derive(Clone, Copy, Debug, PartialEq, Eq, Hash)]
 #[non_exhaustive]
 pub enum Refusal {
     PlanForm = 1,
     Modulus = 2,
-    Side = 3,
+    Rows = 3,
+    Columns = 13,
     Degree = 4,
     Points = 5,
     BufferLength = 6,
@@ -22,11 +23,12 @@ pub enum Refusal {
 }
 
 impl Refusal {
-    /// All refusals, by rising number.
-    pub const ALL: [Refusal; 12] = [
+    /// All refusals, in the order in which they are tested: by rising number, but 13 after 3.
+    pub const ALL: [Refusal; 13] = [
         Refusal::PlanForm,
         Refusal::Modulus,
-        Refusal::Side,
+        Refusal::Rows,
+        Refusal::Columns,
         Refusal::Degree,
         Refusal::Points,
         Refusal::BufferLength,
@@ -43,7 +45,7 @@ impl Refusal {
         Refusal::ALL.into_iter().find(|refusal| refusal.number() == number)
     }
 
-    /// Its number, 1 to 12.
+    /// Its number, 1 to 13.
     pub fn number(self) -> u32 {
         self as u32
     }
@@ -51,17 +53,23 @@ impl Refusal {
     /// What it means.
     pub fn message(self) -> &'static str {
         match self {
-            Refusal::PlanForm => "the plan is not 24 bytes long, or its bytes 21 to 23 are not all 0",
+            Refusal::PlanForm => "the plan is not 40 bytes long, or its byte 38 or 39 is not 0",
             Refusal::Modulus => "p is not a prime from 2 to 251",
-            Refusal::Side => "n is 0, above 16 or above p",
-            Refusal::Degree => "d is n or more",
-            Refusal::Points => "a point is p or more or not above the one before it, or an unused point byte is not 0",
+            Refusal::Rows => "the rows are 0, above 16 or above p",
+            Refusal::Columns => "the columns are 0, above 16 or above p",
+            Refusal::Degree => "d is not below the smaller side",
+            Refusal::Points => {
+                "a row or column point is p or more or not above the one before it, or an unused point byte is not 0"
+            }
             Refusal::BufferLength => "a lent buffer has not its exact length",
             Refusal::Symbol => "a symbol is p or more and not 255",
             Refusal::Doubt => "a doubt is above 100, or that of an unread cell is not 100",
             Refusal::Coefficient => "a coefficient of the given record is p or more",
             Refusal::NoRecord => "no record is within the radius",
-            Refusal::FileLength => "the plan file's length is no multiple of 24",
+            Refusal::FileLength => {
+                "the plan file's length is no multiple of 40, or there are more than 1,000 plans to widen, or their length \
+                 is no multiple of 24"
+            }
             Refusal::NoSuchSeason => "no plan in the file has the season",
         }
     }
@@ -80,11 +88,10 @@ mod tests {
     use super::*;
 
     #[test]
-    fn numbers_go_from_1_to_12() {
-        let numbers: Vec<u32> = Refusal::ALL.iter().map(|refusal| refusal.number()).collect();
-        assert_eq!(numbers, (1..=12).collect::<Vec<u32>>());
+    fn numbers_go_from_1_to_13_and_13_comes_after_3() {
+        assert_eq!(Refusal::ALL.map(Refusal::number), [1, 2, 3, 13, 4, 5, 6, 7, 8, 9, 10, 11, 12]);
         assert!(Refusal::ALL.iter().all(|&refusal| Refusal::from_number(refusal.number()) == Some(refusal)));
-        assert_eq!([0, 13].map(Refusal::from_number), [None, None]);
+        assert_eq!([0, 14].map(Refusal::from_number), [None, None]);
     }
 
     #[test]

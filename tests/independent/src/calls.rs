@@ -5,7 +5,7 @@ use crate::cost::{changed, class, cost, unread};
 use crate::exhaustive;
 use crate::field::Field;
 use crate::mark;
-use crate::plan::Plan;
+use crate::plan::{widened, Plan, OLD_PLAN, PLAN};
 use crate::strip::Strip;
 use crate::{Found, FULL_DOUBT, UNREAD};
 
@@ -35,11 +35,24 @@ pub fn check_plan(plan: &[u8]) -> u32 {
 
 /// The place of the first plan of the season.
 pub fn find_plan(file: &[u8], season: u16) -> Result<usize, u32> {
-    if !file.len().is_multiple_of(24) {
+    if !file.len().is_multiple_of(PLAN) {
         return Err(11);
     }
-    let first = file.chunks(24).position(|plan| plan[..2] == season.to_be_bytes());
-    first.map(|k| k * 24).ok_or(12)
+    let first = file.chunks(PLAN).position(|plan| plan[..2] == season.to_be_bytes());
+    first.map(|k| k * PLAN).ok_or(12)
+}
+
+/// The plans that plans of the old form become. Refusal 11 comes before 6.
+pub fn widen_plans(old: &[u8], wide: &mut [u8]) -> u32 {
+    if !old.len().is_multiple_of(OLD_PLAN) || old.len() > 1_000 * OLD_PLAN {
+        return 11;
+    }
+    if wide.len() != old.len() / OLD_PLAN * PLAN {
+        return 6;
+    }
+    let plans: Vec<u8> = old.chunks(OLD_PLAN).flat_map(widened).collect();
+    wide.copy_from_slice(&plans);
+    0
 }
 
 pub fn write(code: Code, plan: &[u8], record: &[u8], mark: &mut [u8]) -> u32 {
@@ -104,7 +117,7 @@ pub fn by_equations(code: Code, plan: &Plan, symbols: &[u32], doubts: &[u32]) ->
     match code {
         Code::Strip => {
             let field = Field::new(plan.p);
-            let strip = Strip { field: &field, points: &plan.points, degree: plan.degree, full: FULL_DOUBT };
+            let strip = Strip { field: &field, points: &plan.row_points, degree: plan.degree, full: FULL_DOUBT };
             strip.nearest(symbols, doubts)
         }
         Code::Mark => mark::nearest(plan, symbols, doubts),

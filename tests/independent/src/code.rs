@@ -14,8 +14,8 @@ impl Code {
     /// The number of cells.
     pub fn cells(self, plan: &Plan) -> usize {
         match self {
-            Code::Strip => plan.side(),
-            Code::Mark => plan.side() * plan.side(),
+            Code::Strip => plan.rows(),
+            Code::Mark => plan.rows() * plan.columns(),
         }
     }
 
@@ -26,11 +26,12 @@ impl Code {
 
     /// The radius R.
     pub fn radius(self, plan: &Plan) -> u32 {
-        let distance = (plan.side() - plan.degree) as u32;
-        match self {
-            Code::Strip => FULL_DOUBT * distance,
-            Code::Mark => FULL_DOUBT * plan.side() as u32 * distance,
-        }
+        let [smaller, larger] = plan.sides();
+        let distance = match self {
+            Code::Strip => plan.rows() - plan.degree,
+            Code::Mark => larger * (smaller - plan.degree),
+        };
+        FULL_DOUBT * distance as u32
     }
 
     /// For each coefficient of a record the powers of X and Y that go with it.
@@ -55,10 +56,10 @@ impl Code {
 
     /// For each cell the points that X and Y take.
     fn points(self, plan: &Plan) -> Vec<(u32, u32)> {
-        let points = &plan.points;
+        let rows = plan.row_points.iter();
         match self {
-            Code::Strip => points.iter().map(|&x| (x, 0)).collect(),
-            Code::Mark => points.iter().flat_map(|&x| points.iter().map(move |&y| (x, y))).collect(),
+            Code::Strip => rows.map(|&x| (x, 0)).collect(),
+            Code::Mark => rows.flat_map(|&x| plan.column_points.iter().map(move |&y| (x, y))).collect(),
         }
     }
 }

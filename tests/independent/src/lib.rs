@@ -1,4 +1,5 @@
-//! Document 01 once more, by other methods than those of the proved library: what the tests hold it against.
+//! Document 01, with what document 02 changes in it, once more, by other methods than those of the proved library: what
+//! the tests hold it against.
 //!
 //! Small plans are read by going through all their records (`exhaustive`), others by Berlekamp and Welch's linear
 //! equations at every level of doubt, for every number of errors (`strip`), and for marks one coefficient of Y at a
@@ -13,9 +14,12 @@ pub mod mark;
 pub mod plan;
 pub mod strip;
 
-pub use calls::{check_plan, find_plan, measure, read, write, Reading};
+pub use calls::{check_plan, find_plan, measure, read, widen_plans, write, Reading};
 pub use code::Code;
-pub use plan::Plan;
+pub use plan::{Plan, OLD_PLAN, PLAN};
+
+/// The refusals in the order in which they are tested.
+pub const ORDER: [u32; 13] = [1, 2, 3, 13, 4, 5, 6, 7, 8, 9, 10, 11, 12];
 
 /// The doubt of a cell that says nothing.
 pub const FULL_DOUBT: u32 = 100;

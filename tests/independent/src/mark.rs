@@ -8,7 +8,9 @@ use crate::strip::Strip;
 use crate::{Found, FULL_DOUBT, UNREAD};
 
 /// The record within the radius. The coefficients of Y^d, Y^(d - 1), ... are found in turn and subtracted; what comes
-/// out is measured against the photograph, since they come out for many words that have no answer.
+/// out is measured against the photograph, since they come out for many words that have no answer. An oblong needs no
+/// other method: with r rows and c columns the coefficient of Y^j comes out below a cost of 100 (c - j)(r - d + j), and
+/// that is lowest at j = 0 or j = d, where the lower of c (r - d) and (c - d) r is the radius.
 pub fn nearest(plan: &Plan, symbols: &[u32], doubts: &[u32]) -> Option<Found> {
     let field = Field::new(plan.p);
     let mut left = symbols.to_vec();
@@ -27,25 +29,24 @@ pub fn nearest(plan: &Plan, symbols: &[u32], doubts: &[u32]) -> Option<Found> {
 /// coefficients of the answers, with the answers' costs as doubts, are a strip over the row points. A row without an
 /// answer is unread there. The full doubt of that strip is the rows' radius, so no doubt is divided or rounded.
 fn y_coefficient(field: &Field, plan: &Plan, y_power: usize, left: &[u32], doubts: &[u32]) -> Option<Vec<u32>> {
-    let n = plan.side();
-    let row = Strip { field, points: &plan.points, degree: y_power, full: FULL_DOUBT };
-    let full = FULL_DOUBT * (n - y_power) as u32;
+    let row = Strip { field, points: &plan.column_points, degree: y_power, full: FULL_DOUBT };
+    let full = FULL_DOUBT * (plan.columns() - y_power) as u32;
     let (symbols, doubts): (Vec<u32>, Vec<u32>) = left
-        .chunks(n)
-        .zip(doubts.chunks(n))
+        .chunks(plan.columns())
+        .zip(doubts.chunks(plan.columns()))
         .map(|(symbols, doubts)| match row.nearest(symbols, doubts) {
             Some(found) => (found.record[y_power], found.cost),
             None => (UNREAD, full),
         })
         .unzip();
-    let column = Strip { field, points: &plan.points, degree: plan.degree - y_power, full };
+    let column = Strip { field, points: &plan.row_points, degree: plan.degree - y_power, full };
     Some(column.nearest(&symbols, &doubts)?.record)
 }
 
 /// Takes the coefficient times Y^y_power off the read cells.
 fn subtract(field: &Field, plan: &Plan, y_power: usize, coefficient: &[u32], left: &mut [u32]) {
-    let terms: Vec<u32> = plan.points.iter().map(|&y| power(y, plan.p, y_power)).collect();
-    for (row, &x) in left.chunks_mut(plan.side()).zip(&plan.points) {
+    let terms: Vec<u32> = plan.column_points.iter().map(|&y| power(y, plan.p, y_power)).collect();
+    for (row, &x) in left.chunks_mut(plan.columns()).zip(&plan.row_points) {
         let value = field.value(coefficient, x);
         for (cell, &term) in row.iter_mut().zip(&terms) {
             if *cell != UNREAD {
