@@ -11,7 +11,7 @@ use traymark_tests::plans;
 use traymark_tests::random::Random;
 use traymark_tests::run::Suite;
 
-pub const SUITE: Suite = Suite { name: "port", cases: 6_000, case };
+pub const SUITE: Suite = Suite { name: "port", cases: 7_000, case };
 
 /// One plan and photograph; every fourth time something lent is spoiled.
 fn case(seed: u64, random: &mut Random, counts: &mut Counts) -> Result<(), String> {

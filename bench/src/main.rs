@@ -3,8 +3,8 @@
 //!
 //! - `bench [N]` prints the table and whether the targets are met; of each stream it takes at most N marks.
 //! - `bench check` holds the ports in Rust against the tests' decoder.
-//! - `bench profile P N D KIND COUNT` runs the library alone, on COUNT marks of one line, for a profiler. KIND is clean,
-//!   errors, doubts, rivals or noise for reading such marks, or write or measure.
+//! - `bench profile P ROWS COLUMNS D KIND COUNT` runs the library alone, on COUNT marks of one line, for a profiler. KIND is
+//!   clean, errors, doubts, rivals or noise for reading such marks, or write or measure.
 //!
 //! Each line of the table is a plan and a stream: the microseconds of the median mark, each mark by its least time of
 //! several rounds, by the library, by the port with division (`plain`), by the port with the reciprocal (`tuned`) and by
@@ -23,10 +23,19 @@ use contender::{Call, EQUATIONS, LIBRARY, MARKS, PLAIN, TUNED};
 use std::hint::black_box;
 use std::process::ExitCode;
 use std::str::FromStr;
-use stream::{Kind, Mark, Shape};
+use stream::{Kind, Mark};
 use table::Line;
+use traymark_tests::plans::Shape;
 
-const PLANS: [Shape; 5] = [(251, 16, 0), (251, 16, 7), (251, 16, 15), (101, 8, 3), (17, 16, 7)];
+const PLANS: [Shape; 7] = [
+    (251, 16, 16, 0),
+    (251, 16, 16, 7),
+    (251, 16, 16, 15),
+    (101, 8, 8, 3),
+    (17, 16, 16, 7),
+    (251, 16, 8, 7),
+    (251, 8, 16, 7),
+];
 
 /// The lines of a plan. Reading clean marks comes first: the slowest marks of the others are compared with it.
 const CALLS: [(Call, Kind); 7] = [
@@ -39,7 +48,7 @@ const CALLS: [(Call, Kind); 7] = [
     (Call::Measure, Kind::Doubts),
 ];
 
-const USAGE: &str = "usage: bench [N] | bench check | bench profile P N D KIND COUNT";
+const USAGE: &str = "usage: bench [N] | bench check | bench profile P ROWS COLUMNS D KIND COUNT";
 
 fn main() -> ExitCode {
     let words: Vec<String> = std::env::args().skip(1).collect();
@@ -47,7 +56,7 @@ fn main() -> ExitCode {
     let result = match words.as_slice() {
         [] => compare(MARKS),
         ["check"] => check(),
-        ["profile", p, n, d, kind, count] => profile([p, n, d], kind, count),
+        ["profile", p, rows, columns, d, kind, count] => profile([p, rows, columns, d], kind, count),
         [most] => number(most).and_then(|most: usize| compare(most.clamp(1, MARKS))),
         _ => Err(USAGE.into()),
     };
@@ -99,7 +108,7 @@ fn agree(marks: &[Mark], call: Call) {
 /// Holds the ports against the tests' decoder.
 fn check() -> Result<(), String> {
     let counts = traymark_tests::run::run(&[check::SUITE]).map_err(|failures| failures.join("\n"))?;
-    if counts.numbers[..=10].contains(&0) {
+    if counts.numbers[..=10].contains(&0) || counts.numbers[13] == 0 {
         return Err(format!("a number that was never answered: {:?}", counts.numbers));
     }
     if counts.mixed_marks < 500 {
@@ -113,9 +122,8 @@ fn check() -> Result<(), String> {
 }
 
 /// The library works on the marks of one line.
-fn profile(shape: [&str; 3], word: &str, count: &str) -> Result<(), String> {
-    let [p, n, d] = shape;
-    let shape = (number(p)?, number(n)?, number(d)?);
+fn profile([p, rows, columns, d]: [&str; 4], word: &str, count: &str) -> Result<(), String> {
+    let shape = (number(p)?, number(rows)?, number(columns)?, number(d)?);
     let named = |&(call, kind): &(Call, Kind)| match call {
         Call::Read => kind.name() == word,
         Call::Write => word == "write",

@@ -1,17 +1,14 @@
 //! Streams of distinct marks: repeating one mark would hide mispredicted branches.
 
 use independent::calls::bytes;
-use independent::Code;
+use independent::{Code, PLAN};
 use traymark_tests::photo::{damaged, noise, rival, Damage, Harm, Place};
-use traymark_tests::plans;
+use traymark_tests::plans::{self, Shape};
 use traymark_tests::random::Random;
-
-/// (p, n, d)
-pub type Shape = (u32, usize, usize);
 
 #[derive(Debug)]
 pub struct Mark {
-    pub plan: [u8; 24],
+    pub plan: [u8; PLAN],
     pub record: Vec<u8>,
     pub symbols: Vec<u8>,
     pub doubts: Vec<u8>,
@@ -49,10 +46,13 @@ impl Kind {
     }
 }
 
-/// So many marks of one plan.
+/// So many marks of one plan. A square has the same points each way, as every plan that was widened.
 pub fn marks(shape: Shape, kind: Kind, number: usize) -> Vec<Mark> {
     let random = &mut Random::new(kind as u64);
-    let plan = plans::plan(shape, random);
+    let plan = match shape {
+        (p, rows, columns, d) if rows == columns => plans::square(p, rows, d, random),
+        _ => plans::plan(shape, random),
+    };
     let radius = Code::Mark.radius(&plan);
     let mut mark = || {
         let record = plans::record(Code::Mark, &plan, random);

@@ -1,7 +1,8 @@
 //! The table, a line for each plan and stream, and whether it meets the targets.
 
 use crate::contender::{Call, EQUATIONS, LIBRARY, PLAIN, TUNED};
-use crate::stream::{Kind, Shape};
+use crate::stream::Kind;
+use traymark_tests::plans::Shape;
 
 /// A plan and a stream, with the median microseconds of each contender.
 pub struct Line {
@@ -21,7 +22,7 @@ pub struct Line {
 pub fn print_head() {
     let over = |name: &str| format!("{name}/lib");
     println!(
-        "{:<15} {:<35} {:>9} {:>9} {:>9} {:>9} {:>9} {:>9} {:>13} {:>9} {:>13}",
+        "{:<17} {:<35} {:>9} {:>9} {:>9} {:>9} {:>9} {:>9} {:>13} {:>9} {:>13}",
         "plan",
         "call and marks",
         LIBRARY.name,
@@ -39,7 +40,7 @@ pub fn print_head() {
 impl Line {
     pub fn print(&self) {
         let Line { library, plain, tuned, equations, slowest, .. } = self;
-        print!("{:<15} {:<35} {library:>9.2} {plain:>9.2} {tuned:>9.2} {equations:>9.2}", self.plan(), self.what());
+        print!("{:<17} {:<35} {library:>9.2} {plain:>9.2} {tuned:>9.2} {equations:>9.2}", self.plan(), self.what());
         print!(" {:>9.2} {:>9.2} {:>13.1}", self.plain_ratio(), tuned / library, self.equations_ratio());
         match self.is_reading() {
             true => println!(" {slowest:>9.2} {:>13.1}", self.slowest_ratio()),
@@ -48,8 +49,10 @@ impl Line {
     }
 
     fn plan(&self) -> String {
-        let (p, n, d) = self.shape;
-        format!("p {p} n {n} d {d}")
+        match self.shape {
+            (p, rows, columns, d) if rows == columns => format!("p {p} n {rows} d {d}"),
+            (p, rows, columns, d) => format!("p {p} {rows} by {columns} d {d}"),
+        }
     }
 
     fn what(&self) -> String {
@@ -66,7 +69,7 @@ impl Line {
 
     /// Clean marks of a degree that matters.
     fn is_clean_reading(&self) -> bool {
-        self.is_reading() && self.kind == Kind::Clean && [7, 15].contains(&self.shape.2)
+        self.is_reading() && self.kind == Kind::Clean && [7, 15].contains(&self.shape.3)
     }
 
     fn plain_ratio(&self) -> f64 {

@@ -11,6 +11,9 @@ pub struct Counts {
     /// marks and strips read, or refused with 10
     pub marks: u64,
     pub strips: u64,
+    /// photographs of oblongs, and of marks that are others with rows and columns exchanged
+    pub oblongs: u64,
+    pub unlike: u64,
     /// marks and strips read with changed and unread cells at once
     pub mixed_marks: u64,
     pub mixed_strips: u64,
@@ -23,8 +26,10 @@ pub struct Counts {
     /// plans found that others of their season stand behind, and of these unsound ones before sound ones
     pub first_of_several: u64,
     pub unsound_first: u64,
+    /// plans widened
+    pub widened: u64,
     /// answers by number, and accepted readings and measurements by class
-    pub numbers: [u64; 13],
+    pub numbers: [u64; 14],
     pub classes: [u64; 4],
 }
 
@@ -48,6 +53,13 @@ impl Counts {
         }
     }
 
+    /// What a photograph costs against the mark that it is of.
+    pub fn cost(&mut self, cost: u32, radius: u32) {
+        self.below += u64::from(cost + 1 == radius);
+        self.at += u64::from(cost == radius);
+        self.above += u64::from(cost == radius + 1);
+    }
+
     pub fn number(&mut self, number: u32) {
         self.calls += 1;
         self.numbers[number as usize] += 1;
@@ -57,6 +69,8 @@ impl Counts {
         self.calls += other.calls;
         self.marks += other.marks;
         self.strips += other.strips;
+        self.oblongs += other.oblongs;
+        self.unlike += other.unlike;
         self.mixed_marks += other.mixed_marks;
         self.mixed_strips += other.mixed_strips;
         self.below += other.below;
@@ -65,6 +79,7 @@ impl Counts {
         self.twice += other.twice;
         self.first_of_several += other.first_of_several;
         self.unsound_first += other.unsound_first;
+        self.widened += other.widened;
         self.numbers.iter_mut().zip(other.numbers).for_each(|(sum, n)| *sum += n);
         self.classes.iter_mut().zip(other.classes).for_each(|(sum, n)| *sum += n);
     }
@@ -74,12 +89,15 @@ impl Counts {
         [
             (self.marks < 50_000, "fewer than 50,000 marks"),
             (self.strips < 50_000, "fewer than 50,000 strips"),
+            (self.oblongs < 17_000, "fewer than 17,000 oblong marks"),
+            (self.unlike < 1_000, "fewer than 1,000 marks that are others with rows and columns exchanged"),
             (self.mixed_marks < 10_000, "fewer than 10,000 marks read with changed and unread cells"),
             (self.mixed_strips < 5_000, "fewer than 5,000 strips read with changed and unread cells"),
             ([self.below, self.at, self.above].into_iter().any(|n| n < 5_000), "few costs around the radius"),
             (self.twice < 5_000, "few readings by both independent methods"),
             (self.first_of_several < 1_500, "fewer than 1,500 plans found before others of their season"),
             (self.unsound_first < 40, "fewer than 40 unsound plans found before sound ones of their season"),
+            (self.widened < 50_000, "fewer than 50,000 plans widened"),
             (self.numbers.contains(&0), "a number that was never answered"),
             (self.classes.contains(&0), "a class that was never answered"),
         ]
@@ -93,11 +111,14 @@ impl fmt::Display for Counts {
         let list = |counts: &[u64]| counts.iter().map(u64::to_string).collect::<Vec<_>>().join(" ");
         write!(
             f,
-            "{} calls, {} marks, {} strips; changed and unread at once: {} {}; cost R - 1, R, R + 1: {} {} {}; \
-             both methods: {}; first of several plans: {}, unsound before sound: {}; numbers: {}; classes: {}",
+            "{} calls, {} marks, {} strips; oblongs: {}, others exchanged: {}; changed and unread at once: {} {}; \
+             cost R - 1, R, R + 1: {} {} {}; both methods: {}; first of several plans: {}, unsound before sound: {}; \
+             widened: {}; numbers: {}; classes: {}",
             self.calls,
             self.marks,
             self.strips,
+            self.oblongs,
+            self.unlike,
             self.mixed_marks,
             self.mixed_strips,
             self.below,
@@ -106,6 +127,7 @@ impl fmt::Display for Counts {
             self.twice,
             self.first_of_several,
             self.unsound_first,
+            self.widened,
             list(&self.numbers),
             list(&self.classes)
         )

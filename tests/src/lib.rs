@@ -1,4 +1,5 @@
-//! What the tests of the calls and of the program share: random plans, photographs of a chosen cost, lent buffers.
+//! What the tests of the calls and of the programs share: random plans, photographs of a chosen cost, lent buffers, runs of
+//! a program.
 
 pub mod calls;
 pub mod counts;
@@ -6,5 +7,6 @@ pub mod lent;
 pub mod library;
 pub mod photo;
 pub mod plans;
+pub mod program;
 pub mod random;
 pub mod run;

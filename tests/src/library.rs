@@ -125,6 +125,24 @@ pub fn find(file: &[u8], season: u16, random: &mut Random) -> Result<(u32, usize
     Ok((number, offset))
 }
 
+/// Widening plans: the number, and what the buffer holds afterwards.
+pub fn widen(old: &[u8], wide: &[u8], random: &mut Random) -> Result<(u32, Vec<u8>), String> {
+    let (old, mut wide) = (Lent::new(old, random), Lent::new(wide, random));
+    let number = {
+        let (old, wide) = (old.bytes(), wide.bytes_mut());
+        unsafe { ffi::traymark_widen_plans(old.as_ptr(), old.len(), wide.as_mut_ptr(), wide.len()) }
+    };
+    let outcome = Outcome { reading: Reading::refused(number), buffer: wide.bytes().to_vec() };
+    guarded(&wide)?;
+    untouched(&[&old])?;
+    wide.restore();
+    alike(outcome.reading, || refused(traymark::widen_plans(old.bytes(), wide.bytes_mut())))?;
+    guarded(&wide)?;
+    untouched(&[&old])?;
+    same_buffer(&outcome, &wide)?;
+    Ok((number, outcome.buffer))
+}
+
 type WriteSafe = fn(&[u8], &[u8], &mut [u8]) -> Result<(), Refusal>;
 type MeasureSafe = fn(&[u8], &[u8], &[u8], &[u8]) -> Result<traymark::Reading, Refusal>;
 type ReadSafe = fn(&[u8], &[u8], &[u8], &mut [u8]) -> Result<traymark::Reading, Refusal>;

@@ -17,7 +17,7 @@ pub enum Place {
     Rows,
     /// column by column
     Columns,
-    /// in a square that grows from a corner
+    /// in a part that grows from a corner
     Corner,
     /// where the rival differs
     Rival,
@@ -64,7 +64,7 @@ pub fn photograph(plan: &Plan, word: &[u32], rival: &[u32], target: u32, random:
 
 /// A photograph of the word that costs exactly so much against it, damaged in this way.
 pub fn damaged(plan: &Plan, word: &[u32], rival: &[u32], target: u32, damage: Damage, random: &mut Random) -> Photo {
-    let order = order(damage.place, plan.side(), word, rival, random);
+    let order = order(damage.place, plan.rows(), word, rival, random);
     let costs = costs(&order, damage.harm, target, random);
     let cell = |(cell, cost): (usize, u32)| {
         let wrong = match damage.towards_rival && rival[cell] != word[cell] {
@@ -100,44 +100,47 @@ pub fn unread(code: Code, plan: &Plan) -> Photo {
 }
 
 /// Another mark, or strip, at a small distance: the word plus a multiple of a product of d factors (X - x) and (Y - y).
-/// With factors in X alone it differs in as few cells as two marks can.
+/// With factors along the smaller side alone it differs in as few cells as two marks can.
 pub fn rival(code: Code, plan: &Plan, word: &[u32], random: &mut Random) -> Vec<u32> {
-    let n = plan.side();
-    let some = random.below(plan.degree + 1);
+    let d = plan.degree;
+    let some = random.below(d + 1);
     let in_y = match code {
         Code::Strip => 0,
-        Code::Mark => random.pick(&[0, 0, plan.degree, some]),
+        Code::Mark if plan.rows() <= plan.columns() => random.pick(&[0, 0, d, some]),
+        Code::Mark => random.pick(&[d, d, 0, some]),
     };
-    let mut chosen = [0, 1].map(|_| (0..n).collect::<Vec<usize>>());
-    chosen.iter_mut().for_each(|points| random.shuffle(points));
     let factor = random.between(1, plan.p - 1);
-    let product = |zeros: &[usize], k: usize| {
-        let difference = |&z: &usize| (plan.points[k] + plan.p - plan.points[z]) % plan.p;
-        zeros.iter().map(difference).fold(1, |product, term| product * term % plan.p)
-    };
-    let value = |cell: usize| {
-        let (row, column) = match code {
-            Code::Strip => (cell, 0),
-            Code::Mark => (cell / n, cell % n),
-        };
-        let x = product(&chosen[0][..plan.degree - in_y], row);
-        let y = product(&chosen[1][..in_y], column);
-        (word[cell] + factor * x % plan.p * y) % plan.p
-    };
+    let x = product(plan.p, &plan.row_points, d - in_y, random);
+    let y = product(plan.p, &plan.column_points, in_y, random);
+    let width = word.len() / plan.rows();
+    let value = |cell: usize| (word[cell] + factor * x[cell / width] % plan.p * y[cell % width]) % plan.p;
     (0..word.len()).map(value).collect()
 }
 
-/// The cells in the order of damage.
-fn order(place: Place, n: usize, word: &[u32], rival: &[u32], random: &mut Random) -> Vec<usize> {
-    let mut lines: Vec<usize> = (0..n).collect();
+/// The values at the points of a product of so many factors, each 0 at another of them.
+fn product(p: u32, points: &[u32], factors: usize, random: &mut Random) -> Vec<u32> {
+    let mut zeros = points.to_vec();
+    random.shuffle(&mut zeros);
+    let value = |point: &u32| zeros[..factors].iter().fold(1, |product, zero| product * (point + p - zero) % p);
+    points.iter().map(value).collect()
+}
+
+/// The cells in the order of damage. A strip is one column.
+fn order(place: Place, rows: usize, word: &[u32], rival: &[u32], random: &mut Random) -> Vec<usize> {
+    let columns = word.len() / rows;
+    let mut lines: Vec<usize> = (0..rows.max(columns)).collect();
     random.shuffle(&mut lines);
     let flip = [0, 1].map(|_| random.one_in(2));
-    let from_corner = |k: usize, flip: bool| if flip { n - 1 - k } else { k };
+    let from_end = |k: usize, n: usize, flip: bool| if flip { n - 1 - k } else { k };
+    let from_corner = |row: usize, column: usize| {
+        let (row, column) = (from_end(row, rows, flip[0]), from_end(column, columns, flip[1]));
+        row.max(column)
+    };
     let rank = |cell: usize| match place {
         Place::Anywhere => 0,
-        Place::Rows => lines[cell / n],
-        Place::Columns => lines[cell % n],
-        Place::Corner => from_corner(cell / n, flip[0]).max(from_corner(cell % n, flip[1])),
+        Place::Rows => lines[cell / columns],
+        Place::Columns => lines[cell % columns],
+        Place::Corner => from_corner(cell / columns, cell % columns),
         Place::Rival => usize::from(word[cell] == rival[cell]),
     };
     let mut cells: Vec<usize> = (0..word.len()).collect();

@@ -1,40 +1,75 @@
 //! Random sound plans and records.
 
 use crate::random::Random;
-use independent::{Code, Plan};
+use independent::calls::bytes;
+use independent::{Code, Plan, OLD_PLAN};
+use std::sync::LazyLock;
+
+/// (p, rows, columns, d)
+pub type Shape = (u32, usize, usize, usize);
 
 /// The primes of the random plans.
 pub const PRIMES: [u32; 9] = [2, 3, 5, 7, 11, 13, 101, 241, 251];
 
-/// Every p of `PRIMES` with every n and d, n = p among them: (p, n, d).
-pub fn shapes() -> Vec<(u32, usize, usize)> {
-    let sides = |p: u32| 1..=(p as usize).min(16);
-    PRIMES
-        .into_iter()
-        .flat_map(|p| sides(p).map(move |n| (p, n)))
-        .flat_map(|(p, n)| (0..n).map(move |d| (p, n, d)))
-        .collect()
+/// Every p of `PRIMES` with every number of rows, of columns and every d, p rows or columns among them.
+pub fn shapes() -> &'static [Shape] {
+    static SHAPES: LazyLock<Vec<Shape>> = LazyLock::new(|| PRIMES.into_iter().flat_map(shapes_of).collect());
+    &SHAPES
 }
 
-/// How many of these have p 251: every (n, d).
-pub const SHAPES_OF_251: u64 = 16 * 17 / 2;
-
-/// The one of that number among them.
-pub fn shape_of_251(number: u64) -> (u32, usize, usize) {
-    shapes().into_iter().filter(|shape| shape.0 == 251).nth(number as usize).expect("so many shapes")
+/// Those with as many columns as rows.
+pub fn squares() -> &'static [Shape] {
+    static SQUARES: LazyLock<Vec<Shape>> =
+        LazyLock::new(|| shapes().iter().copied().filter(|&(_, rows, columns, _)| rows == columns).collect());
+    &SQUARES
 }
 
-/// A plan of that shape with any season and any points; point 0 is often among them.
-pub fn plan((p, n, degree): (u32, usize, usize), random: &mut Random) -> Plan {
+/// Every number of rows, of columns and every d of one p.
+pub fn shapes_of(p: u32) -> impl Iterator<Item = Shape> {
+    let sides = 1..=(p as usize).min(16);
+    sides
+        .clone()
+        .flat_map(move |rows| sides.clone().map(move |columns| (rows, columns)))
+        .flat_map(move |(rows, columns)| (0..rows.min(columns)).map(move |d| (p, rows, columns, d)))
+}
+
+/// A plan of that shape with any season and any points; of a square often with the same points each way, as every plan
+/// that was widened has them.
+pub fn plan(shape: Shape, random: &mut Random) -> Plan {
+    let (p, rows, columns, degree) = shape;
+    if rows == columns && random.one_in(2) {
+        return square(p, rows, degree, random);
+    }
+    let season = random.number() as u16;
+    Plan { season, p, degree, row_points: points(p, rows, random), column_points: points(p, columns, random) }
+}
+
+/// A plan for a square with the same points each way.
+pub fn square(p: u32, n: usize, degree: usize, random: &mut Random) -> Plan {
+    let points = points(p, n, random);
+    Plan { season: random.number() as u16, p, degree, row_points: points.clone(), column_points: points }
+}
+
+/// The plan of a square in the old form: season, p, n, d, points.
+pub fn old(square: &Plan) -> Vec<u8> {
+    let mut old = square.season.to_be_bytes().to_vec();
+    old.extend([square.p as u8, square.rows() as u8, square.degree as u8]);
+    old.extend(bytes(&square.row_points));
+    old.resize(OLD_PLAN, 0);
+    old
+}
+
+/// Any rising points; 0 is often among them.
+fn points(p: u32, number: usize, random: &mut Random) -> Vec<u32> {
     let mut points: Vec<u32> = (0..p).collect();
     random.shuffle(&mut points);
     if random.one_in(2) {
         let zero = points.iter().position(|&point| point == 0).expect("0 is below p");
         points.swap(0, zero);
     }
-    points.truncate(n);
+    points.truncate(number);
     points.sort_unstable();
-    Plan { season: random.number() as u16, p, degree, points }
+    points
 }
 
 /// Any record; often with few coefficients that are not 0.

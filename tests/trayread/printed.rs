@@ -1,6 +1,6 @@
 //! What `trayread` is to print, by the independent decoder.
 
-use independent::{Code, Plan};
+use independent::{Code, Plan, PLAN};
 
 pub fn printed(input: &[u8]) -> String {
     match read(input) {
@@ -10,7 +10,7 @@ pub fn printed(input: &[u8]) -> String {
 }
 
 fn read(input: &[u8]) -> Result<String, u32> {
-    let (plan_bytes, photo) = input.split_at(input.len().min(24));
+    let (plan_bytes, photo) = input.split_at(input.len().min(PLAN));
     let plan = Plan::parse(plan_bytes)?;
     let (symbols, doubts) = photo.split_at(photo.len().min(Code::Mark.cells(&plan)));
     let mut record = vec![0; Code::Mark.size(&plan)];

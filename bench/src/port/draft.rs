@@ -11,14 +11,14 @@ pub fn from_cells<R: Reduction>(plan: &Plan<R>, inverses: &Inverses, cells: &Squ
     let d = plan.degree;
     let mut rows = *cells;
     let rows = &mut rows[..=d];
-    divide_differences(plan, inverses, &plan.points, rows);
+    divide_differences(plan, inverses, &plan.row_points, rows);
     if rows[d][..=d].iter().any(|&number| number != rows[d][0]) {
         return false;
     }
-    change_to_powers(plan, &plan.points, rows);
+    change_to_powers(plan, &plan.row_points, rows);
     exchange(rows, columns);
-    divide_differences(plan, inverses, &plan.points, columns);
-    change_to_powers(plan, &plan.points, columns);
+    divide_differences(plan, inverses, &plan.column_points, columns);
+    change_to_powers(plan, &plan.column_points, columns);
     true
 }
 
@@ -35,7 +35,7 @@ pub fn from_lines<R: Reduction>(
     if known <= d {
         return false;
     }
-    let answers = lines.iter().zip(&plan.points).filter_map(|(line, &point)| Some((line.as_ref()?, point)));
+    let answers = lines.iter().zip(&plan.row_points).filter_map(|(line, &point)| Some((line.as_ref()?, point)));
     let mut rows = [[0; 16]; 16];
     let mut points = [0; 16];
     for (place, (answer, point)) in answers.take(d + 2).enumerate() {

@@ -17,19 +17,19 @@ pub fn decode<R: Reduction>(plan: &Plan<R>, symbols: &[u8], doubts: &[u8], recor
         _ => &plan.field.inverses(),
     };
     let powers = Powers::new(plan);
-    let doubts = load(doubts, plan.n, |doubt| doubt);
-    let mut left = load(symbols, plan.n, |symbol| if symbol == UNREAD { 0 } else { symbol });
+    let doubts = load(doubts, plan.columns, |doubt| doubt);
+    let mut left = load(symbols, plan.columns, |symbol| if symbol == UNREAD { 0 } else { symbol });
     let mut columns = [[0; 16]; 16];
     let mut steps = Steps { plan, inverses, powers: &powers, doubts: &doubts, left: &mut left };
     let cost = steps.solve(&mut columns)?;
     put_record(&columns, plan.degree, record);
-    Some(Tally { cost, differing: differing(symbols, plan.n, &left) })
+    Some(Tally { cost, differing: differing(symbols, plan.columns, &left) })
 }
 
 /// The bytes of a mark as rows, 0 beyond it.
-fn load(bytes: &[u8], n: usize, number: impl Fn(u8) -> u8) -> Square {
+fn load(bytes: &[u8], columns: usize, number: impl Fn(u8) -> u8) -> Square {
     let mut square = [[0; 16]; 16];
-    for (row, bytes) in square.iter_mut().zip(bytes.chunks_exact(n)) {
+    for (row, bytes) in square.iter_mut().zip(bytes.chunks_exact(columns)) {
         for (cell, &byte) in row.iter_mut().zip(bytes) {
             *cell = number(byte).into();
         }
@@ -38,7 +38,7 @@ fn load(bytes: &[u8], n: usize, number: impl Fn(u8) -> u8) -> Square {
 }
 
 /// How many cells are unread, or have something left of their symbols.
-fn differing(symbols: &[u8], n: usize, left: &Square) -> u32 {
-    let cells = symbols.chunks_exact(n).zip(left).flat_map(|(symbols, left)| symbols.iter().zip(left));
+fn differing(symbols: &[u8], columns: usize, left: &Square) -> u32 {
+    let cells = symbols.chunks_exact(columns).zip(left).flat_map(|(symbols, left)| symbols.iter().zip(left));
     cells.map(|(&symbol, &left)| u32::from((symbol == UNREAD) | (left != 0))).sum()
 }

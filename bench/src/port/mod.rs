@@ -34,7 +34,7 @@ pub fn write_mark<R: Reduction>(plan: &[u8], record: &[u8], mark: &mut [u8]) -> 
     checks::record(&plan, record)?;
     let powers = Powers::new(&plan);
     let in_y = powers.put_in_x(&polynomial::columns(record, plan.degree));
-    for (r, row) in mark.chunks_exact_mut(plan.n).enumerate() {
+    for (r, row) in mark.chunks_exact_mut(plan.columns).enumerate() {
         for (cell, value) in row.iter_mut().zip(powers.row(&in_y, r)) {
             *cell = value as u8;
         }
@@ -55,7 +55,8 @@ pub fn measure_mark<R: Reduction>(
     let powers = Powers::new(&plan);
     let in_y = powers.put_in_x(&polynomial::columns(record, plan.degree));
     let mut tally = Tally::default();
-    for (r, (symbols, doubts)) in symbols.chunks_exact(plan.n).zip(doubts.chunks_exact(plan.n)).enumerate() {
+    let rows = symbols.chunks_exact(plan.columns).zip(doubts.chunks_exact(plan.columns));
+    for (r, (symbols, doubts)) in rows.enumerate() {
         tally += Tally::new(symbols, doubts, &powers.row(&in_y, r));
     }
     Ok(tally.reading(symbols, plan.radius()))

@@ -1,45 +1,54 @@
-//! The 24 bytes of a plan.
+//! The 40 bytes of a plan.
 
 use super::field::{Field, Reduction, Row};
 use super::polynomial::start;
+use std::array::from_fn;
 use traymark::Refusal;
 
 /// The full doubt of a photograph.
 pub const FULL: u16 = 100;
 
-/// A sound plan, taken apart; the points beyond the n-th are 0.
+/// A sound plan, taken apart; the points that are not used are 0.
 pub struct Plan<R> {
     pub field: Field<R>,
-    pub n: usize,
+    pub rows: usize,
+    pub columns: usize,
     pub degree: usize,
-    pub points: Row,
+    pub row_points: Row,
+    pub column_points: Row,
 }
 
 impl<R: Reduction> Plan<R> {
-    /// The plan, or the lowest of refusals 1 to 5 that applies.
+    /// The plan, or the first of refusals 1 2 3 13 4 5 that applies.
     pub fn parse(bytes: &[u8]) -> Result<Plan<R>, Refusal> {
-        let bytes: &[u8; 24] = bytes.try_into().map_err(|_| Refusal::PlanForm)?;
-        let &[_, _, p, n, d, ref points @ .., 0, 0, 0] = bytes else { return Err(Refusal::PlanForm) };
+        let bytes: &[u8; 40] = bytes.try_into().map_err(|_| Refusal::PlanForm)?;
+        let &[_, _, p, rows, columns, d, ref points @ .., 0, 0] = bytes else { return Err(Refusal::PlanForm) };
         if p > 251 || !is_prime(p) {
             return Err(Refusal::Modulus);
         }
-        if n == 0 || n > 16 || n > p {
-            return Err(Refusal::Side);
+        if rows == 0 || rows > 16 || rows > p {
+            return Err(Refusal::Rows);
         }
-        if d >= n {
+        if columns == 0 || columns > 16 || columns > p {
+            return Err(Refusal::Columns);
+        }
+        if d >= rows.min(columns) {
             return Err(Refusal::Degree);
         }
-        let (used, unused) = points.split_at(n.into());
-        let rising = used.windows(2).all(|pair| pair[0] < pair[1]);
-        if !rising || used.iter().any(|&point| point >= p) || unused.iter().any(|&point| point != 0) {
-            return Err(Refusal::Points);
-        }
-        Ok(Plan { field: Field::new(p.into()), n: n.into(), degree: d.into(), points: points.map(u16::from) })
+        let (row_points, column_points) = points.split_at(16);
+        Ok(Plan {
+            field: Field::new(p.into()),
+            rows: rows.into(),
+            columns: columns.into(),
+            degree: d.into(),
+            row_points: load_points(p, rows, row_points)?,
+            column_points: load_points(p, columns, column_points)?,
+        })
     }
 
     /// The number of cells of a mark.
     pub fn cells(&self) -> usize {
-        self.n * self.n
+        self.rows * self.columns
     }
 
     /// The number of coefficients of a record.
@@ -49,8 +58,19 @@ impl<R: Reduction> Plan<R> {
 
     /// The radius R.
     pub fn radius(&self) -> u32 {
-        u32::from(FULL) * (self.n * (self.n - self.degree)) as u32
+        let (smaller, larger) = (self.rows.min(self.columns), self.rows.max(self.columns));
+        u32::from(FULL) * (larger * (smaller - self.degree)) as u32
     }
+}
+
+/// The points of the rows or of the columns, sixteen bytes of which so many are used, or refusal 5.
+fn load_points(p: u8, number: u8, bytes: &[u8]) -> Result<Row, Refusal> {
+    let (used, unused) = bytes.split_at(number.into());
+    let rising = used.windows(2).all(|pair| pair[0] < pair[1]);
+    if !rising || used.iter().any(|&point| point >= p) || unused.iter().any(|&point| point != 0) {
+        return Err(Refusal::Points);
+    }
+    Ok(from_fn(|place| bytes[place].into()))
 }
 
 fn is_prime(p: u8) -> bool {

@@ -32,31 +32,26 @@ pub fn start(k: usize) -> usize {
 pub struct Powers<R> {
     field: Field<R>,
     degree: usize,
-    powers: Square,
+    of_rows: Square,
+    /// none where they are those of the rows, as in every plan that was widened
+    of_columns: Option<Square>,
 }
 
 impl<R: Reduction> Powers<R> {
     pub fn new(plan: &Plan<R>) -> Powers<R> {
-        let mut powers = [[1; 16]; 16];
-        for t in 1..=plan.degree {
-            powers[t] = plan.field.multiply(&powers[t - 1], &plan.points);
-        }
-        Powers { field: plan.field, degree: plan.degree, powers }
+        let Plan { field, degree, row_points, column_points, .. } = *plan;
+        let of_columns = (column_points != row_points).then(|| powers(&field, degree, &column_points));
+        Powers { field, degree, of_rows: powers(&field, degree, &row_points), of_columns }
     }
 
-    /// The points to the power t.
-    pub fn power(&self, t: usize) -> &Row {
-        &self.powers[t]
-    }
-
-    /// The values at the points of the polynomial in one variable with these coefficients.
-    fn values(&self, coefficients: impl Iterator<Item = u16>) -> Row {
-        self.field.sum_of_multiples(coefficients.zip(&self.powers))
+    /// The powers of the column points.
+    pub fn of_columns(&self) -> &Square {
+        self.of_columns.as_ref().unwrap_or(&self.of_rows)
     }
 
     /// The values in the rows of the mark of the coefficient of Y^t, of which the powers of X up to d - t count.
     pub fn column(&self, coefficients: &Row, t: usize) -> Row {
-        self.values(coefficients[..=self.degree - t].iter().copied())
+        self.field.sum_of_multiples(coefficients[..=self.degree - t].iter().copied().zip(&self.of_rows))
     }
 
     /// X is put in, for all rows of the mark at once: row t has the coefficient of Y^t in each row of the mark.
@@ -70,6 +65,16 @@ impl<R: Reduction> Powers<R> {
 
     /// Then Y is put in, in row r of the mark: the row's values.
     pub fn row(&self, in_y: &Square, r: usize) -> Row {
-        self.values(in_y[..=self.degree].iter().map(|coefficients| coefficients[r]))
+        let coefficients = in_y[..=self.degree].iter().map(|coefficients| coefficients[r]);
+        self.field.sum_of_multiples(coefficients.zip(self.of_columns()))
     }
+}
+
+/// The powers of some points up to the degree.
+fn powers<R: Reduction>(field: &Field<R>, degree: usize, points: &Row) -> Square {
+    let mut powers = [[1; 16]; 16];
+    for t in 1..=degree {
+        powers[t] = field.multiply(&powers[t - 1], points);
+    }
+    powers
 }

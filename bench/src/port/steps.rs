@@ -52,8 +52,10 @@ impl<R: Reduction> Steps<'_, R> {
     /// Finds and subtracts the coefficient of Y^t: the rows' leading coefficients are a strip, whose doubts are the rows'
     /// costs. The answers of the rows that it fits are kept.
     fn step(&mut self, t: usize, lines: &mut [Option<Answer>; 16]) -> Option<Row> {
-        let row = self.strip(t, FULL);
-        for (r, line) in lines.iter_mut().enumerate().take(self.plan.n) {
+        let Plan { field, rows, columns, degree, ref row_points, ref column_points } = *self.plan;
+        let inverses = self.inverses;
+        let row = Strip { field: &field, inverses, points: column_points, n: columns, degree: t, full: FULL };
+        for (r, line) in lines.iter_mut().enumerate().take(rows) {
             if line.is_none() {
                 *line = row.decode(&self.left[r], &self.doubts[r]);
             }
@@ -61,7 +63,8 @@ impl<R: Reduction> Steps<'_, R> {
         let unread = row.radius() as u16;
         let leading: Row = from_fn(|r| lines[r].as_ref().map_or(0, |answer| answer.coefficients[t]));
         let costs: Row = from_fn(|r| lines[r].as_ref().map_or(unread, |answer| answer.cost as u16));
-        let column = self.strip(self.plan.degree - t, unread).decode(&leading, &costs)?;
+        let strip = Strip { field: &field, inverses, points: row_points, n: rows, degree: degree - t, full: unread };
+        let column = strip.decode(&leading, &costs)?;
         self.subtract(t, &column.values);
         for (r, line) in lines.iter_mut().enumerate() {
             if leading[r] != column.values[r] {
@@ -69,11 +72,6 @@ impl<R: Reduction> Steps<'_, R> {
             }
         }
         Some(column.coefficients)
-    }
-
-    fn strip(&self, degree: usize, full: u16) -> Strip<'_, R> {
-        let Plan { field, n, points, .. } = self.plan;
-        Strip { field, inverses: self.inverses, points, n: *n, degree, full }
     }
 
     /// Subtracts a draft of the lowest columns, if what it leaves is under the radius, and returns the cost.
@@ -91,18 +89,18 @@ impl<R: Reduction> Steps<'_, R> {
 
     /// Subtracts the column with these values in the rows, times Y^t. The test keeps the compiler from working across rows.
     fn subtract(&mut self, t: usize, values: &Row) {
-        for (row, &value) in self.left.iter_mut().zip(values).take(self.plan.n) {
+        let power = &self.powers.of_columns()[t];
+        for (row, &value) in self.left.iter_mut().zip(values).take(self.plan.rows) {
             if value != 0 {
-                *row = self.plan.field.subtract_multiple(row, value, self.powers.power(t));
+                *row = self.plan.field.subtract_multiple(row, value, power);
             }
         }
     }
 
     /// The cost of what is left, if it is under the radius.
     fn measure(&self) -> Option<u32> {
-        let n = self.plan.n;
-        let rows = self.doubts.iter().zip(self.left.iter()).take(n);
-        let cost = rows.map(|(doubts, left)| cost(FULL, &doubts[..n], left)).sum();
+        let rows = self.doubts.iter().zip(self.left.iter()).take(self.plan.rows);
+        let cost = rows.map(|(doubts, left)| cost(FULL, &doubts[..self.plan.columns], left)).sum();
         (cost < self.plan.radius()).then_some(cost)
     }
 }

@@ -1,5 +1,6 @@
 //! Where each coefficient of a record stands: that of X^(k - j) Y^j at k(k + 1)/2 + j of (d + 1)(d + 2)/2 places. One
-//! that is alone is written, measured and read back, for every place, n and d of p 251.
+//! that is alone is written, measured and read back, for every place, number of rows and of columns and d of p 251. The
+//! points mostly differ each way, so that it shows where X takes a column point or Y a row point.
 
 use independent::field::power;
 use independent::{Code, Plan};
@@ -10,7 +11,8 @@ use traymark_tests::plans;
 use traymark_tests::random::Random;
 
 pub fn case(seed: u64, random: &mut Random, counts: &mut Counts) -> Result<(), String> {
-    let plan = plans::plan(plans::shape_of_251(seed), random);
+    let shape = plans::shapes_of(251).nth(seed as usize).expect("so many shapes");
+    let plan = plans::plan(shape, random);
     for k in 0..=plan.degree {
         for j in 0..=k {
             alone(&plan, k, j, random, counts).map_err(|what| format!("X^{} Y^{j} of {plan:?}: {what}", k - j))?;
@@ -24,7 +26,8 @@ fn alone(plan: &Plan, k: usize, j: usize, random: &mut Random, counts: &mut Coun
     let mut record = vec![0; (plan.degree + 1) * (plan.degree + 2) / 2];
     record[k * (k + 1) / 2 + j] = coefficient as u8;
     let value = |x, y| (coefficient * power(x, plan.p, k - j) % plan.p * power(y, plan.p, j) % plan.p) as u8;
-    let mark: Vec<u8> = plan.points.iter().flat_map(|&x| plan.points.iter().map(move |&y| value(x, y))).collect();
+    let row = |&x: &u32| plan.column_points.iter().map(move |&y| value(x, y));
+    let mark: Vec<u8> = plan.row_points.iter().flat_map(row).collect();
 
     let given = Arguments {
         code: Code::Mark,

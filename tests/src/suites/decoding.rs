@@ -9,46 +9,79 @@ use independent::{exhaustive, Code, Plan, FULL_DOUBT};
 use traymark_tests::calls::{hold, Arguments, Call, Outcome};
 use traymark_tests::counts::Counts;
 use traymark_tests::photo::{noise, photograph, rival, Photo};
-use traymark_tests::plans;
+use traymark_tests::plans::{self, Shape};
 use traymark_tests::random::Random;
 
+/// Squares: the seeds go through their shapes.
 pub fn mark(seed: u64, random: &mut Random, counts: &mut Counts) -> Result<(), String> {
-    shaped(Code::Mark, seed, random, counts)
+    shaped(Code::Mark, plans::squares(), seed, random, counts)
 }
 
+/// Strips with every number of columns: these are of no account but for the check.
 pub fn strip(seed: u64, random: &mut Random, counts: &mut Counts) -> Result<(), String> {
-    shaped(Code::Strip, seed, random, counts)
+    shaped(Code::Strip, plans::shapes(), seed, random, counts)
 }
 
-/// p 251, n 16 and d 0, 7, 15.
+/// How often the seeds go through all shapes of marks, each time at another cost.
+pub const COSTS: u64 = 3;
+
+/// Marks of every shape, at R - 1, R and R + 1.
+pub fn oblong(seed: u64, random: &mut Random, counts: &mut Counts) -> Result<(), String> {
+    let shapes = plans::shapes();
+    let plan = plans::plan(shapes[seed as usize % shapes.len()], random);
+    let radius = Code::Mark.radius(&plan);
+    let cost = [radius - 1, radius, radius + 1][seed as usize / shapes.len()];
+    counts.cost(cost, radius);
+    costing(Code::Mark, &plan, Some(cost), random, counts)
+}
+
+/// p 251, the longest sides, 16 by 16 with d 0, 7, 15 and half of that.
 pub fn large_mark(seed: u64, random: &mut Random, counts: &mut Counts) -> Result<(), String> {
-    let plan = plans::plan((251, 16, [0, 7, 15][seed as usize % 3]), random);
-    planted(Code::Mark, &plan, random, counts)
+    let squares = [(251, 16, 16, 0), (251, 16, 16, 7), (251, 16, 16, 15)];
+    let oblongs = [(251, 16, 8, 7), (251, 8, 16, 7), (251, 16, 15, 14), (251, 15, 16, 7)];
+    let shapes = [&squares[..], &squares, &squares, &oblongs].concat();
+    shaped(Code::Mark, &shapes, seed, random, counts)
 }
 
 /// Every prime, as division differs between them.
 pub fn every_prime(seed: u64, random: &mut Random, counts: &mut Counts) -> Result<(), String> {
     let primes: Vec<u8> = (2..=251).filter(|&p| is_prime(p)).collect();
     let p = primes[seed as usize % primes.len()];
-    let n = random.between(1, p.min(16).into()) as usize;
-    let plan = plans::plan((p.into(), n, random.below(n)), random);
+    let [rows, columns] = [0, 1].map(|_| random.between(1, p.min(16).into()) as usize);
+    let plan = plans::plan((p.into(), rows, columns, random.below(rows.min(columns))), random);
     planted(random.pick(&[Code::Strip, Code::Mark]), &plan, random, counts)
 }
 
-/// The seeds go through all shapes of plans.
-fn shaped(code: Code, seed: u64, random: &mut Random, counts: &mut Counts) -> Result<(), String> {
-    let shapes = plans::shapes();
+/// The seeds go through these shapes of plans.
+fn shaped(code: Code, shapes: &[Shape], seed: u64, random: &mut Random, counts: &mut Counts) -> Result<(), String> {
     let plan = plans::plan(shapes[seed as usize % shapes.len()], random);
     planted(code, &plan, random, counts)
 }
 
+/// A photograph that costs some sum, or now and then one of nothing.
 fn planted(code: Code, plan: &Plan, random: &mut Random, counts: &mut Counts) -> Result<(), String> {
+    let cost = match random.one_in(16) {
+        true => None,
+        false => Some(target(code, plan, random, counts)),
+    };
+    costing(code, plan, cost, random, counts)
+}
+
+/// A photograph that costs so much against its record, or one of nothing.
+fn costing(
+    code: Code,
+    plan: &Plan,
+    target: Option<u32>,
+    random: &mut Random,
+    counts: &mut Counts,
+) -> Result<(), String> {
+    counts.oblongs += u64::from(code == Code::Mark && plan.rows() != plan.columns());
     let record = plans::record(code, plan, random);
     let word = code.word(plan, &record);
     let rival = rival(code, plan, &word, random);
-    let photo = match random.one_in(16) {
-        true => noise(code, plan, random),
-        false => photograph(plan, &word, &rival, target(code, plan, random, counts), random),
+    let photo = match target {
+        None => noise(code, plan, random),
+        Some(cost) => photograph(plan, &word, &rival, cost, random),
     };
     let given = Arguments {
         code,
@@ -72,25 +105,18 @@ fn planted(code: Code, plan: &Plan, random: &mut Random, counts: &mut Counts) ->
 fn target(code: Code, plan: &Plan, random: &mut Random, counts: &mut Counts) -> u32 {
     let radius = code.radius(plan);
     let most = 2 * FULL_DOUBT * code.cells(plan) as u32;
-    match random.below(16) {
-        0..=3 => {
-            counts.below += 1;
-            radius - 1
-        }
-        4..=5 => {
-            counts.at += 1;
-            radius
-        }
-        6..=7 => {
-            counts.above += 1;
-            radius + 1
-        }
+    let cost = match random.below(16) {
+        0..=3 => radius - 1,
+        4..=5 => radius,
+        6..=7 => radius + 1,
         8 => 0,
         9 => radius / 2,
         10 => random.between(radius, most.min(radius + radius / 2)),
         11 => random.between(radius - 10.min(radius), radius),
         _ => random.between(0, radius),
-    }
+    };
+    counts.cost(cost, radius);
+    cost
 }
 
 /// Small plans are read by search, and here by equations too.

@@ -1,14 +1,14 @@
-//! Cases a to l of document 01, with unread cells counted apart from changed ones, and some more whose answers were worked
-//! out by hand.
+//! Cases a to l of document 01, with unread cells counted apart from changed ones, and some more, half trays among them,
+//! whose answers were worked out by hand.
 
-use independent::{Code, Reading};
+use independent::{Code, Reading, PLAN};
 use std::array::from_fn;
 use std::ops::Range;
 use traymark_tests::calls::{hold, Arguments, Call, Outcome};
 use traymark_tests::counts::Counts;
 use traymark_tests::random::Random;
 
-pub const CASES: u64 = 41;
+pub const CASES: u64 = 96;
 
 /// A call and its outcome as the document says it.
 struct Row {
@@ -49,6 +49,11 @@ fn rows() -> Vec<Row> {
     let (wrong_first, full_doubts) = ([0, 1, 5, 0, 2, 6, 2, 4, 1], [100, 100, 0, 0, 0, 0, 0, 0, 0]);
     let one_read = unread([7; 256], 1..256);
     let few_read = unread(from_fn::<u8, 256, _>(|cell| if cell < 16 { 8 } else { 7 }), 33..256);
+    let (tall, broad) = (oblong(7, 1, &[1, 2, 4], &[3, 5]), oblong(7, 1, &[3, 5], &[1, 2, 4]));
+    let (tall_mark, broad_mark) = ([3, 0, 4, 1, 6, 3], [1, 3, 0, 3, 5, 2]);
+    let (sixteen, eight) = ([0, 1, 2, 3, 5, 8, 13, 21, 34, 55, 89, 144, 233, 240, 249, 250], [2, 3, 4, 9, 80, 81, 200, 250]);
+    let (tall_16, broad_16) = (oblong(251, 7, &sixteen, &eight), oblong(251, 7, &eight, &sixteen));
+    let (one_column, one_row) = (oblong(251, 0, &sixteen, &[9]), oblong(251, 0, &[9], &sixteen));
     vec![
         write(Mark, &plan_a, &[3, 1, 2], 9, Ok(&MARK)), // a
         read(Mark, &plan_a, &MARK, &SURE, Ok((&[3, 1, 2], [0, 600, 0, 0, 0]))), // b
@@ -99,14 +104,96 @@ fn rows() -> Vec<Row> {
         measure(Strip, &plan_16(15), &[0; 16], &[255; 16], &[100; 16], [1_600, -1_500, 0, 16, 0]),
         read(Mark, &plan_16(0), &one_read.0, &one_read.1, Ok((&[7], [25_500, 100, 0, 255, 0]))),
         read(Mark, &plan_16(0), &few_read.0, &few_read.1, Ok((&[7], [25_500, 100, 16, 223, 3]))),
+        // half trays: 3 + X + 2Y with three rows and two columns, and with two rows and three columns; R is 300
+        write(Mark, &tall, &[3, 1, 2], 6, Ok(&tall_mark)),
+        write(Mark, &broad, &[3, 1, 2], 6, Ok(&broad_mark)),
+        read(Mark, &tall, &tall_mark, &[0; 6], Ok((&[3, 1, 2], [0, 300, 0, 0, 0]))),
+        read(Mark, &broad, &broad_mark, &[0; 6], Ok((&[3, 1, 2], [0, 300, 0, 0, 0]))),
+        // X and Y exchanged
+        write(Mark, &broad, &[3, 2, 1], 6, Ok(&[3, 4, 6, 0, 1, 3])),
+        read(Mark, &broad, &[3, 4, 6, 0, 1, 3], &[0; 6], Ok((&[3, 2, 1], [0, 300, 0, 0, 0]))),
+        // one under R, and R
+        read(Mark, &tall, &[0, 0, 4, 1, 6, 3], &[0, 0, 0, 0, 0, 99], Ok((&[3, 1, 2], [299, 1, 1, 0, 1]))),
+        read(Mark, &tall, &[0, 0, 4, 1, 6, 255], &[0, 0, 0, 0, 0, 100], Err((10, 3))),
+        measure(Mark, &tall, &[3, 1, 2], &[0, 0, 4, 1, 6, 255], &[0, 0, 0, 0, 0, 100], [300, 0, 1, 1, 1]),
+        read(Mark, &broad, &[0, 3, 0, 3, 5, 2], &[0, 0, 0, 0, 0, 99], Ok((&[3, 1, 2], [299, 1, 1, 0, 1]))),
+        read(Mark, &broad, &[0, 3, 0, 3, 5, 255], &[0, 0, 0, 0, 0, 100], Err((10, 3))),
+        // strips go by the rows: 3 + X at 1 2 4, R 200, and at 3 5, R 100
+        write(Strip, &tall, &[3, 1], 3, Ok(&[4, 5, 0])),
+        read(Strip, &tall, &[4, 5, 255], &[0, 0, 100], Ok((&[3, 1], [100, 100, 0, 1, 0]))),
+        write(Strip, &broad, &[3, 1], 2, Ok(&[6, 1])),
+        read(Strip, &broad, &[6, 1], &[0, 99], Ok((&[3, 1], [99, 1, 0, 0, 0]))),
+        read(Strip, &broad, &[6, 1], &[0, 100], Err((10, 2))),
+        write(Strip, &tall, &[3, 1], 2, Err(6)),
+        // the longest: one column, one row, 16 by 8 and 8 by 16 with d 7, where R is 1,600 for all
+        read(Mark, &one_column, &[7; 16], &[0; 16], Ok((&[7], [0, 1_600, 0, 0, 0]))),
+        read(Mark, &one_row, &[7; 16], &[0; 16], Ok((&[7], [0, 1_600, 0, 0, 0]))),
+        measure(Mark, &one_row, &[0], &[7; 16], &[0; 16], [3_200, -1_600, 16, 0, 3]),
+        read(Strip, &one_row, &[7], &[99], Ok((&[7], [99, 1, 0, 0, 0]))),
+        measure(Mark, &tall_16, &[0; 36], &[7; 128], &[0; 128], [25_600, -24_000, 128, 0, 3]),
+        measure(Mark, &broad_16, &[0; 36], &[7; 128], &[0; 128], [25_600, -24_000, 128, 0, 3]),
+        read(Mark, &tall_16, &[255; 128], &[100; 128], Err((10, 36))),
+        read(Mark, &broad_16, &[255; 128], &[100; 128], Err((10, 36))),
+        read(Mark, &tall_16, &[0; 127], &[0; 128], Err((6, 36))),
+        read(Mark, &broad_16, &[251; 128], &[0; 128], Err((7, 36))),
+        // columns alone, before d and after rows; d by the smaller side
+        check(&fields(7, [3, 8, 1], &[1, 2, 4], &[0, 1, 2, 3, 4, 5, 6]), 13),
+        check(&fields(251, [16, 17, 1], &sixteen, &sixteen), 13),
+        check(&fields(7, [3, 0, 0], &[1, 2, 4], &[]), 13),
+        check(&fields(7, [3, 17, 3], &[1, 2, 4], &[1, 2, 4]), 13),
+        check(&fields(7, [0, 17, 3], &[1, 2, 4], &[1, 2, 4]), 3),
+        check(&fields(7, [8, 0, 0], &[1, 2, 4], &[]), 3),
+        check(&fields(9, [3, 17, 1], &[1, 2, 4], &[1, 2, 4]), 2),
+        check(&fields(7, [3, 2, 2], &[1, 2, 4], &[3, 5]), 4),
+        check(&fields(7, [2, 3, 2], &[3, 5], &[1, 2, 4]), 4),
+        check(&fields(7, [3, 2, 1], &[1, 2, 4], &[3, 5]), 0),
+        check(&fields(7, [2, 3, 1], &[3, 5], &[1, 2, 4]), 0),
+        // points: equal, falling, p, and unused bytes, of rows and of columns; d before them
+        check(&fields(7, [3, 2, 1], &[1, 1, 4], &[3, 5]), 5),
+        check(&fields(7, [3, 2, 1], &[1, 2, 7], &[3, 5]), 5),
+        check(&fields(7, [3, 2, 1], &[1, 2, 4, 5], &[3, 5]), 5),
+        check(&fields(7, [3, 2, 1], &[1, 2, 4], &[3, 3]), 5),
+        check(&fields(7, [3, 2, 1], &[1, 2, 4], &[5, 3]), 5),
+        check(&fields(7, [3, 2, 1], &[1, 2, 4], &[3, 7]), 5),
+        check(&fields(7, [3, 2, 1], &[1, 2, 4], &[3, 5, 6]), 5),
+        check(&fields(7, [3, 2, 2], &[1, 1, 4], &[3, 3]), 4),
+        // for strips the columns are checked too
+        write(Strip, &fields(7, [3, 0, 0], &[1, 2, 4], &[]), &[3], 3, Err(13)),
+        read(Strip, &fields(7, [3, 17, 1], &[1, 2, 4], &[]), &[4, 5, 0], &[0; 3], Err((13, 2))),
+        read(Strip, &fields(7, [3, 1, 1], &[1, 2, 4], &[3]), &[4, 5, 0], &[0; 3], Err((4, 2))),
+        read(Strip, &fields(7, [3, 2, 1], &[1, 2, 4], &[3, 7]), &[4, 5, 0], &[0; 3], Err((5, 2))),
+        read(Strip, &fields(7, [3, 2, 1], &[1, 2, 4], &[3, 5, 6]), &[4, 5, 0], &[0; 3], Err((5, 2))),
+        // the last two bytes, before all else
+        check(&ending(&tall, 38), 1),
+        check(&ending(&tall, 39), 1),
+        check(&ending(&fields(9, [0, 0, 9], &[], &[]), 39), 1),
+        check(&tall[..24], 1),
     ]
 }
 
-/// A plan of season 12.
+/// A plan of season 12 with these rows, columns and d.
+fn fields(p: u8, [rows, columns, d]: [u8; 3], row_points: &[u8], column_points: &[u8]) -> Vec<u8> {
+    let mut plan = vec![0; PLAN];
+    plan[..6].copy_from_slice(&[0, 12, p, rows, columns, d]);
+    plan[6..6 + row_points.len()].copy_from_slice(row_points);
+    plan[22..22 + column_points.len()].copy_from_slice(column_points);
+    plan
+}
+
+/// The rows and columns are as many as their points.
+fn oblong(p: u8, d: u8, row_points: &[u8], column_points: &[u8]) -> Vec<u8> {
+    fields(p, [row_points.len() as u8, column_points.len() as u8, d], row_points, column_points)
+}
+
+/// A square with the same points each way.
 fn plan(p: u8, n: u8, d: u8, points: &[u8]) -> Vec<u8> {
-    let mut plan = vec![0, 12, p, n, d];
-    plan.extend_from_slice(points);
-    plan.resize(24, 0);
+    fields(p, [n, n, d], points, points)
+}
+
+/// The plan with a 1 at that place.
+fn ending(plan: &[u8], place: usize) -> Vec<u8> {
+    let mut plan = plan.to_vec();
+    plan[place] = 1;
     plan
 }
 

@@ -1,15 +1,23 @@
 //! Changed and unread counts at the bounds of the classes, alone and together, and the lowest and highest margins, for
-//! every n and d of p 251.
+//! every square and some oblongs of p 251 with every d.
 
 use independent::calls::bytes;
 use independent::{Code, Plan, Reading, FULL_DOUBT, UNREAD};
 use traymark_tests::calls::{hold, Arguments, Call, Outcome};
 use traymark_tests::counts::Counts;
-use traymark_tests::plans;
+use traymark_tests::plans::{self, Shape};
 use traymark_tests::random::Random;
 
+const OBLONGS: [(usize, usize); 8] = [(16, 1), (1, 16), (16, 8), (8, 16), (16, 15), (15, 16), (4, 2), (3, 5)];
+
+/// The shapes: a case for each.
+pub fn shapes() -> Vec<Shape> {
+    let chosen = |&(_, rows, columns, _): &Shape| rows == columns || OBLONGS.contains(&(rows, columns));
+    plans::shapes_of(251).filter(chosen).collect()
+}
+
 pub fn case(seed: u64, random: &mut Random, counts: &mut Counts) -> Result<(), String> {
-    let plan = plans::plan(plans::shape_of_251(seed), random);
+    let plan = plans::plan(shapes()[seed as usize], random);
     for code in [Code::Strip, Code::Mark] {
         let cells = code.cells(&plan);
         for some in [0, 1, 3, 4, 15, 16, 17, cells].into_iter().filter(|&some| some <= cells) {

@@ -1,12 +1,14 @@
-//! Every refusal, alone and with others: the lowest number that concerns the call is given.
+//! Every refusal, alone and with others: the first number that concerns the call is given, in the order 1 2 3 13 4 5 and
+//! on by rising numbers.
 
 use independent::calls::bytes;
 use independent::plan::is_prime;
-use independent::{Code, Plan};
+use independent::{Code, Plan, ORDER};
+use std::iter::repeat_with;
 use traymark_tests::calls::{hold, Arguments, Call};
 use traymark_tests::counts::Counts;
 use traymark_tests::photo::{photograph, rival};
-use traymark_tests::plans;
+use traymark_tests::plans::{self, Shape};
 use traymark_tests::random::Random;
 
 /// A way to break arguments.
@@ -36,8 +38,8 @@ pub fn together(seed: u64, random: &mut Random, counts: &mut Counts) -> Result<(
     let code = [Code::Strip, Code::Mark][seed as usize % 2];
     let (plan, mut given) = sound(code, random);
     // in every other case the plan stays sound, so that the higher numbers are seen
-    let lowest = random.pick(&[1, 6]);
-    let choice: Vec<&Fault> = FAULTS.iter().copied().filter(|fault| fault.number >= lowest).collect();
+    let first = random.pick(&[1, 6]);
+    let choice: Vec<&Fault> = FAULTS.iter().copied().filter(|fault| rank(fault.number) >= rank(first)).collect();
     let mut faults: Vec<&Fault> = Vec::new();
     for _ in 0..random.between(2, 6) {
         let fault = random.pick(&choice);
@@ -45,17 +47,36 @@ pub fn together(seed: u64, random: &mut Random, counts: &mut Counts) -> Result<(
             faults.push(fault);
         }
     }
-    // the highest first: a photograph at the radius is made anew, what is in buffers is broken before their lengths
-    faults.sort_by_key(|fault| std::cmp::Reverse(fault.number));
+    // the last first: a photograph at the radius is made anew, what is in buffers is broken before their lengths
+    faults.sort_by_key(|fault| std::cmp::Reverse(rank(fault.number)));
     faults.iter().for_each(|fault| (fault.apply)(&mut given, &plan, random));
     expect(&given, &faults, random, counts)
 }
 
-/// Every call gives the lowest number of the faults that concern it.
+/// Another byte at every place of a plan.
+pub fn in_plans(seed: u64, random: &mut Random, counts: &mut Counts) -> Result<(), String> {
+    let code = [Code::Strip, Code::Mark][seed as usize % 2];
+    let (_, given) = sound(code, random);
+    for place in 0..given.plan.len() {
+        let mut given = given.clone();
+        given.plan[place] ^= random.between(1, 255) as u8;
+        for call in Call::ALL {
+            hold(call, &given, random, counts)?;
+        }
+    }
+    Ok(())
+}
+
+/// The place of a number in the order in which refusals are tested.
+fn rank(number: u32) -> usize {
+    ORDER.into_iter().position(|other| other == number).expect("a refusal's number")
+}
+
+/// Every call gives the first number of the faults that concern it.
 fn expect(given: &Arguments, faults: &[&Fault], random: &mut Random, counts: &mut Counts) -> Result<(), String> {
     for call in Call::ALL {
         let concern = faults.iter().filter(|fault| fault.calls.contains(&call));
-        let expected = concern.map(|fault| fault.number).min().unwrap_or(0);
+        let expected = concern.map(|fault| fault.number).min_by_key(|&number| rank(number)).unwrap_or(0);
         let number = hold(call, given, random, counts)?.reading.number;
         if number != expected {
             let names: Vec<_> = faults.iter().map(|fault| fault.name).collect();
@@ -65,10 +86,11 @@ fn expect(given: &Arguments, faults: &[&Fault], random: &mut Random, counts: &mu
     Ok(())
 }
 
-/// A plan with at least two points and two unused point bytes, and arguments that every call accepts.
+/// A plan with at least two points and two unused point bytes each way, and arguments that every call accepts.
 pub fn sound(code: Code, random: &mut Random) -> (Plan, Arguments) {
-    let shapes: Vec<_> = plans::shapes().into_iter().filter(|&(_, n, _)| (2..=14).contains(&n)).collect();
-    let plan = plans::plan(random.pick(&shapes), random);
+    let fits = |&(_, rows, columns, _): &Shape| (2..=14).contains(&rows) && (2..=14).contains(&columns);
+    let shape = repeat_with(|| random.pick(plans::shapes())).find(fits).expect("there are such shapes");
+    let plan = plans::plan(shape, random);
     let mut given = Arguments {
         code,
         plan: plan.bytes().to_vec(),
@@ -109,26 +131,38 @@ macro_rules! fault {
 #[rustfmt::skip]
 const FAULTS: &[&Fault] = &[
     fault!("no plan", "form", 1, ON_PLAN, |g, _, _| g.plan.clear()),
-    fault!("plan one short", "form", 1, ON_PLAN, |g, _, _| g.plan.truncate(23)),
+    fault!("plan one short", "form", 1, ON_PLAN, |g, _, _| g.plan.truncate(39)),
     fault!("plan one long", "form", 1, ON_PLAN, |g, _, _| g.plan.push(0)),
     fault!("two plans", "form", 1, ON_PLAN, |g, _, _| g.plan.extend_from_within(..)),
-    fault!("filler", "form", 1, ON_PLAN, |g, _, r| g.plan[21 + r.below(3)] = r.between(1, 255) as u8),
+    fault!("plan of the old form", "form", 1, ON_PLAN, |g, _, _| g.plan.truncate(24)),
+    fault!("filler", "form", 1, ON_PLAN, |g, _, r| g.plan[38 + r.below(2)] = r.between(1, 255) as u8),
     fault!("p 0", "p", 2, ON_PLAN, |g, _, _| g.plan[2] = 0),
     fault!("p 1", "p", 2, ON_PLAN, |g, _, _| g.plan[2] = 1),
     fault!("p a product", "p", 2, ON_PLAN, |g, _, r| g.plan[2] = product(r)),
     fault!("p above 251", "p", 2, ON_PLAN, |g, _, r| g.plan[2] = r.between(252, 255) as u8),
-    fault!("n 0", "n", 3, ON_PLAN, |g, _, _| g.plan[3] = 0),
-    fault!("n 17", "n", 3, ON_PLAN, |g, _, _| g.plan[3] = 17),
-    fault!("n above 16", "n", 3, ON_PLAN, |g, _, r| g.plan[3] = r.between(17, 255) as u8),
-    fault!("n above p", "n", 3, ON_PLAN, |g, plan, _| g.plan[3] = plan.p as u8 + 1),
-    fault!("d n", "d", 4, ON_PLAN, |g, plan, _| g.plan[4] = plan.side() as u8),
-    fault!("d above n", "d", 4, ON_PLAN, |g, plan, r| g.plan[4] = r.between(plan.side() as u32, 255) as u8),
-    fault!("a point p", "last point", 5, ON_PLAN, |g, plan, _| g.plan[4 + plan.side()] = plan.p as u8),
-    fault!("a point above p", "last point", 5, ON_PLAN, |g, plan, r| g.plan[4 + plan.side()] = large(plan, r)),
-    fault!("a point twice", "points", 5, ON_PLAN, |g, _, _| g.plan[6] = g.plan[5]),
-    fault!("points fall", "points", 5, ON_PLAN, |g, _, _| g.plan.swap(5, 6)),
-    fault!("an unused point", "unused", 5, ON_PLAN, |g, plan, r| g.plan[5 + plan.side()] = r.between(1, 255) as u8),
-    fault!("the last unused point", "unused", 5, ON_PLAN, |g, _, _| g.plan[20] = 1),
+    fault!("rows 0", "rows", 3, ON_PLAN, |g, _, _| g.plan[3] = 0),
+    fault!("rows 17", "rows", 3, ON_PLAN, |g, _, _| g.plan[3] = 17),
+    fault!("rows above 16", "rows", 3, ON_PLAN, |g, _, r| g.plan[3] = r.between(17, 255) as u8),
+    fault!("rows above p", "rows", 3, ON_PLAN, |g, plan, _| g.plan[3] = plan.p as u8 + 1),
+    fault!("columns 0", "columns", 13, ON_PLAN, |g, _, _| g.plan[4] = 0),
+    fault!("columns 17", "columns", 13, ON_PLAN, |g, _, _| g.plan[4] = 17),
+    fault!("columns above 16", "columns", 13, ON_PLAN, |g, _, r| g.plan[4] = r.between(17, 255) as u8),
+    fault!("columns above p", "columns", 13, ON_PLAN, |g, plan, _| g.plan[4] = plan.p as u8 + 1),
+    fault!("d the smaller side", "d", 4, ON_PLAN, |g, plan, _| g.plan[5] = plan.sides()[0] as u8),
+    fault!("d the larger side", "d", 4, ON_PLAN, |g, plan, _| g.plan[5] = plan.sides()[1] as u8),
+    fault!("d above a side", "d", 4, ON_PLAN, |g, plan, r| g.plan[5] = r.between(plan.sides()[0] as u32, 255) as u8),
+    fault!("a row point p", "last row point", 5, ON_PLAN, |g, plan, _| *last_row(g, plan) = plan.p as u8),
+    fault!("a row point above p", "last row point", 5, ON_PLAN, |g, plan, r| *last_row(g, plan) = large(plan, r)),
+    fault!("a row point twice", "row points", 5, ON_PLAN, |g, _, _| g.plan[7] = g.plan[6]),
+    fault!("row points fall", "row points", 5, ON_PLAN, |g, _, _| g.plan.swap(6, 7)),
+    fault!("an unused row point", "unused", 5, ON_PLAN, |g, plan, r| g.plan[6 + plan.rows()] = r.between(1, 255) as u8),
+    fault!("the last unused row point", "unused", 5, ON_PLAN, |g, _, _| g.plan[21] = 1),
+    fault!("a column point p", "last column point", 5, ON_PLAN, |g, plan, _| *last_column(g, plan) = plan.p as u8),
+    fault!("a column point above p", "last column point", 5, ON_PLAN, |g, plan, r| *last_column(g, plan) = large(plan, r)),
+    fault!("a column point twice", "column points", 5, ON_PLAN, |g, _, _| g.plan[23] = g.plan[22]),
+    fault!("column points fall", "column points", 5, ON_PLAN, |g, _, _| g.plan.swap(22, 23)),
+    fault!("an unused column point", "unused", 5, ON_PLAN, |g, plan, r| g.plan[22 + plan.columns()] = r.between(1, 255) as u8),
+    fault!("the last unused column point", "unused", 5, ON_PLAN, |g, _, _| g.plan[37] = 1),
     fault!("no symbols", "symbols length", 6, ON_PHOTO, |g, _, _| g.symbols.clear()),
     fault!("symbols one short", "symbols length", 6, ON_PHOTO, |g, _, _| shorten(&mut g.symbols)),
     fault!("symbols one long", "symbols length", 6, ON_PHOTO, |g, _, _| g.symbols.push(0)),
@@ -158,6 +192,15 @@ const FAULTS: &[&Fault] = &[
 fn product(random: &mut Random) -> u8 {
     let products: Vec<u8> = (4..=250).filter(|&p| !is_prime(p)).collect();
     random.pick(&products)
+}
+
+/// The last point of the rows that is used, and of the columns.
+fn last_row<'a>(given: &'a mut Arguments, plan: &Plan) -> &'a mut u8 {
+    &mut given.plan[5 + plan.rows()]
+}
+
+fn last_column<'a>(given: &'a mut Arguments, plan: &Plan) -> &'a mut u8 {
+    &mut given.plan[21 + plan.columns()]
 }
 
 /// Any byte that is p or more.

@@ -1,7 +1,7 @@
-//! Finding plans in files: seasons that are there never, once or often, lengths that are no multiple of 24, seasons
+//! Finding plans in files: seasons that are there never, once or often, lengths that are no multiple of 40, seasons
 //! that stand only across or inside plans; long files with plans of the season at known places.
 
-use independent::{check_plan, find_plan};
+use independent::{check_plan, find_plan, PLAN};
 use traymark_tests::counts::Counts;
 use traymark_tests::library;
 use traymark_tests::plans::{plan, shapes};
@@ -23,9 +23,9 @@ fn find(file: &[u8], season: u16, random: &mut Random, counts: &mut Counts) -> R
         return Err(format!("find gave {found:?}, not {expected:?}; season {season}"));
     }
     if let (0, offset) = found {
-        let (plan, behind) = file[offset..].split_at(24);
+        let (plan, behind) = file[offset..].split_at(PLAN);
         if let Ok(next) = find_plan(behind, season) {
-            let next = &behind[next..next + 24];
+            let next = &behind[next..next + PLAN];
             counts.first_of_several += 1;
             counts.unsound_first += u64::from(check_plan(plan) != 0 && check_plan(next) == 0);
         }
@@ -35,7 +35,7 @@ fn find(file: &[u8], season: u16, random: &mut Random, counts: &mut Counts) -> R
 
 /// Mostly few different bytes, so that seasons repeat and stand at other places too; else any bytes.
 fn file(random: &mut Random) -> Vec<u8> {
-    let length = random.below(12) * 24 + random.pick(&[0, 0, 0, 1, 12, 23]);
+    let length = random.below(12) * PLAN + random.pick(&[0, 0, 0, 0, 1, 20, 24, 39]);
     let few = random.pick(&[&[0, 12][..], &[0, 1, 2, 3], &[7, 255, 30], &[]]);
     match few {
         [] => random.bytes(length),
@@ -47,8 +47,8 @@ fn file(random: &mut Random) -> Vec<u8> {
 fn season(file: &[u8], random: &mut Random) -> u16 {
     let two = |place: usize| u16::from_be_bytes([file[place], file[place + 1]]);
     match random.below(4) {
-        0 if file.len() >= 24 => two(random.below(file.len() / 24) * 24),
-        1 if file.len() >= 24 => two(random.below(file.len() / 24) * 24).swap_bytes(),
+        0 if file.len() >= PLAN => two(random.below(file.len() / PLAN) * PLAN),
+        1 if file.len() >= PLAN => two(random.below(file.len() / PLAN) * PLAN).swap_bytes(),
         2 if file.len() >= 2 => two(random.below(file.len() - 1)),
         _ => random.number() as u16,
     }
@@ -67,12 +67,11 @@ pub fn placed(seed: u64, random: &mut Random, counts: &mut Counts) -> Result<(),
     let first = [0, plans - 1, random.below(plans)][seed / 6 % 3];
     let sound = seed / 18 % 2 == 0;
     let season = random.number() as u16;
-    let shapes = shapes();
     let made = |season: u16, sound: bool, random: &mut Random| {
-        let mut bytes = plan(random.pick(&shapes), random).bytes();
+        let mut bytes = plan(random.pick(shapes()), random).bytes();
         bytes[..2].copy_from_slice(&season.to_be_bytes());
         if !sound {
-            let (place, byte) = random.pick(&[(2, 9), (3, 0), (4, 16), (23, 1)]);
+            let (place, byte) = random.pick(&[(2, 9), (3, 0), (4, 17), (5, 16), (39, 1)]);
             bytes[place] = byte;
         }
         bytes
@@ -83,14 +82,14 @@ pub fn placed(seed: u64, random: &mut Random, counts: &mut Counts) -> Result<(),
             false => made(other(season, random), random.one_in(2), random),
         })
         .collect();
-    let offset = first * 24;
-    if (check_plan(&file[offset..offset + 24]) == 0) != sound {
+    let offset = first * PLAN;
+    if (check_plan(&file[offset..offset + PLAN]) == 0) != sound {
         return Err(format!("plan {first} is not as it was made"));
     }
     let tries = [
         (&file[..], (0, offset)),
         (&file[offset..], (0, 0)),
-        (&file[..offset + 24], (0, offset)),
+        (&file[..offset + PLAN], (0, offset)),
         (&file[..offset], (12, 0)),
         (&file[..file.len() - 1], (11, 0)),
         (&file[1..], (11, 0)),

@@ -1,4 +1,4 @@
-//! Every buffer of every call empty, one short, one long, and far too long.
+//! The plan of every length to 80, and every other buffer of every call empty, one short, one long, and far too long.
 
 use super::faults::sound;
 use independent::Code;
@@ -6,20 +6,39 @@ use traymark_tests::calls::{hold, Arguments, Call};
 use traymark_tests::counts::Counts;
 use traymark_tests::random::Random;
 
+/// A buffer of the arguments.
+type Choose = fn(&mut Arguments) -> &mut Vec<u8>;
+
 pub fn case(seed: u64, random: &mut Random, counts: &mut Counts) -> Result<(), String> {
     let code = [Code::Strip, Code::Mark][seed as usize % 2];
     let (_, given) = sound(code, random);
-    for choose in [plan, record, symbols, doubts, mark] {
+    for length in 0..=80 {
+        resized(&given, plan, length, random, counts)?;
+    }
+    for choose in [record, symbols, doubts, mark] {
         let length = choose(&mut given.clone()).len();
         for other in [0, 1, length - 1, length, length + 1, 2 * length, 1000] {
-            let mut given = given.clone();
-            choose(&mut given).resize(other, 0);
-            for call in Call::ALL {
-                let number = hold(call, &given, random, counts)?.reading.number;
-                if other == length && number != 0 {
-                    return Err(format!("{call:?} gave {number}; {given:?}"));
-                }
-            }
+            resized(&given, choose, other, random, counts)?;
+        }
+    }
+    Ok(())
+}
+
+/// Every call with the buffer of this length. Where that is its own, none is refused.
+fn resized(
+    given: &Arguments,
+    choose: Choose,
+    length: usize,
+    random: &mut Random,
+    counts: &mut Counts,
+) -> Result<(), String> {
+    let mut given = given.clone();
+    let own = choose(&mut given).len();
+    choose(&mut given).resize(length, 0);
+    for call in Call::ALL {
+        let number = hold(call, &given, random, counts)?.reading.number;
+        if length == own && number != 0 {
+            return Err(format!("{call:?} gave {number}; {given:?}"));
         }
     }
     Ok(())

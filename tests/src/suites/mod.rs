@@ -9,26 +9,34 @@ mod files;
 mod lengths;
 mod plans;
 mod rubbish;
+mod swapped;
+mod widening;
 
-use traymark_tests::plans::SHAPES_OF_251;
+use traymark_tests::plans::{shapes, shapes_of};
 use traymark_tests::run::Suite;
 
 pub fn all() -> Vec<Suite> {
+    let shapes = shapes().len() as u64;
     vec![
         Suite { name: "documented", cases: documented::CASES, case: documented::case },
-        Suite { name: "extremes", cases: SHAPES_OF_251, case: extremes::case },
-        Suite { name: "coefficients", cases: SHAPES_OF_251, case: coefficients::case },
+        Suite { name: "extremes", cases: extremes::shapes().len() as u64, case: extremes::case },
+        Suite { name: "coefficients", cases: shapes_of(251).count() as u64, case: coefficients::case },
         Suite { name: "large-marks", cases: 3_000, case: decoding::large_mark },
-        Suite { name: "marks", cases: 52_000, case: decoding::mark },
+        Suite { name: "marks", cases: 36_000, case: decoding::mark },
+        Suite { name: "oblongs", cases: decoding::COSTS * shapes, case: decoding::oblong },
+        Suite { name: "swapped", cases: 4_000, case: swapped::case },
         Suite { name: "strips", cases: 60_000, case: decoding::strip },
         Suite { name: "every-prime", cases: 54 * 20, case: decoding::every_prime },
         Suite { name: "plan-fields", cases: 256, case: plans::fields },
-        Suite { name: "plan-bytes", cases: 60, case: plans::bytes },
+        Suite { name: "plan-bytes", cases: plans::PLANS, case: plans::bytes },
         Suite { name: "files", cases: 20_000, case: files::case },
         Suite { name: "placed", cases: files::PLACED, case: files::placed },
+        Suite { name: "widening", cases: widening::CASES, case: widening::numbers },
+        Suite { name: "widened-bytes", cases: widening::PLANS, case: widening::bytes },
         Suite { name: "faults-alone", cases: 1_000, case: faults::alone },
         Suite { name: "faults-together", cases: 20_000, case: faults::together },
-        Suite { name: "lengths", cases: 1_000, case: lengths::case },
+        Suite { name: "faults-in-plans", cases: 300, case: faults::in_plans },
+        Suite { name: "lengths", cases: 400, case: lengths::case },
         Suite { name: "rubbish", cases: 20_000, case: rubbish::case },
     ]
 }

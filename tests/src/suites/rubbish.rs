@@ -1,7 +1,7 @@
 //! Random bytes as plans, records and photographs, of any length or of the right one, and photographs of nothing.
 
 use independent::calls::bytes;
-use independent::{Code, Plan};
+use independent::{Code, Plan, PLAN};
 use traymark_tests::calls::{hold, Arguments, Call};
 use traymark_tests::counts::Counts;
 use traymark_tests::photo::noise;
@@ -10,10 +10,10 @@ use traymark_tests::random::Random;
 
 pub fn case(_: u64, random: &mut Random, counts: &mut Counts) -> Result<(), String> {
     let code = random.pick(&[Code::Strip, Code::Mark]);
-    let sound = plan(random.pick(&shapes()), random);
+    let sound = plan(random.pick(shapes()), random);
     let given = match random.below(4) {
         0 => of_any_length(code, random),
-        1 => of_right_length(code, &sound, random.bytes(24), random),
+        1 => of_right_length(code, &sound, random.bytes(PLAN), random),
         2 => of_right_length(code, &sound, sound.bytes().to_vec(), random),
         _ => {
             let photo = noise(code, &sound, random);
@@ -29,7 +29,7 @@ pub fn case(_: u64, random: &mut Random, counts: &mut Counts) -> Result<(), Stri
 
 fn of_any_length(code: Code, random: &mut Random) -> Arguments {
     let any = random.below(300);
-    let plan_length = random.pick(&[24, 24, 23, 25, any]);
+    let plan_length = random.pick(&[PLAN, PLAN, PLAN - 1, PLAN + 1, any]);
     let plan = random.bytes(plan_length);
     let [record, symbols, doubts, mark] = [300; 4].map(|bound| {
         let length = random.below(bound);

@@ -1,0 +1,106 @@
+//! A program that reads standard input and prints an answer: run on inputs, and what it prints held against what it is to
+//! print, byte for byte; then its conduct.
+
+mod conduct;
+
+use std::io::Write;
+use std::process::{Command, ExitCode, Output, Stdio};
+use std::thread::sleep;
+use std::time::Duration;
+
+pub struct Program {
+    /// its name in what it says on standard error
+    pub name: &'static str,
+    pub path: String,
+    /// what it answers to no input at all
+    pub to_nothing: &'static str,
+}
+
+pub struct Input {
+    pub name: String,
+    pub bytes: Vec<u8>,
+    /// how many pieces it is handed over in
+    pub pieces: usize,
+    pub printed: Vec<u8>,
+}
+
+impl Input {
+    /// An input that is handed over in one piece.
+    pub fn new(name: impl Into<String>, bytes: Vec<u8>, printed: impl Into<Vec<u8>>) -> Input {
+        Input { name: name.into(), bytes, pieces: 1, printed: printed.into() }
+    }
+}
+
+impl Program {
+    /// All inputs, then its conduct.
+    pub fn hold(&self, inputs: &[Input]) -> Result<(), String> {
+        for input in inputs {
+            self.compare(input).map_err(|what| format!("{}: {what}; input {:?}", input.name, input.bytes))?;
+        }
+        self.behaves(inputs)
+    }
+
+    fn compare(&self, input: &Input) -> Result<(), String> {
+        let output = self.run(input, Stdio::piped()).map_err(|error| format!("{}: {error}", self.path))?;
+        let right = output.status.success() && output.stderr.is_empty() && output.stdout == input.printed;
+        if !right {
+            return Err(format!("{output:?}, expected {:?}", String::from_utf8_lossy(&input.printed)));
+        }
+        Ok(())
+    }
+
+    /// The shortest and the longest answer; arguments; an input that can't be read.
+    fn behaves(&self, inputs: &[Input]) -> Result<(), String> {
+        let answered = || inputs.iter().filter(|input| !input.printed.is_empty());
+        let longest = answered().max_by_key(|input| input.printed.len()).expect("there are inputs");
+        let shortest = answered().min_by_key(|input| input.printed.len()).expect("there are inputs");
+        for input in [shortest, longest] {
+            told("an answer in one write", self.answers_in_one_write(input))?;
+            told("a write that fails", self.tells_of_a_failed_write(input))?;
+            told("a pipe that nobody reads", self.ends_at_a_closed_pipe(input))?;
+        }
+        for arguments in [&["--help"] as &[&str], &["-h"], &["input"], &[""], &["input", "output"], &["a", "b", "c"]] {
+            told(&format!("the arguments {arguments:?}"), self.tells_its_usage(arguments))?;
+        }
+        told("a read that fails", self.takes_a_failed_read_for_the_end())
+    }
+
+    /// Runs it with the input, handed over in as many pieces.
+    pub fn run(&self, input: &Input, stdout: Stdio) -> std::io::Result<Output> {
+        let mut child = Command::new(&self.path).stdin(Stdio::piped()).stdout(stdout).stderr(Stdio::piped()).spawn()?;
+        let mut stdin = child.stdin.take().expect("it is piped");
+        for piece in input.bytes.chunks(input.bytes.len().div_ceil(input.pieces).max(1)) {
+            // an answer may come before all was read
+            let written = stdin.write_all(piece).and_then(|()| stdin.flush());
+            if written.is_err() {
+                break;
+            }
+            if input.pieces > 1 {
+                sleep(Duration::from_millis(2));
+            }
+        }
+        drop(stdin);
+        child.wait_with_output()
+    }
+}
+
+fn told(what: &str, right: std::io::Result<bool>) -> Result<(), String> {
+    match right {
+        Ok(true) => Ok(()),
+        other => Err(format!("{what}: {other:?}")),
+    }
+}
+
+/// Says how the test of that name went.
+pub fn exit(test: &str, result: Result<String, String>) -> ExitCode {
+    match result {
+        Ok(what) => {
+            println!("{test}: ok: {what}");
+            ExitCode::SUCCESS
+        }
+        Err(what) => {
+            println!("{test}: FAILED: {what}");
+            ExitCode::FAILURE
+        }
+    }
+}
