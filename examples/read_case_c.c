@@ -7,8 +7,8 @@
 
 int main(void)
 {
-    /* season 12, p 7, n 3, d 1, points 1 2 4; the other bytes are 0 */
-    const uint8_t plan[24] = {0, 12, 7, 3, 1, 1, 2, 4};
+    /* season 12, p 7, 3 rows, 3 columns, d 1, row points 1 2 4, and from byte 22 on column points 1 2 4; all else is 0 */
+    const uint8_t plan[40] = {0, 12, 7, 3, 3, 1, 1, 2, 4, [22] = 1, 2, 4};
     const uint8_t symbols[9] = {0, 1, 5, 0, 2, 6, 2, 4, 0};
     const uint8_t doubts[9] = {0};
     uint8_t record[3];

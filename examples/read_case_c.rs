@@ -2,8 +2,10 @@
 //! Prints what the program `trayread` prints.
 
 fn main() {
-    let mut plan = [0; 24];
-    plan[..8].copy_from_slice(&[0, 12, 7, 3, 1, 1, 2, 4]); // season 12, p 7, n 3, d 1, points 1 2 4
+    let mut plan = [0; traymark::PLAN_LENGTH];
+    plan[..6].copy_from_slice(&[0, 12, 7, 3, 3, 1]); // season 12, p 7, 3 rows, 3 columns, d 1
+    plan[6..9].copy_from_slice(&[1, 2, 4]); // the row points
+    plan[22..25].copy_from_slice(&[1, 2, 4]); // the column points
     let symbols = [0, 1, 5, 0, 2, 6, 2, 4, 0];
     let doubts = [0; 9];
     let mut record = [0; 3];

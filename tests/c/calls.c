@@ -1,5 +1,5 @@
-/* The eight calls from C: the layout of the answer, the cases of document 01, wrong and unread cells at once, and the
-   refusals at empty buffers. */
+/* The nine calls from C: the layout of the answer, the cases of document 01, wrong and unread cells at once, a half tray,
+   plans widened, and the refusals at empty buffers. */
 #include <stdio.h>
 #include <stdlib.h>
 #include <string.h>
@@ -18,6 +18,7 @@ _Static_assert(offsetof(traymark_reading, class_) == 20, "class_");
 typedef const uint8_t *in;
 uint32_t traymark_check_plan(in, size_t);
 uint32_t traymark_find_plan(in, size_t, uint16_t, size_t *);
+uint32_t traymark_widen_plans(in, size_t, uint8_t *, size_t);
 uint32_t traymark_write_mark(in, size_t, in, size_t, uint8_t *, size_t);
 uint32_t traymark_write_strip(in, size_t, in, size_t, uint8_t *, size_t);
 traymark_reading traymark_measure_mark(in, size_t, in, size_t, in, size_t, in, size_t);
@@ -42,9 +43,10 @@ static void expect(int holds, const char *what, int line)
 #define ALL(array) (array), sizeof(array)
 #define NINES {9, 9, 9, 9, 9, 9, 9, 9, 9}
 
-static const uint8_t plan_a[24] = {0, 12, 7, 3, 1, 1, 2, 4};
-static const uint8_t plan_h[24] = {0, 12, 2, 1, 0, 0};
-static const uint8_t plan_j[24] = {0, 12, 2, 2, 1, 0, 1};
+/* season, p, rows, columns, d, row points; the column points from byte 22 on */
+static const uint8_t plan_a[40] = {0, 12, 7, 3, 3, 1, 1, 2, 4, [22] = 1, 2, 4};
+static const uint8_t plan_h[40] = {0, 12, 2, 1, 1, 0, 0};
+static const uint8_t plan_j[40] = {0, 12, 2, 2, 2, 1, 0, 1, [22] = 0, 1};
 static const uint8_t record_a[3] = {3, 1, 2};
 static const uint8_t mark_a[9] = {6, 1, 5, 0, 2, 6, 2, 4, 1};
 static const uint8_t case_c[9] = {0, 1, 5, 0, 2, 6, 2, 4, 0};
@@ -53,8 +55,12 @@ static const uint8_t sure[9] = {0};
 
 /* a cell wrong and a cell unread at once, of the mark and, under a plan of degree 0, of the strip 5 5 5 */
 static const uint8_t mixed[9] = {0, 255, 5, 0, 2, 6, 2, 4, 1}, mixed_doubts[9] = {0, 100};
-static const uint8_t plan_s[24] = {0, 12, 7, 3, 0, 1, 2, 4}, record_s[1] = {5};
+static const uint8_t plan_s[40] = {0, 12, 7, 3, 3, 0, 1, 2, 4, [22] = 1, 2, 4}, record_s[1] = {5};
 static const uint8_t mixed_s[3] = {5, 255, 4}, mixed_s_doubts[3] = {0, 100, 1};
+
+/* a half tray: row points 1 2 4, column points 3 5; 3 + X + 2Y has this mark, and the radius is 300 */
+static const uint8_t plan_t[40] = {0, 12, 7, 3, 2, 1, 1, 2, 4, [22] = 3, 5};
+static const uint8_t mark_t[6] = {3, 0, 4, 1, 6, 3};
 
 static int is(traymark_reading r, uint32_t cost, int32_t margin, uint32_t changed, uint32_t unread, uint32_t class_)
 {
@@ -78,20 +84,25 @@ static traymark_reading read_a(const uint8_t symbols[9], const uint8_t doubts[9]
 
 static void check_plan(void)
 {
-    uint8_t plan[24];
-    memcpy(plan, plan_a, 24);
+    uint8_t plan[40];
+    memcpy(plan, plan_t, 40);
+    EXPECT(traymark_check_plan(ALL(plan_a)) == 0);
     EXPECT(traymark_check_plan(ALL(plan)) == 0);
-    EXPECT(traymark_check_plan(plan, 23) == 1);
+    EXPECT(traymark_check_plan(plan, 39) == 1);
     EXPECT(traymark_check_plan(plan, 0) == 1);
     plan[2] = 9;
     EXPECT(traymark_check_plan(ALL(plan)) == 2);
-    plan[2] = 7, plan[3] = 8;
+    plan[2] = 7, plan[3] = 8, plan[4] = 0;
     EXPECT(traymark_check_plan(ALL(plan)) == 3);
-    plan[3] = 3, plan[4] = 3;
+    plan[3] = 3;
+    EXPECT(traymark_check_plan(ALL(plan)) == 13);
+    plan[4] = 2, plan[5] = 2;
     EXPECT(traymark_check_plan(ALL(plan)) == 4);
-    plan[4] = 1, plan[6] = 1;
+    plan[5] = 1, plan[7] = 1;
     EXPECT(traymark_check_plan(ALL(plan)) == 5);
-    plan[23] = 1;
+    plan[7] = 2, plan[23] = 3;
+    EXPECT(traymark_check_plan(ALL(plan)) == 5);
+    plan[39] = 1;
     EXPECT(traymark_check_plan(ALL(plan)) == 1);
 }
 
@@ -105,18 +116,51 @@ static int finds(in file, size_t length, uint16_t season, uint32_t number, size_
 static void find_plan(void)
 {
     /* plans of the seasons 30, 12 with p 9, 12 * 256, 12 */
-    uint8_t file[96] = {0, 30};
-    memcpy(file + 24, plan_a, 24);
-    file[26] = 9;
-    file[48] = 12;
-    memcpy(file + 72, plan_a, 24);
-    EXPECT(finds(ALL(file), 12, 0, 24));
-    EXPECT(finds(file + 48, 48, 12, 0, 24));
+    uint8_t file[160] = {0, 30};
+    memcpy(file + 40, plan_a, 40);
+    file[42] = 9;
+    file[80] = 12;
+    memcpy(file + 120, plan_a, 40);
+    EXPECT(finds(ALL(file), 12, 0, 40));
+    EXPECT(finds(file + 80, 80, 12, 0, 40));
     EXPECT(finds(ALL(file), 30, 0, 0));
-    EXPECT(finds(ALL(file), 12 * 256, 0, 48));
+    EXPECT(finds(ALL(file), 12 * 256, 0, 80));
     EXPECT(finds(ALL(file), 13, 12, 0));
-    EXPECT(finds(file, 95, 12, 11, 0));
+    EXPECT(finds(file, 159, 12, 11, 0));
     EXPECT(finds(file, 0, 12, 12, 0));
+}
+
+static void widen_plans(void)
+{
+    /* plan A in the old form, and an unsound plan, whose last three bytes are dropped */
+    const uint8_t old[48] = {0, 12, 7, 3, 1, 1, 2, 4, [24] = 1, 2, 9, 20, 30, 40, [44] = 41, 42, 43, 44};
+    const uint8_t unsound[40] = {1, 2, 9, 20, 20, 30, 40, [21] = 41, 40, [37] = 41};
+    uint8_t wide[80], nines[80];
+    memset(wide, 9, 80), memset(nines, 9, 80);
+    EXPECT(traymark_widen_plans(old, 47, wide, 80) == 11);
+    EXPECT(traymark_widen_plans(old, 23, wide, 0) == 11);
+    EXPECT(traymark_widen_plans(old, 24, wide, 39) == 6 && traymark_widen_plans(old, 24, wide, 80) == 6);
+    EXPECT(traymark_widen_plans(old, 0, wide, 40) == 6);
+    EXPECT(traymark_widen_plans(old, 0, wide, 0) == 0);
+    EXPECT(memcmp(wide, nines, 80) == 0);
+    EXPECT(traymark_widen_plans(ALL(old), ALL(wide)) == 0);
+    EXPECT(memcmp(wide, plan_a, 40) == 0 && memcmp(wide + 40, unsound, 40) == 0);
+    EXPECT(traymark_check_plan(wide, 40) == 0);
+}
+
+/* 1,000 plans are widened, one more is too many */
+static void widen_many(void)
+{
+    static uint8_t old[1001][24], wide[1001][40];
+    const uint8_t zeros[40] = {0};
+    int alike = 1;
+    for (size_t k = 0; k < sizeof old; k++)
+        old[k / 24][k % 24] = (uint8_t)(k % 251 + 1);
+    EXPECT(traymark_widen_plans(old[0], 1001 * 24, wide[0], 1001 * 40) == 11 && memcmp(wide[0], zeros, 40) == 0);
+    EXPECT(traymark_widen_plans(old[0], 1000 * 24, wide[0], 1000 * 40) == 0 && memcmp(wide[1000], zeros, 40) == 0);
+    for (size_t k = 0; k < 1000; k++)
+        alike &= memcmp(wide[k] + 6, old[k] + 5, 16) == 0 && memcmp(wide[k] + 22, old[k] + 5, 16) == 0;
+    EXPECT(alike);
 }
 
 static void write_and_measure(void)
@@ -184,13 +228,30 @@ static void read_strips(void)
     EXPECT(record[0] == 5 && record[1] == 1);
 }
 
+/* rows * columns cells, and a strip of as many as there are rows */
+static void half_tray(void)
+{
+    const uint8_t under[6] = {0, 0, 4, 1, 6, 3}, doubts[6] = {0, 0, 0, 0, 0, 99}, full[6] = {0, 0, 0, 0, 0, 100};
+    uint8_t mark[6], strip[3], record[3] = {9, 9, 9};
+    EXPECT(traymark_write_mark(ALL(plan_t), ALL(record_a), ALL(mark)) == 0 && memcmp(mark, mark_t, 6) == 0);
+    EXPECT(refused(traymark_read_mark(ALL(plan_t), ALL(under), ALL(full), ALL(record)), 10) && record[0] == 9);
+    EXPECT(is(traymark_read_mark(ALL(plan_t), ALL(under), ALL(doubts), ALL(record)), 299, 1, 1, 0, 1));
+    EXPECT(memcmp(record, record_a, 3) == 0);
+    EXPECT(is(traymark_measure_mark(ALL(plan_t), ALL(record_a), ALL(under), ALL(full)), 300, 0, 1, 0, 1));
+    EXPECT(traymark_write_strip(ALL(plan_t), record_a, 2, ALL(strip)) == 0);
+    EXPECT(strip[0] == 4 && strip[1] == 5 && strip[2] == 0);
+}
+
 int main(void)
 {
     check_plan();
     find_plan();
+    widen_plans();
+    widen_many();
     write_and_measure();
     read_marks();
     read_strips();
+    half_tray();
     printf("calls.c: ok: %d tests\n", tests);
     return 0;
 }

@@ -1,10 +1,10 @@
-//! Each call through the wrapper: cases a, c and f of document 01, wrong and unread cells at once, strips, and a refusal
-//! of each call. Buffers that are to be written hold 9s before, so that it is seen when a refusal changes one.
+//! Each call through the wrapper: cases a, c and f of document 01, wrong and unread cells at once, strips, a half tray, and a
+//! refusal of each call. Buffers that are to be written hold 9s before, so that it is seen when a refusal changes one.
 
-use traymark::{Reading, Refusal};
+use traymark::{Reading, Refusal, OLD_PLAN_LENGTH, PLAN_LENGTH};
 
-/// Plan A: season 12, p 7, n 3, d 1, points 1 2 4.
-const PLAN: [u8; 24] = [0, 12, 7, 3, 1, 1, 2, 4, 0, 0, 0, 0, 0, 0, 0, 0, 0, 0, 0, 0, 0, 0, 0, 0];
+/// Plan A: season 12, p 7, 3 rows, 3 columns, d 1, points 1 2 4 each way.
+const PLAN: [u8; PLAN_LENGTH] = plan([0, 12, 7, 3, 3, 1], [1, 2, 4], [1, 2, 4]);
 /// 3 + X + 2Y, and its mark.
 const RECORD: [u8; 3] = [3, 1, 2];
 const MARK: [u8; 9] = [6, 1, 5, 0, 2, 6, 2, 4, 1];
@@ -37,30 +37,94 @@ const PHOTOS: [([u8; 9], [u8; 9], Reading); 4] = [
 ];
 
 /// Plan A with degree 0, and a strip of the record 5: its second cell is unread, its last wrong.
-const STRIP_PLAN: [u8; 24] = [0, 12, 7, 3, 0, 1, 2, 4, 0, 0, 0, 0, 0, 0, 0, 0, 0, 0, 0, 0, 0, 0, 0, 0];
+const STRIP_PLAN: [u8; PLAN_LENGTH] = plan([0, 12, 7, 3, 3, 0], [1, 2, 4], [1, 2, 4]);
 const STRIP: ([u8; 3], [u8; 3]) = ([5, 255, 4], [0, 100, 1]);
 const STRIP_READING: Reading = Reading { cost: 299, margin: 1, changed: 1, unread: 1, class: 1 };
+
+/// A half tray: row points 1 2 4, column points 3 5, and the mark of the record under it. The radius is 300.
+const HALF_PLAN: [u8; PLAN_LENGTH] = plan([0, 12, 7, 3, 2, 1], [1, 2, 4], [3, 5, 0]);
+const HALF_MARK: [u8; 6] = [3, 0, 4, 1, 6, 3];
+
+/// A plan of at most three points each way: season, p, rows, columns, d; the points.
+const fn plan(fields: [u8; 6], row_points: [u8; 3], column_points: [u8; 3]) -> [u8; PLAN_LENGTH] {
+    let mut plan = [0; PLAN_LENGTH];
+    let mut k = 0;
+    while k < 6 {
+        plan[k] = fields[k];
+        k += 1;
+    }
+    k = 0;
+    while k < 3 {
+        plan[6 + k] = row_points[k];
+        plan[22 + k] = column_points[k];
+        k += 1;
+    }
+    plan
+}
 
 #[test]
 fn check_plan() {
     assert_eq!(traymark::check_plan(&PLAN), Ok(()));
-    assert_eq!(traymark::check_plan(&PLAN[..23]), Err(Refusal::PlanForm));
-    let mut plan = PLAN;
-    plan[2] = 9;
-    assert_eq!(traymark::check_plan(&plan), Err(Refusal::Modulus));
+    assert_eq!(traymark::check_plan(&PLAN[..39]), Err(Refusal::PlanForm));
+    let changed = |place: usize, value: u8| {
+        let mut plan = HALF_PLAN;
+        plan[place] = value;
+        traymark::check_plan(&plan)
+    };
+    assert_eq!(changed(39, 1), Err(Refusal::PlanForm));
+    assert_eq!(changed(2, 9), Err(Refusal::Modulus));
+    assert_eq!(changed(3, 8), Err(Refusal::Rows));
+    assert_eq!(changed(4, 0), Err(Refusal::Columns));
+    assert_eq!(changed(5, 2), Err(Refusal::Degree));
+    assert_eq!(changed(8, 7), Err(Refusal::Points));
+    assert_eq!(changed(23, 3), Err(Refusal::Points));
 }
 
 #[test]
 fn find_plan() {
-    let mut file = [0; 72];
-    file[24..48].copy_from_slice(&PLAN);
-    file[48..].copy_from_slice(&PLAN);
+    let file = [HALF_PLAN.map(|_| 0), PLAN, HALF_PLAN].concat();
     let found = traymark::find_plan(&file, 12).unwrap();
     assert_eq!(found, PLAN);
-    assert_eq!(found.as_ptr(), file[24..].as_ptr(), "the first, and the part of the file itself, no copy");
+    assert_eq!(found.as_ptr(), file[40..].as_ptr(), "the first, and the part of the file itself, no copy");
     assert_eq!(traymark::find_plan(&file, 13), Err(Refusal::NoSuchSeason));
-    assert_eq!(traymark::find_plan(&file[..71], 12), Err(Refusal::FileLength));
+    assert_eq!(traymark::find_plan(&file[..119], 12), Err(Refusal::FileLength));
     assert_eq!(traymark::find_plan(&[], 12), Err(Refusal::NoSuchSeason));
+}
+
+#[test]
+fn widen_plans() {
+    // plan A in the old form, and any bytes
+    let mut old = [7; 2 * OLD_PLAN_LENGTH];
+    old[..OLD_PLAN_LENGTH].fill(0);
+    old[..8].copy_from_slice(&[0, 12, 7, 3, 1, 1, 2, 4]);
+    let mut wide = [9; 2 * PLAN_LENGTH];
+    assert_eq!(traymark::widen_plans(&old[..47], &mut wide), Err(Refusal::FileLength));
+    assert_eq!(traymark::widen_plans(&[0; 1001 * OLD_PLAN_LENGTH], &mut wide), Err(Refusal::FileLength));
+    assert_eq!(traymark::widen_plans(&old, &mut wide[..79]), Err(Refusal::BufferLength));
+    assert_eq!(wide, [9; 2 * PLAN_LENGTH]);
+    assert_eq!(traymark::widen_plans(&old, &mut wide), Ok(()));
+    assert_eq!(wide[..PLAN_LENGTH], PLAN);
+    assert_eq!(wide[PLAN_LENGTH..78], [7; 38]);
+    assert_eq!(wide[78..], [0, 0]);
+    assert_eq!(traymark::widen_plans(&[], &mut []), Ok(()));
+}
+
+#[test]
+fn half_tray() {
+    let mut mark = [9; 6];
+    assert_eq!(traymark::write_mark(&HALF_PLAN, &RECORD, &mut mark[..5]), Err(Refusal::BufferLength));
+    assert_eq!(traymark::write_mark(&HALF_PLAN, &RECORD, &mut mark), Ok(()));
+    assert_eq!(mark, HALF_MARK);
+    mark[0] = 0;
+    let mut record = [9; 3];
+    let reading = Reading { cost: 299, margin: 1, changed: 1, unread: 0, class: 1 };
+    assert_eq!(traymark::read_mark(&HALF_PLAN, &mark, &[0, 0, 0, 0, 0, 99], &mut record), Ok(reading));
+    assert_eq!(record, RECORD);
+    let at_the_radius = traymark::read_mark(&HALF_PLAN, &mark, &[0, 0, 0, 0, 0, 100], &mut record);
+    assert_eq!(at_the_radius, Err(Refusal::NoRecord));
+    let mut strip = [9; 3];
+    assert_eq!(traymark::write_strip(&HALF_PLAN, &RECORD[..2], &mut strip), Ok(()));
+    assert_eq!(strip, [4, 5, 0]);
 }
 
 #[test]
