@@ -109,9 +109,9 @@ pub fn rival(code: Code, plan: &Plan, word: &[u32], random: &mut Random) -> Vec<
         Code::Mark if plan.rows() <= plan.columns() => random.pick(&[0, 0, d, some]),
         Code::Mark => random.pick(&[d, d, 0, some]),
     };
-    let factor = random.between(1, plan.p - 1);
     let x = product(plan.p, &plan.row_points, d - in_y, random);
     let y = product(plan.p, &plan.column_points, in_y, random);
+    let factor = random.between(1, plan.p - 1);
     let width = word.len() / plan.rows();
     let value = |cell: usize| (word[cell] + factor * x[cell / width] % plan.p * y[cell % width]) % plan.p;
     (0..word.len()).map(value).collect()

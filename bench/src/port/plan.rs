@@ -35,15 +35,15 @@ impl<R: Reduction> Plan<R> {
         if d >= rows.min(columns) {
             return Err(Refusal::Degree);
         }
-        let (row_points, column_points) = points.split_at(16);
-        Ok(Plan {
-            field: Field::new(p.into()),
-            rows: rows.into(),
-            columns: columns.into(),
-            degree: d.into(),
-            row_points: load_points(p, rows, row_points)?,
-            column_points: load_points(p, columns, column_points)?,
-        })
+        let (for_rows, for_columns) = points.split_at(16);
+        let row_points = load_points(p, rows, for_rows)?;
+        // points that are given twice, as in every plan that was widened, are looked at once
+        let column_points = match (columns, for_columns) == (rows, for_rows) {
+            true => row_points,
+            false => load_points(p, columns, for_columns)?,
+        };
+        let field = Field::new(p.into());
+        Ok(Plan { field, rows: rows.into(), columns: columns.into(), degree: d.into(), row_points, column_points })
     }
 
     /// The number of cells of a mark.
