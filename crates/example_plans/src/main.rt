@@ -72,7 +72,30 @@ fn half_trays() {
 // Plan A in 24 bytes: one n, one list of points. Widened it is plan A, and sound; half of it is refused.
 fn widen() {
     let old = [
-        0u8, 12, 7, 3, 1, 1, 2, 4, 0, 0, 0, 0, 0, 0, 0, 0, 0, 0, 0, 0, 0, 0, 0, 0,
+        0u8,
+        12,
+        7,
+        3,
+        1,
+        1,
+        2,
+        4,
+        0,
+        0,
+        0,
+        0,
+        0,
+        0,
+        0,
+        0,
+        0,
+        0,
+        0,
+        0,
+        0,
+        0,
+        0,
+        0,
     ];
     let mut plan = [0u8; 40];
     line(b"plan A widened", traymark_widen_plans(&old, &mut plan));

@@ -3,6 +3,8 @@ use crate::lines;
 use definitions::PLAN_BYTES;
 use polynomial::bivariate::LONGEST;
 use polynomial::bivariate::start;
+use text::first;
+use text::put_refused;
 use traymark::plans::traymark_check_plan;
 use traymark::read::traymark_read_mark;
 ghost use mathlib.Core.Path.{_≡_};
@@ -32,16 +34,6 @@ pub fn answer(space: &[u8; ROOM], came: usize, text: &mut [u8; TEXT]) -> usize
     answer_input(first(space, came), text)
 }
 
-// The first n bytes, or all where there are fewer.
-fn first<'a>(bytes: &'a [u8], n: usize) -> &'a [u8]
-    ensures { λ r. ⌜ now r ≡ take n (now (bytes .entry)) ⌝ }
-{
-    if bytes.len() < n {
-        return bytes;
-    }
-    &bytes[..n]
-}
-
 // A plan that is short, or unsound, gets its own number whatever follows.
 fn answer_input(input: &[u8], text: &mut [u8]) -> usize
     requires { ⌜ 623 ≤ length (now text) ⌝ }
@@ -49,7 +41,7 @@ fn answer_input(input: &[u8], text: &mut [u8]) -> usize
 {
     let number = traymark_check_plan(first(input, PLAN_BYTES));
     if number != 0 {
-        return lines::put_refused(text, number);
+        return put_refused(text, number);
     }
     answer_photo(input, text)
 }
@@ -64,7 +56,7 @@ fn answer_photo(input: &[u8], text: &mut [u8]) -> usize
     let cells = said.grid.a * said.grid.b;
     let end = PLAN_BYTES + cells;
     if input.len() != end + cells {
-        return lines::put_refused(text, 6);
+        return put_refused(text, 6);
     }
     let mut record = [0u8; LONGEST];
     let size = start(said.grid.d + 1);
@@ -95,7 +87,7 @@ fn answer_mark(
 {
     let reading = traymark_read_mark(plan, symbols, doubts, record);
     if reading.number != 0 {
-        return lines::put_refused(text, reading.number);
+        return put_refused(text, reading.number);
     }
     let at = lines::put_read(text, season, reading);
     lines::put_record(text, at, record)

@@ -1,4 +1,4 @@
-// The three lines of an answer, each put into a lent text that has room for it.
+// The two lines of a reading, each put into a lent text that has room for it.
 use definitions::Reading;
 use text::put_all_spaced;
 use text::put_byte;
@@ -8,18 +8,8 @@ use text::put_spaced;
 ghost use mathlib.Core.List.{[], _∷_};
 ghost use Prim.Native.Nat.{_+_, _*_, _≤_};
 ghost use lib.ListN.{length};
-ghost use Rattle.definitions.specs.Printed.{spaced, readLine, recordLine, refusedLine};
+ghost use Rattle.definitions.specs.Printed.{spaced, readLine, recordLine};
 ghost use Rattle.text.specs.Put.{Put};
-
-// REFUSED and a number of at most 10 digits.
-pub fn put_refused(text: &mut [u8], number: u32) -> usize
-    requires { ⌜ 19 ≤ length (now text) ⌝ }
-    ensures { λ r. ⌜ Put (now (text .entry)) 0 (refusedLine number) (now (text .exit)) r ⌝ }
-{
-    let at = put_bytes(text, 0, b"REFUSED");
-    let at = put_spaced(text, at, number);
-    put_bytes(text, at, b"\n")
-}
 
 // READ, five numbers of at most 10 digits, and one of at most 11 characters.
 pub fn put_read(text: &mut [u8], season: u32, reading: Reading) -> usize
