@@ -65,7 +65,7 @@ pub fn placed(seed: u64, random: &mut Random, counts: &mut Counts) -> Result<(),
     let seed = seed as usize;
     let plans = PLANS[seed % 6];
     let first = [0, plans - 1, random.below(plans)][seed / 6 % 3];
-    let sound = seed / 18 % 2 == 0;
+    let sound = (seed / 18).is_multiple_of(2);
     let season = random.number() as u16;
     let made = |season: u16, sound: bool, random: &mut Random| {
         let mut bytes = plan(random.pick(shapes()), random).bytes();
