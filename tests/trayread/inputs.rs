@@ -93,8 +93,8 @@ fn changed_and_unread() -> Vec<Input> {
     ]
 }
 
-/// 3 + X + 2Y with row points 1 2 4 and column points 3 5: clean, one under the radius of 300, at it, and with the columns of
-/// a photograph as its rows; and with the row points for the columns and the column points for the rows.
+/// 3 + X + 2Y with three rows and two columns, and with two rows and three columns: clean, a cost under the radius of 300 and
+/// at it, and the one mark under the plan of the other, with rows and columns exchanged and as it stands.
 fn half_trays() -> Vec<Input> {
     let (tall, broad) = (plan(7, 1, &[1, 2, 4], &[3, 5]), plan(7, 1, &[3, 5], &[1, 2, 4]));
     let (tall_mark, broad_mark) = ([3, 0, 4, 1, 6, 3], [1, 3, 0, 3, 5, 2]);

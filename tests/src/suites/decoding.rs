@@ -35,7 +35,7 @@ pub fn oblong(seed: u64, random: &mut Random, counts: &mut Counts) -> Result<(),
     costing(Code::Mark, &plan, Some(cost), random, counts)
 }
 
-/// p 251, the longest sides, 16 by 16 with d 0, 7, 15 and half of that.
+/// p 251: mostly 16 by 16 with d 0, 7 and 15, else oblongs about as long.
 pub fn large_mark(seed: u64, random: &mut Random, counts: &mut Counts) -> Result<(), String> {
     let squares = [(251, 16, 16, 0), (251, 16, 16, 7), (251, 16, 16, 15)];
     let oblongs = [(251, 16, 8, 7), (251, 8, 16, 7), (251, 16, 15, 14), (251, 15, 16, 7)];

@@ -47,11 +47,8 @@ pub fn bytes(seed: u64, random: &mut Random, counts: &mut Counts) -> Result<(), 
         for value in 0..=255 {
             let mut changed = sound.clone();
             changed[place] = value;
-            let number = match place < 21 {
-                true => old_number(&changed),
-                false => 0,
-            };
-            checked(&changed, number, random, counts)?;
+            let kept = [&changed[..21], &[0; 3]].concat();
+            checked(&changed, old_number(&kept), random, counts)?;
         }
     }
     Ok(())
