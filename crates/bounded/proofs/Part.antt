@@ -3,6 +3,7 @@
 --   part-at       byte i of the part is byte a + i of the list
 --   part-length   the part has n bytes where the list reaches that far
 --   part-any      a test of the part's bytes is one of n bytes of the list
+--   tab-part      a part of a table is a table
 --   row-in        row r of a rows of n bytes ends within them
 --   row-more      one row more, written in its own part of the lent bytes
 --
@@ -19,7 +20,7 @@ use lib.Seq.{getD-take, getD-drop, length-take-le, take-at, drop-at, drop-drop}
 use borrow.Rule.Slice.PartMut.{putMid}
 use Rattle.bounded.specs.Bounded.{at, any, tab}
 use Rattle.bounded.proofs.Any.{any-eq}
-use Rattle.bounded.proofs.Tab.{length-tab, tab-append}
+use Rattle.bounded.proofs.Tab.{length-tab, tab-at, tab-is, tab-append}
 
 pub part-at : (a n : ℕ) (s : List ℕ) (i : ℕ) → i < n → at (take (a + n - a) (drop a s)) i ≡ at s (a + i)
 part-at a n s i l = rw (add-sub-cancel-left a n) (getD-take n (drop a s) i 0 l ∙ getD-drop a s i 0)
@@ -30,6 +31,11 @@ part-length a n s h = rw (add-sub-cancel-left a n) (length-take-le n (drop a s) 
 pub part-any : (a n : ℕ) (s : List ℕ) (f : ℕ → Bool) → a + n ≤ length s →
     any (length (take (a + n - a) (drop a s))) (λ i. f (at (take (a + n - a) (drop a s)) i)) ≡ any n λ i. f (at s (a + i))
 part-any a n s f h = rw (part-length a n s h) (any-eq n λ i l. ap f (part-at a n s i l))
+
+-- n entries of a table, from entry a on
+pub tab-part : (a n m : ℕ) (f : ℕ → ℕ) → a + n ≤ m → take n (drop a (tab m f)) ≡ tab n λ i. f (a + i)
+tab-part a n m f l = tab-is n _ _ (length-take-le n _ (omega (arith, length-drop a (tab m f), length-tab m f))) λ i k.
+    getD-take n _ i 0 k ∙ getD-drop a _ i 0 ∙ tab-at m f (a + i) (omega arith)
 
 -- row r of a rows of n bytes
 pub row-in : (r a n : ℕ) → r < a → r * n + n ≤ a * n

@@ -21,13 +21,14 @@ use native.Mathlib.Omega.{arith}
 use native.Mathlib.Decide.{decLe}
 use native.Mathlib.Nat.{add-assoc, add-sub-cancel}
 use lib.Dec.{eqb, ltb, leb, lit<}
-use lib.ListN.{length, take, drop, length-append, length-take, length-drop, List·getD-append}
-use lib.Seq.{take-all, length-take-le, getD-take, getD-drop, getD-append-add}
+use lib.ListN.{length, take, length-append, length-take, List·getD-append}
+use lib.Seq.{take-all, getD-take, getD-append-add}
 use borrow.Author.Tests.{lt-ltb, le-ltb, ltb-false}
 use Rattle.bounded.specs.Bounded.{at, any, tab}
 use Rattle.bounded.proofs.Any.{any-eq}
 use Rattle.bounded.proofs.Sum.{cell-row, cell-column}
 use Rattle.bounded.proofs.Tab.{length-tab, tab-at, tab-is}
+use Rattle.bounded.proofs.Part.{tab-part}
 use Rattle.field.specs.Prime.{isPrime}
 use Rattle.definitions.specs.Refusals.{_when_, first}
 use Rattle.definitions.specs.Plan.{planBytes, modulus, rowPoint, columnPoint, filled, unfit, misplaced}
@@ -88,11 +89,6 @@ module _ (Q : List ℕ) where
 
   column-point : (i : ℕ) → i < 16 → columnPoint (widened Q) i ≡ at Q (5 + i)
   column-point i l = sym (wide-columns (5 + i) (22 + i) (omega arith) (omega arith) (omega arith))
-
--- n entries of a table, from entry a on
-tab-part : (a n m : ℕ) (f : ℕ → ℕ) → a + n ≤ m → take n (drop a (tab m f)) ≡ tab n λ i. f (a + i)
-tab-part a n m f l = tab-is n _ _ (length-take-le n _ (omega (arith, length-drop a (tab m f), length-tab m f))) λ i k.
-    getD-take n _ i 0 k ∙ getD-drop a _ i 0 ∙ tab-at m f (a + i) (omega arith)
 
 -- the points of two plans, placed alike
 points-alike : (P Q : List ℕ) (a b n : ℕ) → n ≤ 16 → modulus P ≡ modulus Q → ((i : ℕ) → i < 16 → at P (a + i) ≡ at Q (b + i)) →
