@@ -54,8 +54,8 @@ pub fn write_strip(plan: Plan, record: &[u8], strip: &mut [u8])
         now (strip .exit) ≡ markOf stripCode P (now («record» .entry))) ⌝ }
 {
     let g = plan.grid;
-    let x = g.x;
-    let xs = evaluation::powers(x, g.d, g.p, g.m);
-    let values = evaluation::values(&xs, g.d, bytes::row(record), g.p, g.m);
+    let points = g.x;
+    let powers = evaluation::powers(points, g.d, g.p, g.m);
+    let values = evaluation::values(&powers, g.d, bytes::row(record), g.p, g.m);
     bytes::store(strip, &values);
 }
