@@ -21,17 +21,25 @@ help:
 read_by = $(shell find $(1) -path '*/must-fail' -prune -o -type f -print) crates.txt $(shell command -v rt)
 LIBRARIES = $(patsubst %/src/lib.rt,%,$(wildcard crates/*/src/lib.rt))
 
-## make example         4 min         1 s             reads a tray end to end by the program: case c of document 01
+## make example         4 min         1 s             reads a tray end to end by the program: case c of document 01, with its plan
+##                                                    of 40 bytes, and with that of the old form, widened
 example: program
 	target/bin/trayread < crates/trayread/stdin | tee target/example.printed
 	diff crates/trayread/stdout target/example.printed
+	{ head -c 24 crates/planwiden/stdin | target/bin/planwiden; tail -c +41 crates/trayread/stdin; } \
+	| target/bin/trayread | tee target/example.printed
+	diff crates/trayread/stdout target/example.printed
 
-## make program         4 min         1 s             the proved program: target/bin/trayread
-program: target/stamp/trayread
+## make program         4 min         1 s             the proved programs: target/bin/trayread and target/bin/planwiden
+program: target/stamp/trayread target/stamp/planwiden
 
-# rt writes this stamp once the program is proved, has run, and has printed what crates/trayread/stdout has.
+# rt writes these stamps once a program is proved, has run, and has printed what its file stdout has.
 target/stamp/trayread: $(call read_by,$(LIBRARIES) crates/trayread)
 	rt check trayread
+	touch $@
+
+target/stamp/planwiden: $(call read_by,$(LIBRARIES) crates/planwiden)
+	rt check planwiden
 	touch $@
 
 ## make lib             4 min         1 s             the proved library for C and Rust: target/staticlib/libtraymark.a
@@ -42,11 +50,12 @@ lib: target/staticlib/libtraymark.a
 target/staticlib/libtraymark.a: $(call read_by,$(LIBRARIES))
 	rt staticlib traymark
 
-## make tests           6 min         80 s            the calls and the program against an independent decoder, from Rust and C;
+## make tests           6 min         80 s            the calls and the programs against an independent decoder, from Rust and C;
 ##                                                    the wrapper's own tests, the benchmark's ports and the two examples
 tests: lib program
 	$(CARGO) run --quiet --release -p traymark-tests --bin calls
 	$(CARGO) run --quiet --release -p traymark-tests --bin program target/bin/trayread
+	$(CARGO) run --quiet --release -p traymark-tests --bin widener target/bin/planwiden target/bin/trayread
 	$(CARGO) run --quiet --release -p traymark-tests --bin strips input | cmp - crates/example_strips/stdin
 	$(CARGO) run --quiet --release -p traymark-tests --bin strips output | cmp - crates/example_strips/stdout
 	$(CARGO) run --quiet --release -p traymark-bench check

@@ -3,7 +3,8 @@
 use std::error::Error;
 use std::fmt;
 
-/// Why a call was refused. Where several reasons apply, the first of them in the order of `ALL` is given.
+/// Why a call was refused. Where several reasons apply, the first of them in the order of `ALL` is given; of `widen_plans` alone
+/// 11 comes before 6.
 #[derive(Clone, Copy, Debug, PartialEq, Eq, Hash)]
 #[non_exhaustive]
 pub enum Refusal {

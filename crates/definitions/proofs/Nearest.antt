@@ -2,7 +2,7 @@
 --
 --   within-cost, cost-within   a record passes the test exactly where it costs under the radius
 --   cost-without               one that does not fails it
---   reads-refused              a refusal of 1 to 8
+--   reads-refused              a refusal of the plan, or of 6 to 8
 --   reads-none                 10, where no record is within the radius
 --   reads-the                  the record within it, where there is at most one
 --

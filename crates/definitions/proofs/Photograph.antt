@@ -1,4 +1,5 @@
--- Refusals 1 to 8 do not apply exactly to the photographs of a sound plan with a record buffer of the right length.
+-- The plan's refusals and 6 to 8 do not apply exactly to the photographs of a sound plan with a record buffer of the right
+-- length.
 --
 --   photo-accepted                    of a photograph and such a buffer the number is 0
 --   accepted-photo, accepted-buffer   where it is 0, it is a photograph, and the buffer has its length

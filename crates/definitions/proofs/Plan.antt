@@ -23,12 +23,12 @@ use Rattle.polynomial.proofs.Record.{start-up}
 use Rattle.polynomial.proofs.Known.{start-strip, start-mark}
 use Rattle.definitions.specs.Plan.{modulus, side, degree, point}
 use Rattle.definitions.specs.Code.{Code, strip, oblong, more, size}
-use Rattle.definitions.specs.Sound.{Fits, PointsFrom, Sound}
+use Rattle.definitions.specs.Sound.{IsSide, PointsFrom, Sound}
 
 pub plan-modulus : {P : List ℕ} → Sound P → suc (modulus P - 1) ≡ modulus P
 plan-modulus S = omega (arith, S .prime .least)
 
-pub plan-side : {P : List ℕ} → Sound P → (i : ℕ) → Fits (modulus P) (side P i)
+pub plan-side : {P : List ℕ} → Sound P → (i : ℕ) → IsSide (modulus P) (side P i)
 plan-side S zero = S .tall
 plan-side S (suc i) = S .wide
 

@@ -5,7 +5,7 @@
 --   first-refuses, first-passes   the number of the first rows, where they refuse; of the others, where they do not
 --   testAt, numberAt rows i       the test and the number of row i
 --   first-clear                   where the number is 0 every test is false
---   Stops rows i, first-at        the tests before row i are false and its own is true; then its number is the first
+--   Stops rows i, a & b, first-at the tests before row i are false and its own is true; then its number is the first
 --   first-none, first-applies     0 where no row applies, else the number of one that does
 --   ordered order k rows, first-earliest
 --                                 where the numbers stand in an order, from the k-th on, it is the earliest
@@ -81,6 +81,11 @@ abbrev pub Stops : List Refusal → ℕ → Type 0
 Stops [] i = Unit
 Stops ((k when b) ∷ rows) zero = b ≡ true
 Stops ((k when b) ∷ rows) (suc i) = (b ≡ false) × Stops rows i
+
+-- pairs to the right, as `Stops` has them
+infixr 2 _&_
+abbrev pub _&_ : {A B : Type 0} → A → B → A × B
+a & b = (a, b)
 
 pub first-at : (rows : List Refusal) (i : ℕ) → Stops rows i → numberAt rows i ≡ first rows
 unfolding first

@@ -20,8 +20,8 @@ use Rattle.bounded.proofs.Any.{any-none, none-any}
 use Rattle.field.proofs.Prime.{is-prime, prime-is}
 use Rattle.definitions.specs.Plan.{rows, columns, filled, large, unordered, unfit, misplaced, planRows, checkNumber}
 use Rattle.definitions.specs.Code.{Code, strip, oblong, cells}
-use Rattle.definitions.specs.Sound.{Fits, PointsFrom, Sound}
-use Rattle.definitions.proofs.Refusals.{testAt, first-clear, Stops, numberAt, first-at, equal, not-true, neither, nor}
+use Rattle.definitions.specs.Sound.{IsSide, PointsFrom, Sound}
+use Rattle.definitions.proofs.Refusals.{testAt, first-clear, Stops, numberAt, first-at, _&_, equal, not-true, neither, nor}
 
 -- the n bytes from byte a on are 0
 zeros : (P : List ℕ) (a n : ℕ) → filled P a n ≡ false → (i : ℕ) → a ≤ i → i < a + n → at P i ≡ 0
@@ -36,13 +36,13 @@ filled-no P a n h = none-any _ _ λ i l.
     le-ltb _ _ z
 
 -- a side that fits, and one that a test finds unfit
-pub fits : (p n : ℕ) → unfit p n ≡ false → Fits p n
+pub fits : (p n : ℕ) → unfit p n ≡ false → IsSide p n
 fits p n h =
     let (a, b) = neither (eqb n 0) _ h in
     let (c, d) = neither (ltb 16 n) _ b in
     record { some = eqb-false _ _ a; most = ltb-false _ _ c; room = ltb-false _ _ d }
 
-fitting : (p n : ℕ) → Fits p n → unfit p n ≡ false
+fitting : (p n : ℕ) → IsSide p n → unfit p n ≡ false
 fitting p n F = nor (ne-eqb _ _ (F .some)) (nor (le-ltb _ _ (F .most)) (le-ltb _ _ (F .room)))
 
 -- the same of n points in the sixteen bytes from byte a on
@@ -84,11 +84,6 @@ sound P e = record {
 pub check-at : (P : List ℕ) (i : ℕ) → Stops (planRows P) i → numberAt (planRows P) i ≡ checkNumber P
 unfolding checkNumber
 check-at P i h = first-at (planRows P) i h
-
--- pairs to the right, as `Stops` has them
-infixr 2 _&_
-abbrev _&_ : {A B : Type 0} → A → B → A × B
-a & b = (a, b)
 
 pub checked : (P : List ℕ) → Sound P → checkNumber P ≡ 0
 unfolding planRows

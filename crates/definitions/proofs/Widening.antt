@@ -139,7 +139,7 @@ module _ (Q : List ℕ) (e : length Q ≡ narrowBytes) where
       List·getD-append (take 21 Q) _ 0 i (omega (arith, front)) ∙ getD-take 21 Q i 0 l
 
   pub widened-plan : Widened Q
-  unfolding widened tab narrowNumber narrowRows
+  unfolding widened tab any narrowNumber narrowRows
   widened-plan = record {
     whole = refl;
     sameSeason = refl;
@@ -149,6 +149,7 @@ module _ (Q : List ℕ) (e : length Q ≡ narrowBytes) where
     sameDegree = refl;
     rowPoints = row-point Q;
     columnPoints = column-point Q;
+    spare = refl;
     kept = λ k. same-number Q Q e (first-clear (narrowRows Q) tt k 1) (λ i l. refl) ∙ k;
     refused = λ z. same-number Q Q e z (λ i l. refl);
     number = cleared-number;

@@ -2,7 +2,7 @@
 --
 --   Writing C P F B    the plan is sound, F is a record of it, and B has as many bytes as its mark
 --
--- What this file is for: where the number of refusals 1 to 6 and 9 is 0, the writer rests on these.
+-- What this file is for: where neither the plan's refusals nor 6 or 9 apply, the writer rests on these.
 use mathlib.Core.Path.{_≡_}
 use mathlib.Core.List.{List}
 use Prim.Native.Nat.{ℕ}

@@ -82,7 +82,7 @@ readingOf C P s u F = record {
   class = class (changedOf C P s F);
 }
 
--- WRITING: refusals 1 to 6 and 9
+-- WRITING: the plan's refusals, 6 and 9
 abbrev pub writeTests : (p : ℕ) (F B : List ℕ) (n k : ℕ) → List Refusal
 writeTests p F B n k = lengthRow F k ∷ lengthRow B n ∷ (9 when overflowing p F k) ∷ []
 
@@ -95,7 +95,7 @@ writeNumber C P F B = first (writeRows C P F B)
 unfoldable pub writeBuffer : Code → (P F B : List ℕ) → List ℕ
 writeBuffer C P F B = accepted (writeNumber C P F B) (mark C P F) B
 
--- MEASURING: refusals 1 to 9
+-- MEASURING: the plan's refusals, and 6 to 9
 unfoldable pub measureRows : Code → (P s u F : List ℕ) → List Refusal
 measureRows C P s u F = photoRows C P s u F ++ recordRow C P F ∷ []
 
@@ -105,7 +105,8 @@ measureNumber C P s u F = first (measureRows C P s u F)
 unfoldable pub measureReading : Code → (P s u F : List ℕ) → Reading
 measureReading C P s u F = accepted (measureNumber C P s u F) (readingOf C P s u F) (refused (measureNumber C P s u F))
 
--- READING: refusals 1 to 8 and 10. The record is the first of all records of the plan, in dictionary order, within the radius
+-- READING: the plan's refusals, 6 to 8 and 10. The record is the first of all records of the plan, in dictionary order, within
+-- the radius
 unfoldable pub nearest : Code → (P s u : List ℕ) → Option (List ℕ)
 nearest C P s u = search (modulus P) (size C P) (within C P s u)
 

@@ -4,7 +4,8 @@
 --   RefusalsKeep            demand 1: a refused call gives its number and zeros or an empty part, and leaves the buffer lent for
 --                           its result
 --   Shapes P                a strip has a cell for each row point and d + 1 coefficients, and its limit is 100 (rows - d); a mark
---                           has rows times columns cells, and its limit is 100 times the larger side times (the smaller - d)
+--                           has rows times columns cells and K = (d + 1)(d + 2)/2 coefficients, and its limit is 100 times the
+--                           larger side times (the smaller - d)
 --   Written C P F b         demand 2: in b each cell has the value, modulo p, of the polynomial of F at its row and column
 --                           points, or of a strip at its row point
 --   RoundTrip C P F B B′    demand 2: reading what was written of F into B, with all doubts 0, gives F into B′ at cost 0, with
@@ -67,11 +68,16 @@ pub record RefusalsKeep : Type 0 where
   pub find : (file : List ℕ) (y : ℕ) → findNumber file y ≢ 0 → (findOffset file y ≡ 0) × (findBytes file y ≡ [])
   pub widen : (old wide : List ℕ) → widenNumber old wide ≢ 0 → widenBuffer old wide ≡ wide
 
+-- K, the number of a record's places
+abbrev pub places : ℕ → ℕ
+places d = (d + 1) * (d + 2) / 2
+
 pub record Shapes (P : List ℕ) : Type 0 where
   pub stripCells : cells strip P ≡ rows P
   pub stripSize : size strip P ≡ degree P + 1
   pub stripLimit : radius full strip P ≡ 100 * (rows P - degree P)
   pub markCells : cells oblong P ≡ rows P * columns P
+  pub markSize : size oblong P ≡ places (degree P)
   pub markLimit : radius full oblong P ≡ 100 * (max (rows P) (columns P) * (min (rows P) (columns P) - degree P))
 
 abbrev pub Written : Code → (P F b : List ℕ) → Type 0
@@ -161,10 +167,6 @@ pub record FirstOfSeason (file : List ℕ) (y : ℕ) : Type 0 where
   pub same : season (findBytes file y) ≡ y
   pub before : (i : ℕ) → i < k → season (drop (i * 40) file) ≢ y
 
--- K, the number of a record's places
-abbrev pub places : ℕ → ℕ
-places d = (d + 1) * (d + 2) / 2
-
 -- the group of degree k has the k + 1 places from start k on
 pub record GroupsFill (d : ℕ) : Type 0 where
   -- K is the length that the calls ask of a record, for every plan of the degree d
@@ -192,6 +194,7 @@ pub record Widened (Q : List ℕ) : Type 0 where
   pub sameDegree : degree (widened Q) ≡ at Q 4
   pub rowPoints : (i : ℕ) → i < 16 → rowPoint (widened Q) i ≡ at Q (5 + i)
   pub columnPoints : (i : ℕ) → i < 16 → columnPoint (widened Q) i ≡ at Q (5 + i)
+  pub spare : filled (widened Q) 38 2 ≡ false
   -- a plan that was sound stays sound
   pub kept : narrowNumber Q ≡ 0 → checkNumber (widened Q) ≡ 0
   -- one that was not keeps its number, if its bytes 21 to 23 are 0

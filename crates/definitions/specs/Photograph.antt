@@ -1,4 +1,4 @@
--- A photograph as facts: what refusals 1 to 8 leave.
+-- A photograph as facts: what the plan's refusals and 6 to 8 leave.
 --
 --   Photograph C P s u   the plan P is sound, and s and u are symbols and doubts of its strip or mark, in buffers of the right
 --                        lengths: a symbol is below p or 255, a doubt is 0 to 100, and exactly 100 where the cell is unread

@@ -2,7 +2,7 @@
 --
 --   Reads C P s u B r b    r is the reading, and b are the bytes of the record buffer afterwards
 --
--- What this file is for: the contract of the readers, which are called where refusals 1 to 8 do not apply.
+-- What this file is for: the contract of the readers, which are called where the plan's refusals and 6 to 8 do not apply.
 use mathlib.Core.Path.{_≡_}
 use mathlib.Core.List.{List}
 use Prim.Native.Nat.{ℕ}

@@ -1,6 +1,6 @@
 -- A sound plan as facts.
 --
---   Fits p n             n points are some, at most sixteen, and at most p
+--   IsSide p n             n points are some, at most sixteen, and at most p
 --   PointsFrom P a n     n points in the sixteen bytes from byte a on: each below p, strictly rising, the unused bytes 0
 --   Sound P              all bytes of the plan P are as in the table "The season plan", row by row
 --
@@ -14,7 +14,7 @@ use Rattle.bounded.specs.Bounded.{at}
 use Rattle.field.specs.Prime.{Prime}
 use Rattle.definitions.specs.Plan.{planBytes, modulus, rows, columns, degree}
 
-pub record Fits (p n : ℕ) : Type 0 where
+pub record IsSide (p n : ℕ) : Type 0 where
   pub some : n ≢ 0
   pub most : n ≤ 16
   pub room : n ≤ p
@@ -28,8 +28,8 @@ pub record Sound (P : List ℕ) : Type 0 where
   pub whole : length P ≡ planBytes
   pub prime : Prime (modulus P)
   pub small : modulus P ≤ 251
-  pub tall : Fits (modulus P) (rows P)
-  pub wide : Fits (modulus P) (columns P)
+  pub tall : IsSide (modulus P) (rows P)
+  pub wide : IsSide (modulus P) (columns P)
   pub low : degree P < min (rows P) (columns P)
   pub rowPoints : PointsFrom P 6 (rows P)
   pub columnPoints : PointsFrom P 22 (columns P)

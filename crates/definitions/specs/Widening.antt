@@ -1,4 +1,4 @@
--- Widening: plans of document 01's first form, 24 bytes each, become plans of 40 bytes. Such a plan is Q here: season, p, n, d,
+-- Widening: plans of document 01's old form, 24 bytes each, become plans of 40 bytes. Such a plan is Q here: season, p, n, d,
 -- sixteen points and three zeros; n and the points are given twice, for the rows and for the columns, and the zeros dropped.
 --
 --   narrowBytes, mostPlans     the length of such a plan, and how many may be given

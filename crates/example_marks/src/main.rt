@@ -1,6 +1,6 @@
 // Writing and measuring at work: cases a and k of document 01, plan A with the record 3 1 2; a strip of that plan, clean and with
-// a cell unread and another wrong; a record beyond the radius; a half tray; and refusals 6 to 9. Each line says what was asked, the number
-// that was answered, and then the buffer or the reading; the file stdout has them as worked out by hand.
+// a cell unread and another wrong; a record beyond the radius; a half tray; and refusals 6 to 9. Each line says what was asked,
+// the number that was answered, and then the buffer or the reading; the file stdout has them as worked out by hand.
 use definitions::Reading;
 use text::magnitude;
 use traymark::measure::traymark_measure_mark;

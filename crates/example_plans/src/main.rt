@@ -1,5 +1,5 @@
-// The calls for season plans at work: plan A of document 01, then with one byte changed; a half tray; a plan file; and plan A of the
-// first form, widened. Each line says what was asked and the number that was answered; the file stdout has the numbers of the
+// The calls for season plans at work: plan A of document 01, then with one byte changed; a half tray; a plan file; and plan A of
+// the old form, widened. Each line says what was asked and the number that was answered; the file stdout has the numbers of the
 // documents, and the first plan of a season.
 ghost use Prim.Native.Nat.{_<_};
 use traymark::plans::find_plan;

@@ -1,6 +1,6 @@
 -- Photographs as the readers take and load them.
 --
---   taken            where refusals 1 to 8 do not apply, a photograph was taken
+--   taken            where the plan's refusals and 6 to 8 do not apply, a photograph was taken
 --   negated          what a test `!b` says of b
 --   residue-below    a loaded symbol is below the modulus
 --   residue-loaded   and stands for the symbol that was lent

@@ -79,7 +79,8 @@ module _ {P s u B : List ℕ} {left : List (List ℕ)} (t : Taken oblong P s u B
   known : (r c : ℕ) → (gridCell (columns P) s r c < modulus P) ⊎ (gridCell (columns P) s r c ≡ unread)
   known r c = column (decLt c (columns P)) (decLt r (rows P))
     where
-      column : Dec (c < columns P) → Dec (r < rows P) → (gridCell (columns P) s r c < modulus P) ⊎ (gridCell (columns P) s r c ≡ unread)
+      column : Dec (c < columns P) → Dec (r < rows P) →
+          (gridCell (columns P) s r c < modulus P) ⊎ (gridCell (columns P) s r c ≡ unread)
       column (yes m) (yes l) = rw (cell-at (columns P) s r c m) (t .photo .symbol (r * columns P + c) (inside r c l m))
       column (yes m) (no l) =
           let k : rows P ≤ r = omega arith in
@@ -96,6 +97,9 @@ module _ {P s u B : List ℕ} {left : List (List ℕ)} (t : Taken oblong P s u B
 
 module _ {P s u B : List ℕ} {left u′ : List (List ℕ)} (t : Taken oblong P s u B)
     (es : SymbolRows (columns P) s left) (eu : DoubtLines (columns P) u u′) where
+  points : (i j : ℕ) → j < side P i → at (row (point P i)) j ≡ point P i j
+  points = point-at (t .photo .sound)
+
   doubt-at : (r c : ℕ) → r < rows P → c < columns P → cellAt u′ r c ≡ at u (r * columns P + c)
   doubt-at r c l m =
       ap (λ v. at v c) (eu .done r (omega (arith, t .photo .sound .tall .most)))
@@ -103,8 +107,9 @@ module _ {P s u B : List ℕ} {left u′ : List (List ℕ)} (t : Taken oblong P 
       ∙ cell-at (columns P) u r c m
 
   loaded : LoadedGrid full (rows P) (columns P) s u (cellAt left) (cellAt u′)
-  loaded r c l m = rw (symbol-at t es r c l m, doubt-at r c l m)
-      (residue-loaded (at s (r * columns P + c)) (at u (r * columns P + c)) (t .photo .erased (r * columns P + c) (inside t es r c l m)))
+  loaded r c l m =
+      let i = r * columns P + c in
+      rw (symbol-at t es r c l m, doubt-at r c l m) (residue-loaded (at s i) (at u i) (t .photo .erased i (inside t es r c l m)))
 
   doubts-most : (r c : ℕ) → r < rows P → c < columns P → cellAt u′ r c ≤ full
   doubts-most r c l m = rw (doubt-at r c l m) (t .photo .doubt (r * columns P + c) (inside t es r c l m))
@@ -116,7 +121,7 @@ module _ {P s u B : List ℕ} {left u′ : List (List ℕ)} (t : Taken oblong P 
     limit-is = refl
 
     refused-said : radius full oblong P ≤ g → Reads oblong P s u B (refused 10) B
-    refused-said h = mark-none P s u B (t .clear) (point-at (t .photo .sound) 0) (point-at (t .photo .sound) 1) loaded w (D .decoded)
+    refused-said h = mark-none P s u B (t .clear) (points 0) (points 1) loaded w (D .decoded)
         (le-ltb g _ (omega (arith, limit-is)))
 
     found : g < radius full oblong P → under (said P m .grid) g ≡ true
@@ -129,7 +134,7 @@ module _ {P s u B : List ℕ} {left u′ : List (List ℕ)} (t : Taken oblong P 
         let k : j < size oblong P = omega (arith, t .room) in
         let W = tab (size oblong P) (at w) in
         let n = size oblong P in
-        let F = mark-record P s u B (t .clear) (point-at (t .photo .sound) 0) (point-at (t .photo .sound) 1) loaded w (D .decoded) z W (length-tab n (at w))
+        let F = mark-record P s u B (t .clear) (points 0) (points 1) loaded w (D .decoded) z W (length-tab n (at w))
         (tab-at n (at w)) in
         omega (arith, F .below j k, tab-at (size oblong P) (at w) j k, t .photo .sound .small)
 
@@ -152,8 +157,8 @@ module _ {P s u B : List ℕ} {left u′ : List (List ℕ)} (t : Taken oblong P 
           ∙ rw (
             cell-row (columns P) r c m,
             cell-column (columns P) r c m,
-            point-at (t .photo .sound) 0 r l,
-            point-at (t .photo .sound) 1 c m,
+            points 0 r l,
+            points 1 c m,
           )
           (value-rows (modulus P) (degree P) W (rowPoint P r) (columnPoint P c) ∙ ap (λ e. e % modulus P)
           (sum-eq (suc (degree P)) λ k a. ap (λ e. e * columnPoint P c ^ k)
@@ -170,19 +175,18 @@ module _ {P s u B : List ℕ} {left u′ : List (List ℕ)} (t : Taken oblong P 
           (~add (same refl) (mod-cong (positive t es) (line-value r c)) ⨾ R .whole r c l m ⨾ same (symbol-at t es r c l m)))
 
       differing-of : differingCells (rows P) (columns P) s after ≡ hamming (cells oblong P) (at s) (value oblong P W)
-      differing-of = sym (sum-rows (rows P) (columns P) _ ∙ sum-eq (rows P) λ r l. sum-eq (columns P) λ c m. sym (cell-differs r c l m))
+      differing-of = sym (sum-rows (rows P) (columns P) _
+          ∙ sum-eq (rows P) λ r l. sum-eq (columns P) λ c m. sym (cell-differs r c l m))
 
       reading-said : {k : ℕ} → k ≡ differingCells (rows P) (columns P) s after →
           (unreadIn s ≤ k) × Reads oblong P s u B (summary (radius full oblong P) g k s) W
       reading-said e =
           let z = found h in
-          let ex = point-at (t .photo .sound) 0 in
-          let ey = point-at (t .photo .sound) 1 in
-          let paid = mark-cost P s u B (t .clear) ex ey loaded w (D .decoded) z W word-length word-at in
+          let paid = mark-cost P s u B (t .clear) (points 0) (points 1) loaded w (D .decoded) z W word-length word-at in
           let differing = e ∙ differing-of in (
             unread-within W (t .photo) differing,
             rw (summary-is W (t .photo) differing refl paid)
-                (mark-found P s u B (t .clear) ex ey loaded w (D .decoded) z W word-length word-at),
+                (mark-found P s u B (t .clear) (points 0) (points 1) loaded w (D .decoded) z W word-length word-at),
           )
 
 -- the same by the struct that says what the plan does

@@ -65,7 +65,8 @@ module _ {P : List ℕ} (S : Sound P) where
       (F : List ℕ) (h : ℕ → ℕ → ℕ) → ((t i : ℕ) → i + t ≤ degree P → coef F i t ≡ h i t) →
       costOf oblong P s u F ≡ gridCost (modulus P - 1) full (rows P) (columns P) (degree P) x y u′ s′ h
   record-cost s u x y s′ u′ ex ey loaded F h e =
-      sum-eq (rows P * columns P) (λ c _. ap (cell full (at s c) (at u c)) (value-cell (modulus P) (degree P) F (side P) (point P) c))
+      sum-eq (rows P * columns P)
+      (λ c _. ap (cell full (at s c) (at u c)) (value-cell (modulus P) (degree P) F (side P) (point P) c))
       ∙ ap (λ p. cost full (rows P * columns P) (at s) (at u) (gridValue p (degree P) (columns P) (rowPoint P) (columnPoint P) F))
       (sym (plan-modulus S))
       ∙ flat-cost (modulus P - 1) full (rows P) (columns P) (degree P) (rowPoint P) (columnPoint P) s u F

@@ -116,7 +116,8 @@ module _ {P s u B s′ u′ : List ℕ} (t : Taken strip P s u B) (es : s′ ≡
             value-strip (modulus P) (degree P) W (rowPoint P j),
             point-at (t .photo .sound) 0 j l,
           )
-          (ap (λ e. e % modulus P) (sum-eq (suc (degree P)) λ i m. ap (λ e. e * rowPoint P j ^ i) (sym (word-at i (omega (arith, strip-size P))))))
+          (ap (λ e. e % modulus P) (sum-eq (suc (degree P)) λ i m.
+          ap (λ e. e * rowPoint P j ^ i) (sym (word-at i (omega (arith, strip-size P))))))
 
       differing-of : {seen : List ℕ} {n : ℕ} → seen ≡ row (at s) → n ≡ hamming (rows P) (at seen) (at (r .values)) →
           n ≡ hamming (cells strip P) (at s) (value strip P W)

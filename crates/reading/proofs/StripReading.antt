@@ -69,7 +69,8 @@ module _ (P s u B : List ℕ) (clear : first (photoRows strip P s u B) ≡ 0) {x
   module _ (z : found ≡ true) (W : List ℕ) (word : IsRecord strip P W)
       (coefficients : (i : ℕ) → i < size strip P → at W i ≡ w i) where
     pub strip-cost : g ≡ costOf strip P s u W
-    strip-cost = A .sound z .0 ∙ cost-cong full (rows P) (degree P) x s′ u′ (λ i l. same (sym (coefficients i (omega (arith, strip-size P)))))
+    strip-cost = A .sound z .0
+        ∙ cost-cong full (rows P) (degree P) x s′ u′ (λ i l. same (sym (coefficients i (omega (arith, strip-size P)))))
         ∙ sym (cost-of W)
 
     pub strip-found : Reads strip P s u B (readingOf strip P s u W) W

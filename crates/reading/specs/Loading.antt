@@ -4,7 +4,8 @@
 --   gridCell b s r c     the cell of row r and column c in the flat grid s of b columns, and 0 beyond it
 --   SymbolRows b s rows  row r has the residues of row r of the grid s, r from 0 to 15
 --   DoubtLines b u rows  row r is row r of the grid u, r from 0 to 15
---   Taken C P s u B      refusals 1 to 8 do not apply: s and u are a photograph of a sound plan, B has room for a record
+--   Taken C P s u B      the plan's refusals and 6 to 8 do not apply: s and u are a photograph of a sound plan, B has room for a
+--                        record
 --
 -- What this file is for: an unread cell's symbol is no residue; its doubt is the full doubt, so any residue may stand for it.
 use mathlib.Core.Path.{_≡_}

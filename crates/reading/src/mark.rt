@@ -1,4 +1,4 @@
-// Reading a photographed mark where refusals 1 to 8 do not apply, as `strip` reads a strip.
+// Reading a photographed mark where the plan's refusals and 6 to 8 do not apply, as `strip` reads a strip.
 use crate::load;
 use definitions::Reading;
 use definitions::UNREAD;

@@ -1,5 +1,5 @@
-// Reading a photographed strip where refusals 1 to 8 do not apply: the one record within the radius goes into the lent
-// buffer; where there is none the buffer stays as it was, and the number is 10.
+// Reading a photographed strip where the plan's refusals and 6 to 8 do not apply: the one record within the radius goes into the
+// lent buffer; where there is none the buffer stays as it was, and the number is 10.
 use crate::load;
 use definitions::Reading;
 use distance::word;

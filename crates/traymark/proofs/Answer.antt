@@ -4,7 +4,8 @@
 --   write-unsound                      so where the plan itself is refused
 --   measure-refuses, measure-gives     a refused measuring is zeros, an accepted one the reading of the record
 --   measure-unsound                    so where the plan itself is refused
---   read-refuses, read-takes           refusals 1 to 8 of a reading; where none applies, the photograph is taken
+--   read-refuses, read-takes           refusals of the plan and 6 to 8 of a reading; where none applies, the
+--                                      photograph is taken
 --   read-unsound                       so where the plan itself is refused
 --   read-keeps, read-gives             a refused reading is zeros and leaves the buffer; an accepted one is of the record in it
 --

@@ -57,14 +57,15 @@ use Rattle.traymark.proofs.Answer.{write-keeps, write-fills, measure-re
 pub sound-exactly : (P : List ℕ) → Sound P ↔ (checkNumber P ≡ 0)
 sound-exactly P = (checked P, sound P)
 
--- A strip is over the row points, with d + 1 coefficients and the limit 100 (rows - d). A mark has rows times columns cells and the
--- limit 100 times the larger side times (the smaller side - d), whichever is the larger.
+-- A strip is over the row points, with d + 1 coefficients and the limit 100 (rows - d). A mark has rows times columns cells, K
+-- coefficients and the limit 100 times the larger side times (the smaller side - d), whichever is the larger.
 pub shapes : (P : List ℕ) → Shapes P
 shapes P = record {
   stripCells = refl;
   stripSize = strip-size P;
   stripLimit = omega arith;
   markCells = refl;
+  markSize = mark-size P ∙ omega arith;
   markLimit = omega arith;
 }
 
@@ -174,8 +175,8 @@ groups-fill d = record {
     length-is : start (d + 1) ≡ places d
     length-is = omega arith
 
--- A plan of 24 bytes, whatever they are, becomes a plan of the same season, modulus and degree, with its points each way. Where it
--- was sound it stays sound; where it was not it keeps its number, but that its bytes 21 to 23 no longer count.
+-- A plan of 24 bytes, whatever they are, becomes a plan of the same season, modulus and degree, with its points each way. Where
+-- it was sound it stays sound; where it was not it keeps its number, but that its bytes 21 to 23 no longer count.
 pub widened : (Q : List ℕ) → length Q ≡ narrowBytes → Widened Q
 widened = widening.widened-plan
 

@@ -1,4 +1,4 @@
-// Season plans: checking one, finding one in a plan file, and widening those of the first form.
+// Season plans: checking one, finding one in a plan file, and widening those of the old form.
 ghost use mathlib.Core.Path.{_≡_};
 ghost use denote.Ref.{ptr};
 ghost use Rattle.definitions.specs.Plan.{checkNumber};
@@ -13,8 +13,8 @@ ghost use Rattle.definitions.specs.Widening.{widenNumber, widenBuffer};
 //   3   the rows, byte 3, are 0, above 16 or above p
 //   13  the columns, byte 4, are 0, above 16 or above p
 //   4   d, byte 5, is not below the smaller side
-//   5   a row point is p or more, or not above the one before it, or an unused byte of the sixteen from byte 6 on is not 0; or the
-//       same of the column points, from byte 22 on
+//   5   a row point is p or more, or not above the one before it, or an unused byte of the sixteen from byte 6 on is not 0; or
+//       the same of the column points, from byte 22 on
 #[no_mangle]
 pub extern "C" fn traymark_check_plan(plan: &[u8]) -> u32
     ensures { λ r. ⌜ r ≡ checkNumber (now (plan .entry)) ⌝ }
@@ -47,7 +47,7 @@ pub extern "C" fn traymark_find_plan(file: &[u8], season: u16, offset: &mut usiz
     plan::locate(file, season, offset)
 }
 
-// Widens plans of the first form, from Rattle and from C. `old` is 24-byte records one after another, and is only read: season,
+// Widens plans of the old form, from Rattle and from C. `old` is 24-byte records one after another, and is only read: season,
 // p, n, d, sixteen points, three bytes that are dropped. No plan is checked: an unsound one is widened all the same.
 //
 // Returns 0 and has filled `wide` with a plan of 40 bytes for each of them, in order: n and the points are given twice, for the

@@ -1,4 +1,4 @@
-// Plans of document 01's first form, 24 bytes each, turned into plans of 40 bytes. No plan is checked.
+// Plans of document 01's old form, 24 bytes each, turned into plans of 40 bytes. No plan is checked.
 use definitions::PLAN_BYTES;
 ghost use mathlib.Core.Path.{_≡_};
 ghost use Prim.Native.Nat.{_*_, _/_, _<_};

@@ -4,8 +4,8 @@ use Prim.Native.Nat.{ℕ}
 use native.Mathlib.Omega.{arith}
 use borrow.Author.Tests.{lt-ltb, le-ltb}
 use Rattle.definitions.specs.Plan.{modulus, rows, columns, planRows}
-use Rattle.definitions.specs.Sound.{Fits}
-use Rattle.definitions.proofs.Refusals.{equal, unequal, answered, answered-not}
+use Rattle.definitions.specs.Sound.{IsSide}
+use Rattle.definitions.proofs.Refusals.{_&_, equal, unequal, answered, answered-not}
 use Rattle.definitions.proofs.Sound.{fits, check-at}
 use Rattle.plan.proofs.Reached.{low, high, spare-reached}
 use borrow.Author.Needs.{needs}
@@ -23,10 +23,10 @@ module _ (c : tie.Else6) where
   abbrev P : List ℕ
   P = whole-known .before .before .args .plan .now
 
-  tall : Fits (modulus P) (rows P)
+  tall : IsSide (modulus P) (rows P)
   tall = fits _ _ (answered (tall-known .before .is-unfit .ensures) (tall-known .if5 .left))
 
-  wide : Fits (modulus P) (columns P)
+  wide : IsSide (modulus P) (columns P)
   wide = fits _ _ (answered (c .before .is-unfit2 .ensures) (c .if6 .left))
 
 ruleset tests = (spare-reached, low, high, answered, answered-not, equal, unequal, lt-ltb, le-ltb)
@@ -61,15 +61,20 @@ returns-7 c = check-at _ 6 (search tests depth 16)
 
 returns-8 : tie.Need-returns-8
 unfolding planRows
-returns-8 c = check-at _ 7 (search tests, (search tests, (search tests, (search tests, (search tests, (search tests, (search tests, search tests)))))))
+returns-8 c = check-at _ 7
+    (search tests & search tests & search tests & search tests & search tests & search tests & search tests & search tests)
 
 returns-9 : tie.Need-returns-9
 unfolding planRows
-returns-9 c = check-at _ 8 (search tests, (search tests, (search tests, (search tests, (search tests, (search tests, (search tests, (search tests, (search tests)))))))))
+returns-9 c = check-at _ 8
+    (search tests & search tests & search tests & search tests & search tests
+    & search tests & search tests & search tests & search tests)
 
 returns-10 : tie.Need-returns-10
 unfolding planRows
-returns-10 c = check-at _ 9 (search tests, (search tests, (search tests, (search tests, (search tests, (search tests, (search tests, (search tests, (search tests)))))))))
+returns-10 c = check-at _ 9
+    (search tests & search tests & search tests & search tests & search tests
+    & search tests & search tests & search tests & search tests)
 
 pub check-spec : {M : Type 1} → statement M
 check-spec =

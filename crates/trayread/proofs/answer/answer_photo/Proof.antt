@@ -85,7 +85,8 @@ returns-2 c =
     let l : length (drop (planBytes + n) i) ≤ length i - (planBytes + n) = simp length-drop (omega arith) in
     let u = take-all (length i - (planBytes + n)) (drop (planBytes + n) i) l in
     let buffer = cut s (sized .start .result) (size-is s says (sized .start .ensures)) in
-    rw (← season-is s says) (rw (← mark-cells says, add-sub-cancel-left planBytes n, u, buffer) at (answered .answer-mark .ensures))
+    rw (← season-is s says)
+    (rw (← mark-cells says, add-sub-cancel-left planBytes n, u, buffer) at (answered .answer-mark .ensures))
 
 pub answer-photo-spec : {M : Type 1} → statement M
 answer-photo-spec =
