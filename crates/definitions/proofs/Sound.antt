@@ -1,24 +1,26 @@
 -- A plan is sound exactly when its check gives 0.
 --
---   fits             a side that is not found unfit
 --   sound, checked   from the number 0 to the facts, and back
 --   check-at         the check that stops at row i gives that row's number
 --   cells-most       strips and marks of a sound plan have at most 256 cells
 --
 -- What this file is for: the facts of a sound plan for whoever was given the number 0, and the number for whoever has the facts.
 -- Assumes nothing.
-use mathlib.Core.Path.{_≡_, sym, ap}
+use mathlib.Core.Path.{_≡_, refl, sym, ap}
 use mathlib.Core.Bool.{false}
 use mathlib.Core.List.{List}
-use Prim.Native.Nat.{ℕ, _+_, _-_, _≤_, _<_}
+use Prim.Native.Nat.{ℕ, zero, suc, _+_, _-_, _≤_, _<_}
 use native.Mathlib.Omega.{arith}
+use native.Mathlib.Decide.{decLt}
+use native.Mathlib.Numerals.{add-one}
 use native.Mathlib.Nat.{mul-le-mul}
-use lib.Dec.{eqb, ltb}
-use borrow.Author.Tests.{leb-false, ltb-false, eqb-true, eqb-false, not-false, lt-leb, le-ltb, ne-eqb}
+use lib.Dec.{eqb, ltb, leb}
+use borrow.Author.Tests.{leb-false, ltb-false, eqb-true, eqb-false, not-false, lt-leb, lt-ltb, le-ltb, ne-eqb}
 use Rattle.bounded.specs.Bounded.{at}
 use Rattle.bounded.proofs.Any.{any-none, none-any}
 use Rattle.field.proofs.Prime.{is-prime, prime-is}
-use Rattle.definitions.specs.Plan.{rows, columns, filled, large, unordered, unfit, misplaced, planRows, checkNumber}
+use Rattle.definitions.specs.Plan.{modulus, rows, columns, filled, unfit, unrisen, wrongPoint, misplaced}
+use Rattle.definitions.specs.Plan.{planRows, checkNumber}
 use Rattle.definitions.specs.Code.{Code, strip, oblong, cells}
 use Rattle.definitions.specs.Sound.{IsSide, PointsFrom, Sound}
 use Rattle.definitions.proofs.Refusals.{testAt, first-clear, Stops, numberAt, first-at, _&_, equal, not-true, neither, nor}
@@ -36,7 +38,7 @@ filled-no P a n h = none-any _ _ λ i l.
     le-ltb _ _ z
 
 -- a side that fits, and one that a test finds unfit
-pub fits : (p n : ℕ) → unfit p n ≡ false → IsSide p n
+fits : (p n : ℕ) → unfit p n ≡ false → IsSide p n
 fits p n h =
     let (a, b) = neither (eqb n 0) _ h in
     let (c, d) = neither (ltb 16 n) _ b in
@@ -46,23 +48,27 @@ fitting : (p n : ℕ) → IsSide p n → unfit p n ≡ false
 fitting p n F = nor (ne-eqb _ _ (F .some)) (nor (le-ltb _ _ (F .most)) (le-ltb _ _ (F .room)))
 
 -- the same of n points in the sixteen bytes from byte a on
-placed : (P : List ℕ) (a n : ℕ) → misplaced P a n ≡ false → PointsFrom P a n
-placed P a n h =
-    let (b, c) = neither (large P a n) _ h in
-    let (d, e) = neither (unordered P a (n - 1)) _ c in record {
-      below = λ i l. leb-false _ _ (any-none _ _ b i l);
-      rising = λ i l. leb-false _ _ (any-none _ _ d i (omega arith));
-      unused = λ i l m. zeros P (a + n) (16 - n) e (a + i) (omega arith) (omega arith);
-    }
-
-in-place : (P : List ℕ) (a n : ℕ) → n ≤ 16 → PointsFrom P a n → misplaced P a n ≡ false
-in-place P a n k F = nor (none-any _ _ λ i l. lt-leb _ _ (F .below i l))
-    (nor (none-any _ _ λ i l. lt-leb _ _ (F .rising i (omega arith))) (filled-no P (a + n) (16 - n) unused))
+placed : (P : List ℕ) (a n : ℕ) → n ≤ 16 → misplaced P a n ≡ false → PointsFrom P a n
+placed P a n k h = record {
+  below = λ i l. leb-false _ _ (point i l .0);
+  rising = λ i l. rw (add-one i) (leb-false _ _ (point (suc i) (omega arith) .1));
+  unused = λ i l m.
+      let z : at P (a + i) ≤ 0 = ltb-false _ _ (rw (le-ltb i n l) at (any-none 16 (wrongPoint P a n) h i m)) in omega arith;
+}
   where
-    unused : (i : ℕ) → a + n ≤ i → i < a + n + (16 - n) → at P i ≡ 0
-    unused i l m =
-        let e : a + (i - a) ≡ i = omega arith in
-        omega (arith, F .unused (i - a) (omega arith) (omega arith), ap (at P) e)
+    point : (i : ℕ) → i < n → (leb (modulus P) (at P (a + i)) ≡ false) × (unrisen P a i ≡ false)
+    point i l = neither (leb (modulus P) (at P (a + i))) (unrisen P a i)
+        (rw (lt-ltb i n l) at (any-none 16 (wrongPoint P a n) h i (omega arith)))
+
+in-place : (P : List ℕ) (a n : ℕ) → PointsFrom P a n → misplaced P a n ≡ false
+in-place P a n F = none-any 16 (wrongPoint P a n) λ i l. elim (decLt i n) [
+  | yes m ↦ rw (lt-ltb i n m) (nor (lt-leb _ _ (F .below i m)) (risen i m))
+  | no m ↦ let k : n ≤ i = omega arith in rw (le-ltb i n k, F .unused i k l)
+]
+  where
+    risen : (i : ℕ) → i < n → unrisen P a i ≡ false
+    risen zero m = refl
+    risen (suc i) m = lt-leb _ _ (rw (add-one i) at (F .rising i (omega arith)))
 
 pub sound : (P : List ℕ) → checkNumber P ≡ 0 → Sound P
 unfolding checkNumber planRows
@@ -73,8 +79,8 @@ sound P e = record {
   tall = fits _ _ (c 4);
   wide = fits _ _ (c 5);
   low = leb-false _ _ (c 6);
-  rowPoints = placed P 6 (rows P) (c 7);
-  columnPoints = placed P 22 (columns P) (c 8);
+  rowPoints = placed P 6 (rows P) (fits _ _ (c 4) .most) (c 7);
+  columnPoints = placed P 22 (columns P) (fits _ _ (c 5) .most) (c 8);
   spare = λ i l m. zeros P 38 2 (c 1) i l m;
 }
   where
@@ -95,8 +101,8 @@ checked P S = sym (check-at P 9 (
     & fitting _ _ (S .tall)
     & fitting _ _ (S .wide)
     & lt-leb _ _ (S .low)
-    & in-place P 6 (rows P) (S .tall .most) (S .rowPoints)
-    & in-place P 22 (columns P) (S .wide .most) (S .columnPoints)
+    & in-place P 6 (rows P) (S .rowPoints)
+    & in-place P 22 (columns P) (S .columnPoints)
     & tt))
 
 pub cells-most : (C : Code) {P : List ℕ} → Sound P → cells C P ≤ 256

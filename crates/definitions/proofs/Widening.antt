@@ -16,14 +16,14 @@ use mathlib.Core.Path.{_≡_, refl, sym, ap, ap₂, _∙_}
 use mathlib.Core.Logic.{_≢_}
 use mathlib.Core.Bool.{Bool, true, false, cond, not, _||_}
 use mathlib.Core.List.{List, [], _∷_}
-use Prim.Native.Nat.{ℕ, _+_, _*_, _-_, _/_, _%_, _≤_, _<_, min}
+use Prim.Native.Nat.{ℕ, zero, suc, _+_, _*_, _-_, _/_, _%_, _≤_, _<_, min}
 use native.Mathlib.Omega.{arith}
 use native.Mathlib.Decide.{decLe}
-use native.Mathlib.Nat.{add-assoc, add-sub-cancel}
-use lib.Dec.{eqb, ltb, leb, lit<}
+use native.Mathlib.Nat.{add-sub-cancel}
+use lib.Dec.{ltb, leb, lit<}
 use lib.ListN.{length, take, length-append, length-take, List·getD-append}
 use lib.Seq.{take-all, getD-take, getD-append-add}
-use borrow.Author.Tests.{lt-ltb, le-ltb, ltb-false}
+use borrow.Author.Tests.{lt-ltb, le-ltb}
 use Rattle.bounded.specs.Bounded.{at, any, tab}
 use Rattle.bounded.proofs.Any.{any-eq}
 use Rattle.bounded.proofs.Sum.{cell-row, cell-column}
@@ -31,14 +31,14 @@ use Rattle.bounded.proofs.Tab.{length-tab, tab-at, tab-is}
 use Rattle.bounded.proofs.Part.{tab-part}
 use Rattle.field.specs.Prime.{isPrime}
 use Rattle.definitions.specs.Refusals.{_when_, first}
-use Rattle.definitions.specs.Plan.{planBytes, modulus, rowPoint, columnPoint, filled, unfit, misplaced}
+use Rattle.definitions.specs.Plan.{planBytes, modulus, rowPoint, columnPoint, filled, unfit, unrisen, misplaced}
 use Rattle.definitions.specs.Plan.{planRows, checkNumber}
 use Rattle.definitions.specs.Printed.{refusedLine}
 use Rattle.definitions.specs.Tray.{HoldsFirst}
 use Rattle.definitions.specs.Widening.{narrowBytes, mostPlans, narrowPlan, widened, widenedAll, fileRows, widenRows}
 use Rattle.definitions.specs.Widening.{widenNumber, widenBuffer, widenText, narrowRows, narrowNumber, cleared}
 use Rattle.definitions.specs.Demands.{Widened, WidenedInOrder}
-use Rattle.definitions.proofs.Refusals.{Stops, numberAt, first-at, first-clear, otherwise, equal, neither}
+use Rattle.definitions.proofs.Refusals.{Stops, numberAt, first-at, first-clear, otherwise, equal}
 
 -- byte c of a widened plan
 abbrev source : List ℕ → ℕ → ℕ
@@ -91,24 +91,25 @@ module _ (Q : List ℕ) where
   column-point i l = sym (wide-columns (5 + i) (22 + i) (omega arith) (omega arith) (omega arith))
 
 -- the points of two plans, placed alike
-points-alike : (P Q : List ℕ) (a b n : ℕ) → n ≤ 16 → modulus P ≡ modulus Q → ((i : ℕ) → i < 16 → at P (a + i) ≡ at Q (b + i)) →
+points-alike : (P Q : List ℕ) (a b n : ℕ) → modulus P ≡ modulus Q → ((i : ℕ) → i < 16 → at P (a + i) ≡ at Q (b + i)) →
     misplaced P a n ≡ misplaced Q b n
-points-alike P Q a b n l m h =
-    ap₂ _||_ (any-eq n λ i k. ap₂ leb m (h i (omega arith)))
-    (ap₂ _||_ (any-eq (n - 1) λ i k. ap₂ leb (h (i + 1) (omega arith)) (h i (omega arith)))
-    (any-eq (16 - n) λ i k. rw (add-assoc a n i, add-assoc b n i) (ap (ltb 0) (h (n + i) (omega arith)))))
+points-alike P Q a b n m h = any-eq 16 λ i k. ap₂ (cond (ltb i n)) (ap₂ _||_ (ap₂ leb m (h i k)) (alike i k)) (ap (ltb 0) (h i k))
+  where
+    alike : (i : ℕ) → i < 16 → unrisen P a i ≡ unrisen Q b i
+    alike zero k = refl
+    alike (suc i) k = ap₂ leb (h (suc i) k) (h i (omega arith))
 
 -- what is wrong with a plan that has the same each way: not prime, too large, n unfit, d too large, the points
-rows-agree : (t v u d x y z : Bool) → (u ≡ false → (x ≡ z) × (y ≡ z)) →
+rows-agree : (t v u d x y z : Bool) → x ≡ z → y ≡ z →
     first ((2 when t) ∷ (2 when v) ∷ (3 when u) ∷ (13 when u) ∷ (4 when d) ∷ (5 when x) ∷ (5 when y) ∷ [])
     ≡ first ((2 when t) ∷ (2 when v) ∷ (3 when u) ∷ (4 when d) ∷ (5 when z) ∷ [])
 unfolding first
-rows-agree true v u d x y z h = refl
-rows-agree false true u d x y z h = refl
-rows-agree false false true d x y z h = refl
-rows-agree false false false true x y z h = refl
-rows-agree false false false false x y true h = rw (h refl .0)
-rows-agree false false false false x y false h = rw (h refl .0, h refl .1)
+rows-agree true v u d x y z e f = refl
+rows-agree false true u d x y z e f = refl
+rows-agree false false true d x y z e f = refl
+rows-agree false false false true x y z e f = refl
+rows-agree false false false false x y true e f = rw e
+rows-agree false false false false x y false e f = rw (e, f)
 
 -- R has the 21 bytes that count of Q, and zeros behind them
 module _ (Q R : List ℕ) (e : length R ≡ narrowBytes) (z : filled R 21 3 ≡ false) (h : (i : ℕ) → i < 21 → at R i ≡ at Q i) where
@@ -118,11 +119,9 @@ module _ (Q R : List ℕ) (e : length R ≡ narrowBytes) (z : filled R 21 3 ≡ 
       let p = at Q 2 in
       let n = at Q 3 in
       let m : min n n ≡ n = omega arith in
-      rows-agree (not (isPrime p)) (ltb 251 p) (unfit p n) (leb (min n n) (at Q 4)) _ _ (misplaced R 5 n) (λ u.
-      let l = ltb-false 16 n (neither (ltb 16 n) _ (neither (eqb n 0) _ u .1) .0) in (
-        points-alike (widened Q) R 6 5 n l (sym (h 2 (lit< tt))) (λ i k. row-point Q i k ∙ sym (h (5 + i) (omega arith))),
-        points-alike (widened Q) R 22 5 n l (sym (h 2 (lit< tt))) (λ i k. column-point Q i k ∙ sym (h (5 + i) (omega arith))),
-      ))
+      rows-agree (not (isPrime p)) (ltb 251 p) (unfit p n) (leb (min n n) (at Q 4)) _ _ (misplaced R 5 n)
+      (points-alike (widened Q) R 6 5 n (sym (h 2 (lit< tt))) λ i k. row-point Q i k ∙ sym (h (5 + i) (omega arith)))
+      (points-alike (widened Q) R 22 5 n (sym (h 2 (lit< tt))) λ i k. column-point Q i k ∙ sym (h (5 + i) (omega arith)))
       ∙ rw (equal _ _ e, z, h 2 (lit< tt), h 3 (lit< tt), h 4 (lit< tt), m)
 
 module _ (Q : List ℕ) (e : length Q ≡ narrowBytes) where

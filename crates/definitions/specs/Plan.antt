@@ -5,17 +5,18 @@
 --   rows, columns             how many points there are each way
 --   rowPoint, columnPoint     the i-th row point and the j-th column point, counted from 0
 --   side P i, point P i j     how many points coordinate i has, and the j-th of them; X is coordinate 0
---   filled, large, unordered  what is wrong with n bytes from byte a on: one is not 0; one is p or more; of n + 1, one after the
---                             first is not above the one before it
+--   filled P a n              of the n bytes from byte a on, one is not 0
 --   unfit p n                 refusals 3 and 13, of n points
---   misplaced P a n           refusal 5, of n points in the sixteen bytes from byte a on
+--   unrisen P a i             byte i of those from byte a on is not above the one before it
+--   wrongPoint P a n i        byte i of the sixteen from byte a on, of which the first n are points, is wrong
+--   misplaced P a n           refusal 5, of these sixteen
 --   planRows                  refusals 1 to 5 and 13, in the table's order
 --   checkNumber               what checking a plan returns; a plan is sound where it is 0
 --
 -- What this file is for: which plans are sound, and which number an unsound one gets.
-use mathlib.Core.Bool.{Bool, not, _||_}
+use mathlib.Core.Bool.{Bool, false, not, _||_, cond}
 use mathlib.Core.List.{List, [], _∷_}
-use Prim.Native.Nat.{ℕ, zero, suc, _+_, _*_, _-_, min}
+use Prim.Native.Nat.{ℕ, zero, suc, _+_, _*_, min}
 use lib.Dec.{eqb, ltb, leb}
 use lib.ListN.{length}
 use Rattle.bounded.specs.Bounded.{at, any}
@@ -57,19 +58,20 @@ point P (suc i) = columnPoint P
 abbrev pub filled : List ℕ → (a n : ℕ) → Bool
 filled P a n = any n λ i. ltb 0 (at P (a + i))
 
-abbrev pub large : List ℕ → (a n : ℕ) → Bool
-large P a n = any n λ i. leb (modulus P) (at P (a + i))
-
-abbrev pub unordered : List ℕ → (a n : ℕ) → Bool
-unordered P a n = any n λ i. leb (at P (a + (i + 1))) (at P (a + i))
-
 -- none, above 16, or more than p
 abbrev pub unfit : (p n : ℕ) → Bool
 unfit p n = eqb n 0 || (ltb 16 n || ltb p n)
 
--- a point is p or more, or not above the one before it, or an unused byte is not 0
+abbrev pub unrisen : List ℕ → (a i : ℕ) → Bool
+unrisen P a zero = false
+unrisen P a (suc i) = leb (at P (a + suc i)) (at P (a + i))
+
+-- a point is p or more, or not above the one before it; an unused byte is not 0
+abbrev pub wrongPoint : List ℕ → (a n i : ℕ) → Bool
+wrongPoint P a n i = cond (ltb i n) (leb (modulus P) (at P (a + i)) || unrisen P a i) (ltb 0 (at P (a + i)))
+
 abbrev pub misplaced : List ℕ → (a n : ℕ) → Bool
-misplaced P a n = large P a n || (unordered P a (n - 1) || filled P (a + n) (16 - n))
+misplaced P a n = any 16 (wrongPoint P a n)
 
 unfoldable pub planRows : List ℕ → List Refusal
 planRows P =

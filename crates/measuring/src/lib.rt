@@ -30,11 +30,9 @@ pub fn measure_mark(plan: Plan, record: &[u8], symbols: &[u8], doubts: &[u8]) ->
         r ≡ readingOf oblong P (now (symbols .entry)) (now (doubts .entry)) (now («record» .entry))) ⌝ }
 {
     let g = plan.grid;
-    let x = g.x;
-    let xs = evaluation::powers(x, g.d, g.p, g.m);
-    let columns = bivariate::columns(record, &xs, g.d, g.p, g.m);
-    let y = g.y;
-    let ys = evaluation::powers(y, g.d, g.p, g.m);
+    let mut columns = [[0u16; 16]; 16];
+    let mut ys = [[0u16; 16]; 16];
+    bivariate::prepare(record, g, &mut columns, &mut ys);
     let tally = measure_rows(g, &columns, &ys, symbols, doubts);
     let radius = limit::radius(g);
     answers::reading(radius, tally.cost, tally.differing, symbols)

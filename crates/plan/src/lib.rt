@@ -6,10 +6,12 @@ use field::bytes;
 use field::rows::reciprocal;
 use polynomial::Grid;
 ghost use mathlib.Core.Path.{_≡_};
-ghost use Prim.Native.Nat.{_+_, _*_, _-_, _≤_, _<_, min};
+ghost use mathlib.Core.Bool.{_&&_, _||_, cond};
+ghost use Prim.Native.Nat.{_+_, _*_, _≤_, _<_, min};
 ghost use denote.Ref.{ptr};
+ghost use lib.Dec.{ltb, leb};
 ghost use lib.ListN.{length};
-ghost use Rattle.definitions.specs.Plan.{planBytes, unordered, unfit, misplaced, checkNumber};
+ghost use Rattle.definitions.specs.Plan.{planBytes, unfit, misplaced, checkNumber};
 ghost use Rattle.definitions.specs.Sound.{Sound};
 ghost use Rattle.definitions.specs.Finder.{findNumber, findOffset, findBytes, addressAt};
 ghost use Rattle.plan.specs.Says.{Says};
@@ -49,10 +51,10 @@ pub fn check(plan: &[u8]) -> u32
     if smaller(rows, columns) <= plan[5] {
         return 4;
     }
-    if is_misplaced(plan, 6, rows as usize) {
+    if is_misplaced(plan, 6, rows) {
         return 5;
     }
-    if is_misplaced(plan, 22, columns as usize) {
+    if is_misplaced(plan, 22, columns) {
         return 5;
     }
     0
@@ -75,30 +77,28 @@ fn smaller(a: u8, b: u8) -> u8
     b
 }
 
-// Whether, of n points in the sixteen bytes from byte a on, one is p or more or not above the one before it, or an unused byte is
-// not 0.
-fn is_misplaced(plan: &[u8], a: usize, n: usize) -> bool
-    requires { ⌜ (length (now plan) ≡ planBytes) × (a + 16 ≤ planBytes) × (0 < n) × (n ≤ 16) ⌝ }
+// Whether one of the sixteen bytes from byte a on, of which the first n are points, is wrong.
+fn is_misplaced(plan: &[u8], a: usize, n: u8) -> bool
+    requires { ⌜ (length (now plan) ≡ planBytes) × (0 < a) × (a + 16 ≤ planBytes) ⌝ }
     ensures { λ r. ⌜ r ≡ misplaced (now (plan .entry)) a n ⌝ }
 {
-    let end = a + n;
-    let large = bytes::reaches(&plan[a..end], plan[2]);
-    let unordered = is_unordered(plan, a, n);
-    let filled = bytes::reaches(&plan[end..a + 16], 1);
-    large | (unordered | filled)
-}
-
-// Whether, of n points from byte a on, one is not above the one before it.
-fn is_unordered(plan: &[u8], a: usize, n: usize) -> bool
-    requires { ⌜ (length (now plan) ≡ planBytes) × (a + n ≤ planBytes) × (0 < n) ⌝ }
-    ensures { λ r. ⌜ r ≡ unordered (now (plan .entry)) a (n - 1) ⌝ }
-{
-    let steps = n - 1;
+    let p = plan[2];
     let mut found = false;
-    for i in 0..steps {
-        found = found | (plan[a + (i + 1)] <= plan[a + i]);
+    for i in 0..16 {
+        let at = a + i as usize;
+        found = found | is_wrong_point(plan[at], plan[at - 1], i, n, p);
     }
     found
+}
+
+// Byte i of them: a point is p or more, or not above the one before it, and the first is above any; an unused byte is not 0.
+fn is_wrong_point(byte: u8, before: u8, i: u8, n: u8, p: u8) -> bool
+    ensures { λ r. ⌜ r ≡ cond (ltb i n) (leb p byte || (ltb 0 i && leb byte before)) (ltb 0 byte) ⌝ }
+{
+    if i < n {
+        return (p <= byte) | ((0 < i) & (byte <= before));
+    }
+    0 < byte
 }
 
 // What a sound plan says.

@@ -1,8 +1,10 @@
 -- The laws of rows of powers, and of the sums of their multiples.
 --
---   equal-rows                  rows that have one number everywhere
+--   equal-rows, zero-rows       rows that have one number everywhere, and those of a grid that have 0
 --   powers-less                 the powers up to a degree serve a lower one
---   powers-start, powers-first, powers-step   the first row is all ones, and each is the one before times the points
+--   powers-start, start-rows, start-points
+--                               the first two rows are all ones and the points
+--   powers-step                 the product of two rows has the sum of their powers
 --   terms rows w i j            the first i terms at point j, by the rows and the coefficients w, not reduced
 --   terms-none, terms-more      none, and one term more, as a loop makes them
 --   terms-row, term-fits        the sums are small, and one term more can be added
@@ -13,20 +15,23 @@
 use mathlib.Core.Path.{_≡_, refl, sym, ap, _∙_}
 use mathlib.Core.List.{List, []}
 use Prim.Native.Nat.{ℕ, zero, suc, _+_, _*_, _-_, _%_, _^_, _≤_, _<_}
-use native.Mathlib.Numerals.{add-one}
 use native.Mathlib.Omega.{arith}
 use native.Mathlib.Nat.{le-of-lt, mod-eq-of-lt, pow-zero, pow-suc}
-use lib.ListN.{getD, replicate, getD-replicate}
+use lib.ListN.{getD, set, replicate, length-set, getD-replicate}
+use lib.Seq.{getD-set-same}
+use lib.Pow.{pow-add}
 use Rattle.bounded.specs.Bounded.{at, sum}
 use Rattle.bounded.proofs.Sum.{sum-le, sum-const, sum-more}
 use Rattle.bounded.proofs.Tab.{length-tab, tab-is, tab-eq}
 use Rattle.field.specs.Congruence.{Cong}
 use Rattle.field.specs.Row.{row, Row}
 use Rattle.field.proofs.Congruence.{same, _⨾_, ~add, ~mul, ~mul-right, cong-mod}
-use Rattle.field.proofs.Loop.{upto-less}
+use Rattle.field.proofs.Loop.{upto-start, upto-step, upto-put, upto-less}
 use Rattle.field.proofs.Reciprocal.{product-fits}
-use Rattle.field.proofs.Row.{row-at, row-of, result-cong}
+use Rattle.field.proofs.Row.{row-at, row-of, result-row, result-cong}
 use Rattle.polynomial.specs.Eval.{eval}
+use Rattle.polynomial.specs.declared.Grid.{Grid}
+use Rattle.polynomial.specs.Fit.{Fit}
 use Rattle.polynomial.specs.Powers.{Rows, Powers}
 
 -- rows that have one number everywhere
@@ -37,23 +42,40 @@ equal-rows v h = record {
       (row-of (omega arith) refl λ j k. rw (getD-replicate {A = ℕ} 16 j v 0 k) h);
 }
 
+pub zero-rows : {g : Grid} → Fit g → Rows (g .p) (replicate 16 (replicate {A = ℕ} 16 0))
+zero-rows f = equal-rows 0 (omega (arith, f .reciprocal .least))
+
 pub powers-less : (p : ℕ) (x : List ℕ) {d k : ℕ} {rows : List (List ℕ)} → k ≤ d → Powers p x d rows → Powers p x k rows
 powers-less p x h P = upto-less (omega arith) P
 
-pub powers-start : {p : ℕ} (x : List ℕ) → 1 < p → replicate 16 1 ≡ row (λ j. at x j ^ 0 % p)
-powers-start {p} x h = tab-is 16 _ (replicate 16 1) refl λ j l.
+-- the powers 0 and 1
+ones : {p : ℕ} (x : List ℕ) → 1 < p → replicate 16 1 ≡ row (λ j. at x j ^ 0 % p)
+ones {p} x h = tab-is 16 _ (replicate 16 1) refl λ j l.
     getD-replicate 16 j 1 0 l ∙ sym (ap (λ v. v % p) (pow-zero (at x j)) ∙ mod-eq-of-lt h)
 
-pub powers-first : {p : ℕ} (x : List ℕ) → 1 < p → Powers p x 0 (replicate 16 (replicate {A = ℕ} 16 1))
-powers-first x h = record {
-  size = refl;
-  done = λ t l. let e : t ≡ 0 = omega arith in rw e (powers-start x h);
-}
+points : {p : ℕ} (x : List ℕ) → Row p x → x ≡ row (λ j. at x j ^ 1 % p)
+points {p} x R = tab-is 16 _ x (R .size) λ j l.
+    sym (ap (λ v. v % p) (pow-suc (at x j) 0 ∙ rw (pow-zero (at x j)) (omega arith)) ∙ mod-eq-of-lt (R .small j))
 
-pub powers-step : {p : ℕ} (t : ℕ) (x : List ℕ) {v l : List ℕ} → 0 < p → v ≡ row (λ j. at x j ^ t % p) →
-    l ≡ row (λ j. at v j * at x j % p) → l ≡ row (λ j. at x j ^ (t + 1) % p)
-powers-step t x z e f = f ∙ rw (add-one t)
-    (tab-eq 16 λ j k. cong-mod z (~mul-right (at x j) (result-cong _ z e j k) ⨾ same (sym (pow-suc (at x j) t))))
+-- any rows of residues with these two set
+module _ {p : ℕ} (x : List ℕ) {rows : List (List ℕ)} (h : 1 < p) (X : Row p x) (R : Rows p rows) where
+  pub powers-start : Powers p x 1 (set (set rows 0 (replicate 16 1)) 1 x)
+  powers-start = upto-step {l = set rows 0 (replicate 16 1)} x (omega arith) (points x X)
+      (upto-step {l = rows} (replicate 16 1) (omega arith) (ones x h) (upto-start (R .size)))
+
+  pub start-rows : Rows p (set (set rows 0 (replicate 16 1)) 1 x)
+  start-rows = upto-put {i = 1} x (omega arith) X
+      (upto-put {i = 0} (replicate 16 1) (omega arith) (result-row _ (omega arith) (ones x h)) R)
+
+  -- the points are found in row 1
+  pub start-points : getD (set (set rows 0 (replicate 16 1)) 1 x) 1 [] ≡ x
+  start-points = getD-set-same (set rows 0 (replicate 16 1)) 1 x []
+      (omega (arith, length-set rows 0 (replicate 16 1), R .size))
+
+pub powers-step : {p : ℕ} (h k : ℕ) (x : List ℕ) {v w l : List ℕ} → 0 < p → v ≡ row (λ j. at x j ^ h % p) →
+    w ≡ row (λ j. at x j ^ k % p) → l ≡ row (λ j. at v j * at w j % p) → l ≡ row (λ j. at x j ^ (h + k) % p)
+powers-step h k x {w} z e f g = g ∙ tab-eq 16 λ j i. cong-mod z
+    (~mul-right (at w j) (result-cong _ z e j i) ⨾ ~mul (at x j ^ h) (result-cong _ z f j i) ⨾ same (sym (pow-add (at x j) h k)))
 
 -- the first i terms of the values at point j, by the rows and the coefficients w, not reduced
 abbrev pub terms : (rows : List (List ℕ)) (w : ℕ → ℕ) (i j : ℕ) → ℕ

@@ -1,5 +1,6 @@
 // The polynomial in X and Y that a message, a flat record of document 01, holds, and its values row by row: first X is put in,
 // for all rows at once, which leaves the coefficients of the powers of Y; then Y, a row at a time.
+use crate::Grid;
 use crate::evaluation;
 ghost use mathlib.Core.Path.{_≡_};
 ghost use mathlib.Core.Bool.{cond};
@@ -12,6 +13,7 @@ ghost use Rattle.field.specs.Row.{row, Row, Reciprocal};
 ghost use Rattle.polynomial.specs.Record.{start as startOf, place as placeOf, coef, valueXY};
 ghost use Rattle.field.specs.Word.{Word};
 ghost use Rattle.polynomial.specs.Powers.{Rows, Powers, Columns};
+ghost use Rattle.polynomial.specs.Fit.{Fit};
 
 // The length of the longest record, that of degree 15.
 pub const LONGEST: usize = 136;
@@ -48,25 +50,41 @@ fn coefficient_of_y(message: &[u8], d: usize, t: usize) -> [u16; 16]
     out
 }
 
-// Row t has, for each of the row points whose powers are given, the coefficient of Y^t there; the rows above d are 0.
-pub fn columns(
+// Row t gets, for each of the row points whose powers are given, the coefficient of Y^t there.
+fn set_columns(
+    columns: &mut [[u16; 16]; 16],
     message: &[u8],
     powers: &[[u16; 16]; 16],
     d: usize,
     p: u16,
     m: u16,
-) -> [[u16; 16]; 16]
-    requires { ⌜ Reciprocal p m × Rows p (now powers) × Word p (startOf (suc d)) (now message) × (d < 16) ⌝ }
-    ensures { λ r. ⌜ Rows p r × ((x : List ℕ) → Powers p x d (now (powers .entry)) → Columns p d x (now (message .entry)) r) ⌝ }
+)
+    requires { ⌜ Reciprocal p m × Rows p (now powers) × Word p (startOf (suc d)) (now message) × (d < 16)
+        × Rows p (now columns) ⌝ }
+    ensures { λ _. ⌜ Rows p (now (columns .exit)) × ((x : List ℕ) → Powers p x d (now (powers .entry)) →
+        Columns p d x (now (message .entry)) (now (columns .exit))) ⌝ }
 {
-    let mut out = [[0u16; 16]; 16];
     let mut t = 0;
     while t <= d {
         let w = coefficient_of_y(message, d, t);
-        out[t] = evaluation::values(powers, d - t, w, p, m);
+        columns[t] = evaluation::values(powers, d - t, w, p, m);
         t += 1;
     }
-    out
+}
+
+// What the values of a message on a grid are made of: its columns, and the powers of the column points. Both tables are lent,
+// since a table that is handed back is copied.
+pub fn prepare(message: &[u8], g: Grid, columns: &mut [[u16; 16]; 16], ys: &mut [[u16; 16]; 16])
+    requires { ⌜ Fit g × Word (g .p) (startOf (suc (g .d))) (now message) × Rows (g .p) (now columns) × Rows (g .p) (now ys) ⌝ }
+    ensures { λ _. ⌜ Rows (g .p) (now (columns .exit)) × Columns (g .p) (g .d) (g .x) (now (message .entry)) (now (columns .exit))
+        × Rows (g .p) (now (ys .exit)) × Powers (g .p) (g .y) (g .d) (now (ys .exit)) ⌝ }
+{
+    let x = g.x;
+    let mut xs = [[0u16; 16]; 16];
+    evaluation::set_powers(&mut xs, x, g.d, g.p, g.m);
+    set_columns(columns, message, &xs, g.d, g.p, g.m);
+    let y = g.y;
+    evaluation::set_powers(ys, y, g.d, g.p, g.m);
 }
 
 // Place r of each row.

@@ -8,20 +8,29 @@ ghost use Rattle.field.specs.Row.{row, Row, Reciprocal};
 ghost use Rattle.polynomial.specs.Eval.{eval};
 ghost use Rattle.polynomial.specs.Powers.{Rows, Powers};
 
-// Row t has the powers t of the points x, t from 0 to d.
+// Row t gets the powers t of the points x, t from 0 to d. Each is the product of two of about half the power, so that few
+// products wait for one another.
+pub fn set_powers(rows: &mut [[u16; 16]; 16], x: [u16; 16], d: usize, p: u16, m: u16)
+    requires { ⌜ Reciprocal p m × Row p x × (d < 16) × Rows p (now rows) ⌝ }
+    ensures { λ _. ⌜ Rows p (now (rows .exit)) × Powers p x d (now (rows .exit)) ⌝ }
+{
+    rows[0] = [1; 16];
+    rows[1] = x;
+    let mut t = 2;
+    while t <= d {
+        let half = t / 2;
+        rows[t] = field::rows::multiply(rows[half], rows[t - half], p, m);
+        t += 1;
+    }
+}
+
+// The same, as a table of its own.
 pub fn powers(x: [u16; 16], d: usize, p: u16, m: u16) -> [[u16; 16]; 16]
     requires { ⌜ Reciprocal p m × Row p x × (d < 16) ⌝ }
     ensures { λ r. ⌜ Rows p r × Powers p x d r ⌝ }
 {
-    let mut power = [1; 16];
-    let mut rows = [power; 16];
-    let mut t = 0;
-    while t < d {
-        let next = field::rows::multiply(power, x, p, m);
-        t += 1;
-        rows[t] = next;
-        power = next;
-    }
+    let mut rows = [[0; 16]; 16];
+    set_powers(&mut rows, x, d, p, m);
     rows
 }
 

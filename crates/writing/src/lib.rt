@@ -22,11 +22,9 @@ pub fn write_mark(plan: Plan, record: &[u8], mark: &mut [u8])
     ensures { λ _. ⌜ ((P : List ℕ) → Says P plan → now (mark .exit) ≡ markOf oblong P (now («record» .entry))) ⌝ }
 {
     let g = plan.grid;
-    let x = g.x;
-    let xs = evaluation::powers(x, g.d, g.p, g.m);
-    let columns = bivariate::columns(record, &xs, g.d, g.p, g.m);
-    let y = g.y;
-    let ys = evaluation::powers(y, g.d, g.p, g.m);
+    let mut columns = [[0u16; 16]; 16];
+    let mut ys = [[0u16; 16]; 16];
+    bivariate::prepare(record, g, &mut columns, &mut ys);
     write_rows(g, &columns, &ys, mark);
 }
 

@@ -7,6 +7,7 @@ use Rattle.bounded.specs.Bounded.{at}
 use Rattle.definitions.specs.Code.{oblong, cells, value}
 use Rattle.definitions.specs.Cost.{full}
 use Rattle.plan.specs.Says.{Says}
+use Rattle.polynomial.proofs.Powers.{zero-rows}
 use Rattle.plan.proofs.Ready.{ready}
 use Rattle.plan.proofs.Values.{record-word, mark-cells, mark-radius}
 use Rattle.answers.proofs.Summary.{few-cells, unread-within, summary-is}
@@ -17,41 +18,34 @@ use Rattle.measuring.proofs.measure_mark.Tie as tie
 
 -- the rows are measured
 module _ (c : tie.After-measure-rows) where
-  abbrev ys : tie.After-powers2
-  ys = c .before .before .before
-
-  abbrev columns : tie.After-columns
-  columns = ys .before .before
-
-  abbrev xs : tie.After-powers
-  xs = columns .before .before
+  abbrev made : tie.After-prepare
+  made = c .before .before .before
 
   abbrev start : tie.Start
-  start = xs .before .before .before .before .before .before
+  start = made .before .before .before .before .before .before .before
 
   measured : {P : List ℕ} → Says P (start .args .plan) → Measured full (cells oblong P) (at (start .args .symbols .now))
       (at (start .args .doubts .now)) (value oblong P (start .args .«record» .now)) (c .measure-rows .result .cost)
       (c .measure-rows .result .differing)
   measured says =
       let g = start .args .plan .grid in
-      mark-measured says (start .args .«record» .now) (c .measure-rows .ensures .1 (g .x) (g .y) _
-      (columns .columns .ensures .1 (g .x) (xs .powers .ensures .1)) (ys .powers2 .ensures .1))
+      let (_, columns, _, ys) = made .prepare .ensures in
+      mark-measured says (start .args .«record» .now) (c .measure-rows .ensures .1 (g .x) (g .y) _ columns ys)
 
-columns-requires : tie.Need-columns-requires
-columns-requires c κs =
-    let powers = c .before in
-    let (P, says, photo, given) = powers .before .before .before .before .before .before .pre in
-    let g = ready says .fit in
-    (g .reciprocal, powers .powers .ensures .0, record-word says given, omega (arith, g .low, g .rows))
+prepare-requires : tie.Need-prepare-requires
+prepare-requires c κs =
+    let (P, says, photo, given) = c .before .before .before .before .before .before .pre in
+    let f = ready says .fit in
+    (f, record-word says given, zero-rows f, zero-rows f)
 
 measure-rows-requires : tie.Need-measure-rows-requires
 measure-rows-requires c κs =
-    let ys = c .before .before in
-    let columns = ys .before .before in
-    let (P, says, photo, given) = columns .before .before .before .before .before .before .before .before .pre in (
+    let made = c .before .before in
+    let (P, says, photo, given) = made .before .before .before .before .before .before .before .pre in
+    let (columns, _, ys, _) = made .prepare .ensures in (
       ready says .fit,
-      columns .columns .ensures .0,
-      ys .powers2 .ensures .0,
+      columns,
+      ys,
       photo .symbols ∙ mark-cells says,
       photo .doubts ∙ mark-cells says,
       λ i l. rw (says .fields) (photo .doubt i (rw (says .fields) at l)),
@@ -82,15 +76,7 @@ pub measure-mark-spec : {M : Type 1} → statement M
 measure-mark-spec =
     tie.close
     (tie.spec
-    (λ c κs.
-    let (P, says, photo, given) = c .before .before .before .before .before .pre in
-    let g = ready says .fit in
-    (g .reciprocal, g .rowPoints, omega (arith, g .low, g .rows)))
-    columns-requires
-    (λ c κs.
-    let (P, says, photo, given) = c .before .before .before .before .before .before .before .before .before .pre in
-    let g = ready says .fit in
-    (g .reciprocal, g .columnPoints, omega (arith, g .low, g .rows)))
+    prepare-requires
     measure-rows-requires
     radius-requires
     reading-requires

@@ -1,33 +1,13 @@
 -- `plan::check` meets its contract: at each return the tests before it failed, and its own holds. Assumes nothing.
-use mathlib.Core.List.{List}
-use Prim.Native.Nat.{ℕ}
 use native.Mathlib.Omega.{arith}
 use borrow.Author.Tests.{lt-ltb, le-ltb}
-use Rattle.definitions.specs.Plan.{modulus, rows, columns, planRows}
-use Rattle.definitions.specs.Sound.{IsSide}
+use Rattle.definitions.specs.Plan.{planRows}
 use Rattle.definitions.proofs.Refusals.{_&_, equal, unequal, answered, answered-not}
-use Rattle.definitions.proofs.Sound.{fits, check-at}
+use Rattle.definitions.proofs.Sound.{check-at}
 use Rattle.plan.proofs.Reached.{low, high, spare-reached}
 use borrow.Author.Needs.{needs}
 use Rattle.plan.proofs.check.Statement.{statement}
 use Rattle.plan.proofs.check.Tie as tie
-
--- both sides were found to fit
-module _ (c : tie.Else6) where
-  abbrev tall-known : tie.Else5
-  tall-known = c .before .before .before
-
-  abbrev whole-known : tie.Else1
-  whole-known = tall-known .before .before .before .before .before .before .before .before .before .before
-
-  abbrev P : List ℕ
-  P = whole-known .before .before .args .plan .now
-
-  tall : IsSide (modulus P) (rows P)
-  tall = fits _ _ (answered (tall-known .before .is-unfit .ensures) (tall-known .if5 .left))
-
-  wide : IsSide (modulus P) (columns P)
-  wide = fits _ _ (answered (c .before .is-unfit2 .ensures) (c .if6 .left))
 
 ruleset tests = (spare-reached, low, high, answered, answered-not, equal, unequal, lt-ltb, le-ltb)
 
@@ -94,14 +74,8 @@ check-spec =
     returns-6
     (λ c κs. search needs) (λ c. search needs)
     returns-7
-    (λ c. omega (arith, tall (c .before .before .before) .most))
-    (λ c κs.
-    let s = c .before .before .before in
-    (whole-known s .if1 .left, omega arith, omega (arith, tall s .some), tall s .most))
+    (λ c κs. search needs)
     returns-8
-    (λ c. omega (arith, wide (c .before .before .before .before .before) .most))
-    (λ c κs.
-    let s = c .before .before .before .before .before in
-    (whole-known s .if1 .left, omega arith, omega (arith, wide s .some), wide s .most))
+    (λ c κs. search needs)
     returns-9
     returns-10)

@@ -1,29 +1,42 @@
--- `plan::is_misplaced` meets its contract: each part of the test is asked of its part of the plan. Assumes nothing.
-use mathlib.Core.Path.{ap₂}
-use mathlib.Core.Bool.{_||_}
+-- `plan::is_misplaced` meets its contract: what is found is whether one of the first i bytes is wrong. Assumes nothing.
+use mathlib.Core.Path.{_≡_, sym}
+use Prim.Native.Nat.{_-_, _≤_}
 use native.Mathlib.Omega.{arith}
-use Rattle.plan.proofs.Reached.{points-reached, unused-reached}
+use Rattle.bounded.specs.Bounded.{any}
+use Rattle.bounded.proofs.Any.{any-start, any-next}
+use Rattle.definitions.specs.Plan.{wrongPoint}
+use Rattle.plan.proofs.Reached.{point-tested}
 use borrow.Author.Needs.{needs}
 use Rattle.plan.proofs.is_misplaced.Statement.{statement}
 use Rattle.plan.proofs.is_misplaced.Tie as tie
 
-returns : tie.Need-returns
+abbrev Inv-loop : tie.InvT-loop
+Inv-loop plan a n p found₀ i₀ found i = (i ≤ 16) × (found ≡ any i (wrongPoint plan a n))
+
+abbrev μ-loop : tie.MeasureT-loop
+μ-loop plan a n p found₀ i₀ found i = 16 - i
+
+loop-again : tie.Need-loop-again Inv-loop μ-loop
+loop-again c =
+    let b = c .before .before .before .before in
+    let s = b .before .before .before .args in
+    let tested = point-tested (s .plan .now) (s .a) (s .n) (b .loop .i) (c .is-wrong-point .ensures) in
+    (omega arith, any-next _ _ (b .loop .inv .1) tested)
+
+returns : tie.Need-returns Inv-loop μ-loop
 returns c =
-    let unordered = c .before .before in
-    let large = unordered .before in
-    let start = large .before .before .before .before in
-    let (whole, room, some, most) = start .pre in
-    let a = start .args .a in
-    let n = start .args .n in
-    ap₂ _||_ (points-reached _ whole a n (omega arith) (large .reaches .ensures))
-    (ap₂ _||_ (unordered .is-unordered .ensures)
-    (unused-reached _ whole a n most room (c .reaches2 .ensures)))
+    let e : c .before .loop .i ≡ 16 = omega arith in
+    rw e at (c .before .loop .inv .1)
 
 pub is-misplaced-spec : {M : Type 1} → statement M
 is-misplaced-spec =
     tie.close
     (tie.spec
+    Inv-loop
+    μ-loop
+    (λ c. search needs)
+    (λ c. (omega arith, sym (any-start _)))
     (λ c. search needs) (λ c. search needs) (λ c. search needs) (λ c. search needs) (λ c. search needs) (λ c κs. search needs)
-    (λ c κs. search needs) (λ c. search needs) (λ c. search needs) (λ c. search needs) (λ c. search needs)
-    (λ c κs. search needs)
+    (λ c. search needs) (λ c. search needs)
+    loop-again
     returns)

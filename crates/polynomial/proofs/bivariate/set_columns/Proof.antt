@@ -1,5 +1,5 @@
--- `polynomial::bivariate::columns` meets its contract: the columns below t are worked out. Assumes nothing.
-use mathlib.Core.Path.{_≡_, refl}
+-- `polynomial::bivariate::set_columns` meets its contract: the columns below t are worked out. Assumes nothing.
+use mathlib.Core.Path.{_≡_}
 use mathlib.Core.List.{List, []}
 use Prim.Native.Nat.{ℕ, suc, _+_, _-_, _%_, _≤_, _<_}
 use native.Mathlib.Omega.{arith}
@@ -9,19 +9,19 @@ use Rattle.field.specs.Row.{row}
 use Rattle.field.proofs.Loop.{upto-start, upto-step, upto-put}
 use Rattle.polynomial.specs.Powers.{Rows, Powers}
 use Rattle.polynomial.specs.Record.{coef, column}
-use Rattle.polynomial.proofs.Powers.{equal-rows, powers-less}
+use Rattle.polynomial.proofs.Powers.{powers-less}
 use Rattle.polynomial.proofs.Columns.{coefficients-row, column-values}
 use borrow.Author.Needs.{needs}
-use Rattle.polynomial.proofs.bivariate.columns.Statement.{statement}
-use Rattle.polynomial.proofs.bivariate.columns.Tie as tie
+use Rattle.polynomial.proofs.bivariate.set_columns.Statement.{statement}
+use Rattle.polynomial.proofs.bivariate.set_columns.Tie as tie
 
 abbrev Inv-loop : tie.InvT-loop
-Inv-loop message powers d p m out₀ t₀ out t =
-    (t ≤ d + 1) × Rows p out
-    × ((x : List ℕ) → Powers p x d powers → Upto 16 [] (λ t l. l ≡ row λ r. column d (coef message) t (at x r) % p) out t)
+Inv-loop columns₀ message powers d p m t₀ columns t =
+    (t ≤ d + 1) × Rows p columns
+    × ((x : List ℕ) → Powers p x d powers → Upto 16 [] (λ t l. l ≡ row λ r. column d (coef message) t (at x r) % p) columns t)
 
 abbrev μ-loop : tie.MeasureT-loop
-μ-loop message powers d p m out₀ t₀ out t = d + 1 - t
+μ-loop columns₀ message powers d p m t₀ columns t = d + 1 - t
 
 values-requires : tie.Need-values-requires Inv-loop μ-loop
 values-requires c κs =
@@ -54,8 +54,8 @@ returns c =
     let e : l .t ≡ suc (c .before .before .before .args .d) = omega arith in
     (l .inv .1, λ x P. rw e at (l .inv .2 x P))
 
-pub columns-spec : {M : Type 1} → statement M
-columns-spec = tie.close (tie.spec Inv-loop μ-loop
-    (λ c. (omega arith, equal-rows 0 (omega (arith, c .before .pre .0 .least)), λ x P. upto-start refl))
+pub set-columns-spec : {M : Type 1} → statement M
+set-columns-spec = tie.close (tie.spec Inv-loop μ-loop
+    (λ c. (omega arith, c .before .pre .4, λ x P. upto-start (c .before .pre .4 .size)))
     (λ c κs. search needs) values-requires (λ c. search needs) (λ c. search needs) (λ c. search needs) (λ c. search needs)
     loop-again returns)
