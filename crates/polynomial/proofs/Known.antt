@@ -7,8 +7,6 @@
 --   value-mark-is    the value of a record in X and Y
 --   value-cell       its value in a cell of a grid
 --   others-least     the smallest side times the others are all cells
---   distance-strip   the distance of a strip
---   distance-mark    the distance on a grid
 --
 -- What this file is for: laws for any number of coordinates hold of strips and of marks. Assumes nothing.
 use mathlib.Core.Path.{_≡_, refl, sym, ap, _∙_}
@@ -20,8 +18,7 @@ use native.Mathlib.Decide.{decLe}
 use Rattle.bounded.specs.Bounded.{at, sum}
 use Rattle.bounded.proofs.Sum.{sum-eq, sum-const}
 use Rattle.polynomial.specs.Record.{start as startOf, coef, valueX, valueXY, gridValue}
-use Rattle.polynomial.specs.Distance.{gridDistance}
-use Rattle.polynomial.specs.Sides.{cells, least, others, distance, cellPoint}
+use Rattle.polynomial.specs.Sides.{cells, least, others, cellPoint}
 use Rattle.polynomial.specs.Layout.{count, skip, start, value}
 
 pub start-strip : (k : ℕ) → start 0 k ≡ k
@@ -68,9 +65,3 @@ others-least (suc m) n = elim (decLe (least m n) (n (suc m))) [
       let b : min (least m n) (n (suc m)) ≡ n (suc m) = omega arith in
       rw (a, b) (omega (arith, ap (λ v. v * n (suc m)) (others-least m n)))
 ]
-
-pub distance-strip : (n : ℕ → ℕ) (d : ℕ) → distance 0 n d ≡ n 0 - d
-distance-strip n d = omega arith
-
-pub distance-mark : (n : ℕ → ℕ) (d : ℕ) → distance 1 n d ≡ gridDistance (n 0) (n 1) d
-distance-mark n d = refl

@@ -5,8 +5,10 @@
 --   powers-start, start-rows, start-points
 --                               the first two rows are all ones and the points
 --   powers-step                 the product of two rows has the sum of their powers
+--   product-small               a product of two numbers of a byte
 --   terms rows w i j            the first i terms at point j, by the rows and the coefficients w, not reduced
---   terms-none, terms-more      none, and one term more, as a loop makes them
+--   terms-none, terms-first, terms-more
+--                               none, the first, and one term more, as a loop makes them
 --   terms-row, term-fits        the sums are small, and one term more can be added
 --   terms-values                reduced, they are the polynomial's values
 --
@@ -16,7 +18,7 @@ use mathlib.Core.Path.{_≡_, refl, sym, ap, _∙_}
 use mathlib.Core.List.{List, []}
 use Prim.Native.Nat.{ℕ, zero, suc, _+_, _*_, _-_, _%_, _^_, _≤_, _<_}
 use native.Mathlib.Omega.{arith}
-use native.Mathlib.Nat.{le-of-lt, mod-eq-of-lt, pow-zero, pow-suc}
+use native.Mathlib.Nat.{le-of-lt, mul-le-mul, mod-eq-of-lt, pow-zero, pow-suc}
 use lib.ListN.{getD, set, replicate, length-set, getD-replicate}
 use lib.Seq.{getD-set-same}
 use lib.Pow.{pow-add}
@@ -77,13 +79,21 @@ pub powers-step : {p : ℕ} (h k : ℕ) (x : List ℕ) {v w l : List ℕ} → 0 
 powers-step h k x {w} z e f g = g ∙ tab-eq 16 λ j i. cong-mod z
     (~mul-right (at w j) (result-cong _ z e j i) ⨾ ~mul (at x j ^ h) (result-cong _ z f j i) ⨾ same (sym (pow-add (at x j) h k)))
 
+-- a product of two numbers of a byte
+pub product-small : {a b : ℕ} → a < 256 → b < 256 → a * b ≤ 65025
+product-small {a} {b} h k = mul-le-mul {n₁ = a} {m₁ = b} {n₂ = 255} {m₂ = 255} (omega arith) (omega arith)
+
 -- the first i terms of the values at point j, by the rows and the coefficients w, not reduced
 abbrev pub terms : (rows : List (List ℕ)) (w : ℕ → ℕ) (i j : ℕ) → ℕ
 terms rows w i j = sum i λ t. w t * at (getD rows t []) j
 
--- the sums at all points as a loop makes them: none, and one term more
+-- the sums at all points as a loop makes them: none, the first, and one term more
 pub terms-none : (rows : List (List ℕ)) (w : ℕ → ℕ) → replicate 16 0 ≡ row (terms rows w 0)
 terms-none rows w = tab-is 16 _ (replicate 16 0) refl λ j k. getD-replicate 16 j 0 0 k
+
+pub terms-first : (rows : List (List ℕ)) (w : ℕ → ℕ) {l : List ℕ} → l ≡ row (λ j. w 0 * at (getD rows 0 []) j) →
+    l ≡ row (terms rows w 1)
+terms-first rows w e = e ∙ tab-eq 16 λ j k. omega arith
 
 pub terms-more : (rows : List (List ℕ)) (w : ℕ → ℕ) (i : ℕ) {s l : List ℕ} → s ≡ row (terms rows w i) →
     l ≡ row (λ j. at s j + w i * at (getD rows i []) j) → l ≡ row (terms rows w (i + 1))

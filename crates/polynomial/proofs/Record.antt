@@ -10,7 +10,6 @@
 --   start-apart   no place is in two groups
 --   place-below   the coefficients of total degree below k stand before the group of degree k
 --   placed        in every place of a record stands a coefficient
---   record-eq     records with congruent coefficients are one
 --
 -- What this file is for: a record is read and written place by place, and its value is worked out column by column. Assumes
 -- nothing.
@@ -20,13 +19,9 @@ use Prim.Native.Nat.{ℕ, zero, suc, _+_, _*_, _-_, _%_, _^_, _≤_, _<_}
 use native.Mathlib.Omega.{arith}
 use native.Mathlib.Decide.{ℕ-discrete, decLt}
 use native.Mathlib.Numerals.{add-one}
-use native.Mathlib.Nat.{le-of-eq, mul-le-mul, mod-eq-of-lt}
+use native.Mathlib.Nat.{le-of-eq, mul-le-mul}
 use Rattle.bounded.specs.Bounded.{at, sum}
 use Rattle.bounded.proofs.Sum.{sum-eq, sum-const}
-use Rattle.bounded.proofs.Tab.{list-eq}
-use Rattle.field.specs.Congruence.{Cong}
-use Rattle.field.proofs.Congruence.{to-mod}
-use Rattle.field.specs.Word.{Word}
 use Rattle.polynomial.specs.Eval.{eval}
 use Rattle.polynomial.specs.Record.{start, place, valueX, valueXY, coef, onRow}
 use Rattle.polynomial.specs.Sides.{two}
@@ -96,11 +91,3 @@ placed d m h =
     let (k, t, a, b, e) = sum-place (suc d) (count 1) m (omega (arith, start-mark (suc d))) in
     let s : k - t + t ≡ k = omega (arith, count-mark k) in
     (k - t, t, omega arith, rw s (omega (arith, start-mark k)))
-
--- two records with the same coefficients modulo p are one
-pub record-eq : {q : ℕ} (d : ℕ) (v w : List ℕ) → Word (suc q) (start (suc d)) v → Word (suc q) (start (suc d)) w →
-    ((t i : ℕ) → i + t ≤ d → Cong q (coef v i t) (coef w i t)) → v ≡ w
-record-eq {q} d v w a b h = list-eq v w (a .size ∙ sym (b .size)) λ m k.
-    let n : m < start (suc d) = omega (arith, a .size) in
-    let (i, t, s, e) = placed d m n in
-    sym (mod-eq-of-lt (a .below m n)) ∙ rw e (to-mod (h t i s)) ∙ mod-eq-of-lt (b .below m n)

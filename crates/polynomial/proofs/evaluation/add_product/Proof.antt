@@ -1,19 +1,16 @@
 -- `polynomial::evaluation::add_product` meets its contract: the sums before j have their product added, the others are as they
 -- were. Assumes nothing.
 use mathlib.Core.Path.{_≡_, refl, ap}
-use Prim.Native.Nat.{ℕ, _+_, _*_, _-_, _≤_, _<_}
+use Prim.Native.Nat.{ℕ, _+_, _*_, _-_, _≤_}
 use native.Mathlib.Omega.{arith}
-use native.Mathlib.Nat.{mul-le-mul}
 use Rattle.bounded.specs.Bounded.{at}
 use Rattle.bounded.proofs.Tab.{tab-is}
 use Rattle.field.specs.Loop.{Passed}
 use Rattle.field.proofs.Loop.{passed-step}
+use Rattle.polynomial.proofs.Powers.{product-small}
 use borrow.Author.Needs.{needs}
 use Rattle.polynomial.proofs.evaluation.add_product.Statement.{statement}
 use Rattle.polynomial.proofs.evaluation.add_product.Tie as tie
-
-product-small : {a b : ℕ} → a < 256 → b < 256 → a * b ≤ 65025
-product-small {a} {b} h k = mul-le-mul {n₁ = a} {m₁ = b} {n₂ = 255} {m₂ = 255} (omega arith) (omega arith)
 
 abbrev Inv-loop : tie.InvT-loop
 Inv-loop sum₀ c v j₀ sum j =
