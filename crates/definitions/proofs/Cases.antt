@@ -33,7 +33,7 @@ use Rattle.definitions.specs.Tray.{trayReading, trayRecord}
 use Rattle.definitions.specs.Printed.{decimal, signed, spaced, readLine, recordLine, refusedLine, answerText, trayText}
 use Rattle.definitions.specs.Widening.{widened, widenedAll, widenRows, widenNumber, widenBuffer, widenText}
 use Rattle.definitions.specs.Cases.{effect, only, call, expected, cases, oblongCases, moreCases}
-use Rattle.definitions.specs.Cases.{planA, mark₁, photoC, photoD, hidden, doubts}
+use Rattle.definitions.specs.Cases.{planA, mark₁, photoC, photoD, hidden, doubts, nines}
 
 pub cases-hold : map effect (map call cases) ≡ map expected cases
 unfolding effect
@@ -137,11 +137,8 @@ narrow p n d x = 0 ∷ 12 ∷ p ∷ n ∷ d ∷ take 19 (x ++ replicate 19 0)
 abbrev narrowA : List ℕ
 narrowA = narrow 7 3 1 (1 ∷ 2 ∷ 4 ∷ [])
 
-abbrev lent : ℕ → List ℕ
-lent n = replicate n 9
-
 abbrev widens : List ℕ → ℕ → ℕ × List ℕ
-widens old n = (widenNumber old (lent n), widenBuffer old (lent n))
+widens old n = (widenNumber old (nines n), widenBuffer old (nines n))
 
 -- a plan by itself; one whose bytes all differ, which is not sound; two in order, the first with p 9; bytes 21 to 23 not 0; none;
 -- a byte too many and a byte too few, whatever the buffer; the buffer a byte too long, a byte too short, and one for no plan
@@ -152,7 +149,7 @@ pub widening-cases :
     ∷ widens narrowA 41 ∷ widens narrowA 39 ∷ widens [] 1 ∷ []
     ≡ (0, planA) ∷ (0, 100 ∷ 101 ∷ 102 ∷ 103 ∷ 103 ∷ 104 ∷ tab 16 (λ i. 105 + i) ++ tab 16 (λ i. 105 + i) ++ 0 ∷ 0 ∷ [])
     ∷ (0, set planA 2 9 ++ planA) ∷ (0, planA) ∷ (0, [])
-    ∷ (11, lent 40) ∷ (11, []) ∷ (11, lent 40) ∷ (6, lent 41) ∷ (6, lent 39) ∷ (6, lent 1) ∷ []
+    ∷ (11, nines 40) ∷ (11, []) ∷ (11, nines 40) ∷ (6, nines 41) ∷ (6, nines 39) ∷ (6, nines 1) ∷ []
 unfolding effect widened widenedAll widenRows widenNumber widenBuffer
 widening-cases = refl
 

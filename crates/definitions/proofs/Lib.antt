@@ -1,4 +1,4 @@
--- What follows from the definitions of document 01.
+-- What follows from the definitions.
 pub mod Cases
 pub mod Refusals
 pub mod Search

@@ -20,7 +20,7 @@ use Rattle.bounded.proofs.Sum.{sum-le, sum-const}
 use Rattle.definitions.specs.declared.Reading.{Reading}
 use Rattle.definitions.specs.Refusals.{accepted}
 use Rattle.polynomial.specs.Sides.{least, others}
-use Rattle.polynomial.proofs.Known.{others-least}
+use Rattle.polynomial.proofs.Far.{others-least}
 use Rattle.definitions.specs.Plan.{rows, columns, side, degree}
 use Rattle.definitions.specs.Code.{oblong, cells, value}
 use Rattle.definitions.specs.Cost.{full, radius, margin}

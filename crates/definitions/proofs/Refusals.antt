@@ -23,11 +23,12 @@ use mathlib.Core.Path.{_≡_, refl, sym, ap, _∙_}
 use mathlib.Core.Logic.{_≢_, inl, inr}
 use mathlib.Core.Bool.{Bool, true, false, not, _&&_, _||_, false≢true, true≢false}
 use mathlib.Core.List.{List, [], _∷_, _++_}
-use Prim.Native.Nat.{ℕ, zero, suc, _≤_}
+use Prim.Native.Nat.{ℕ, zero, suc, _≤_, _<_}
 use native.Mathlib.Omega.{arith}
 use native.Mathlib.Nat.{le-of-eq}
-use lib.Dec.{eqb, leb}
-use borrow.Author.Tests.{eq-eqb, ne-eqb, leb-true}
+use lib.Dec.{eqb, ltb, leb}
+use lib.ListN.{length}
+use borrow.Author.Tests.{eq-eqb, ne-eqb, leb-true, ltb-true}
 use Rattle.definitions.specs.Refusals.{Refusal, _when_, first, rank, Applies, Earliest, accepted}
 
 -- no row has the number 0
@@ -116,29 +117,42 @@ module _ (order : List ℕ) where
   -- the numbers of the rows stand in the order, from its m-th on: none is before the one ahead of it
   abbrev pub ordered : ℕ → List Refusal → Bool
   ordered m [] = true
-  ordered m ((k when b) ∷ rows) = leb m (rank order k) && ordered (rank order k) rows
+  ordered m ((k when b) ∷ rows) = leb m (rank order k) && (ltb (rank order k) (length order) && ordered (rank order k) rows)
 
   in-order : (m k : ℕ) (b : Bool) (rows : List Refusal) → ordered m ((k when b) ∷ rows) ≡ true →
-      (m ≤ rank order k) × (ordered (rank order k) rows ≡ true)
+      (m ≤ rank order k) × (rank order k < length order) × (ordered (rank order k) rows ≡ true)
   in-order m k b rows r =
-      let h = both (leb m (rank order k)) (ordered (rank order k) rows) r in (leb-true m (rank order k) (h .0), h .1)
+      let h = both (leb m (rank order k)) _ r in
+      let i = both (ltb (rank order k) (length order)) (ordered (rank order k) rows) (h .1) in
+      (leb-true m (rank order k) (h .0), ltb-true (rank order k) (length order) (i .0), i .1)
 
   ordered-after : (m : ℕ) (rows : List Refusal) → ordered m rows ≡ true → (j : ℕ) → Applies rows j → m ≤ rank order j
   ordered-after m ((k when b) ∷ rows) r j (inl a) = omega (arith, in-order m k b rows r .0, ap (rank order) (a .0))
   ordered-after m ((k when b) ∷ rows) r j (inr a) =
-      let h = in-order m k b rows r in omega (arith, h .0, ordered-after (rank order k) rows (h .1) j a)
+      let h = in-order m k b rows r in omega (arith, h .0, ordered-after (rank order k) rows (h .2) j a)
 
   first-before : (m : ℕ) (rows : List Refusal) → ordered m rows ≡ true → (j : ℕ) → Applies rows j →
       rank order (first rows) ≤ rank order j
   unfolding first
   first-before m ((k when true) ∷ rows) r j (inl a) = le-of-eq (ap (rank order) (a .0))
-  first-before m ((k when true) ∷ rows) r j (inr a) = ordered-after (rank order k) rows (in-order m k true rows r .1) j a
+  first-before m ((k when true) ∷ rows) r j (inr a) = ordered-after (rank order k) rows (in-order m k true rows r .2) j a
   first-before m ((k when false) ∷ rows) r j (inl a) = absurd (false≢true (a .1))
-  first-before m ((k when false) ∷ rows) r j (inr a) = first-before (rank order k) rows (in-order m k false rows r .1) j a
+  first-before m ((k when false) ∷ rows) r j (inr a) = first-before (rank order k) rows (in-order m k false rows r .2) j a
+
+  first-listed : (m : ℕ) (rows : List Refusal) → ordered m rows ≡ true → first rows ≢ 0 → rank order (first rows) < length order
+  unfolding first
+  first-listed m [] r n = absurd (n refl)
+  first-listed m ((k when true) ∷ rows) r n = in-order m k true rows r .1
+  first-listed m ((k when false) ∷ rows) r n = first-listed (rank order k) rows (in-order m k false rows r .2) n
 
   -- the first is the earliest
   pub first-earliest : (rows : List Refusal) → Numbered rows → ordered 0 rows ≡ true → Earliest order rows (first rows)
-  first-earliest rows h r = record { none = first-none rows h; applies = first-applies rows; before = first-before 0 rows r }
+  first-earliest rows h r = record {
+    none = first-none rows h;
+    applies = first-applies rows;
+    listed = first-listed 0 rows r;
+    before = first-before 0 rows r;
+  }
 
 -- a number that no row has is not given
 abbrev pub absent : ℕ → List Refusal → Bool

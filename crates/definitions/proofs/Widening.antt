@@ -5,7 +5,7 @@
 --   widened-plan                  it says what the plan said, and is sound where the plan was
 --   wideByte, widened-row         byte c of all widened plans, and the 40 bytes of plan k
 --   widened-in-order              the plans keep their order
---   widen-at                      a call that stops at row i of its refusals has that row's number
+--   widen-at, widens-exactly      a call that stops at row i of its refusals has that row's number; which it is, by the lengths
 --   widen-refused, widen-filled   a refused call leaves the buffer, any other fills it
 --   print-widened, print-refused  what `planwiden` prints, by the number of a call with a buffer of the right length
 --   room-widened                  one byte more than 1,000 plans decides, for any input, what it prints
@@ -37,8 +37,8 @@ use Rattle.definitions.specs.Printed.{refusedLine}
 use Rattle.definitions.specs.Tray.{HoldsFirst}
 use Rattle.definitions.specs.Widening.{narrowBytes, mostPlans, narrowPlan, widened, widenedAll, fileRows, widenRows}
 use Rattle.definitions.specs.Widening.{widenNumber, widenBuffer, widenText, narrowRows, narrowNumber, cleared}
-use Rattle.definitions.specs.Demands.{Widened, WidenedInOrder}
-use Rattle.definitions.proofs.Refusals.{Stops, numberAt, first-at, first-clear, otherwise, equal}
+use Rattle.definitions.specs.Demands.{WidensExactly, Widened, WidenedInOrder}
+use Rattle.definitions.proofs.Refusals.{Stops, numberAt, first-at, first-clear, otherwise, equal, unequal}
 
 -- byte c of a widened plan
 abbrev source : List ℕ → ℕ → ℕ
@@ -173,6 +173,19 @@ module _ (old wide : List ℕ) where
   pub widen-at : (i : ℕ) → Stops (widenRows old wide) i → numberAt (widenRows old wide) i ≡ widenNumber old wide
   unfolding widenNumber
   widen-at i h = first-at (widenRows old wide) i h
+
+  pub widens-exactly : WidensExactly old wide
+  unfolding widenRows
+  widens-exactly = record {
+    many = λ h. sym (widen-at 0 (lt-ltb _ _ h));
+    broken = λ h. go h (decLe (length old) (mostPlans * narrowBytes));
+    room = λ h e n. sym (widen-at 2 (le-ltb _ _ h, (equal _ _ e, unequal _ _ n)));
+    done = λ h e f. sym (widen-at 3 (le-ltb _ _ h, (equal _ _ e, (equal _ _ f, tt))));
+  }
+    where
+      go : length old % 24 ≢ 0 → Dec (length old ≤ mostPlans * narrowBytes) → widenNumber old wide ≡ 11
+      go h (yes l) = sym (widen-at 1 (le-ltb _ _ l, unequal _ _ h))
+      go h (no l) = sym (widen-at 0 (lt-ltb (mostPlans * narrowBytes) (length old) (omega arith)))
 
   pub widen-refused : widenNumber old wide ≢ 0 → widenBuffer old wide ≡ wide
   unfolding widenBuffer

@@ -73,23 +73,23 @@ far D z n k = record { number = 0; cost = D; margin = negℤ (pos z); changed = 
 abbrev plan : (p a b d : ℕ) (x y : List ℕ) → List ℕ
 plan p a b d x y = 0 ∷ 12 ∷ p ∷ a ∷ b ∷ d ∷ sixteen x ++ sixteen y ++ 0 ∷ 0 ∷ []
 
-abbrev even : (p n d : ℕ) (x : List ℕ) → List ℕ
-even p n d x = plan p n n d x x
+abbrev alike : (p n d : ℕ) (x : List ℕ) → List ℕ
+alike p n d x = plan p n n d x x
 
 abbrev pub planA : List ℕ
-planA = even 7 3 1 (1 ∷ 2 ∷ 4 ∷ [])
+planA = alike 7 3 1 (1 ∷ 2 ∷ 4 ∷ [])
 
 abbrev planH : List ℕ
-planH = even 2 1 0 (0 ∷ [])
+planH = alike 2 1 0 (0 ∷ [])
 
 abbrev planJ : List ℕ
-planJ = even 2 2 1 (0 ∷ 1 ∷ [])
+planJ = alike 2 2 1 (0 ∷ 1 ∷ [])
 
 -- two rows and three columns, and three rows and two columns
-abbrev pub planWide : List ℕ
+abbrev planWide : List ℕ
 planWide = plan 7 2 3 1 (1 ∷ 3 ∷ []) (0 ∷ 2 ∷ 5 ∷ [])
 
-abbrev pub planTall : List ℕ
+abbrev planTall : List ℕ
 planTall = plan 7 3 2 1 (0 ∷ 2 ∷ 5 ∷ []) (1 ∷ 3 ∷ [])
 
 -- 3 + X + 2Y, its mark, and the photographs of cases c and d
@@ -112,11 +112,11 @@ hidden k = replicate k 255 ++ drop k mark₁
 abbrev pub doubts : ℕ → List ℕ
 doubts k = replicate k 100 ++ drop k (sure 9)
 
-abbrev nines : ℕ → List ℕ
+abbrev pub nines : ℕ → List ℕ
 nines n = replicate n 9
 
 -- the marks of the same record by the oblong plans
-abbrev pub markWide : List ℕ
+abbrev markWide : List ℕ
 markWide = 4 ∷ 1 ∷ 0 ∷ 6 ∷ 3 ∷ 2 ∷ []
 
 abbrev markTall : List ℕ
@@ -137,9 +137,9 @@ cases =
     ∷ (measure oblong planJ (1 ∷ sure 3) (sure 4) (0 ∷ 0 ∷ 0 ∷ []) ⟹ gives 200 0 1 0 1 leaving 0 ∷ 0 ∷ 0 ∷ [])
     ∷ (measure oblong planJ (1 ∷ sure 3) (sure 4) (1 ∷ 1 ∷ 0 ∷ []) ⟹ gives 200 0 1 0 1 leaving 1 ∷ 1 ∷ 0 ∷ [])
     ∷ (measure oblong planA photoD (sure 9) record₁ ⟹ gives 600 0 3 0 1 leaving record₁)  -- k
-    ∷ (check (even 9 3 1 (1 ∷ 2 ∷ 4 ∷ [])) ⟹ only 2 leaving [])  -- l
-    ∷ (check (even 7 3 3 (1 ∷ 2 ∷ 4 ∷ [])) ⟹ only 4 leaving [])
-    ∷ (check (even 7 3 1 (1 ∷ 1 ∷ 4 ∷ [])) ⟹ only 5 leaving [])
+    ∷ (check (alike 9 3 1 (1 ∷ 2 ∷ 4 ∷ [])) ⟹ only 2 leaving [])  -- l
+    ∷ (check (alike 7 3 3 (1 ∷ 2 ∷ 4 ∷ [])) ⟹ only 4 leaving [])
+    ∷ (check (alike 7 3 1 (1 ∷ 1 ∷ 4 ∷ [])) ⟹ only 5 leaving [])
     ∷ []
 
 -- oblong marks, with other points each way: written and read; wrong cells, one short of the radius and on it; a record measured;
@@ -180,7 +180,7 @@ oblongCases =
 
 -- not of the table: a strip written and read, a plan with several faults at once, records of total degree 2, and of 3; each
 -- of the bytes 38 and 39 filled; symbol and doubt wrong at once, doubt and coefficient wrong at once; an unread cell in doubt 99;
--- p 1; n 0, n 17 and n above p; a point that is p, and an unused point byte that is not 0; a wrong cell and an unread one in a
+-- p 1; sides of 0, 17 and above p; a point that is p, and an unused point byte that is not 0; a wrong cell and an unread one in a
 -- mark and in a strip, read and measured; an unread cell where the record's value is 0; the example of docs/SPECIFICATION.md;
 -- read cells in doubt 100, wrong and right; an unread first cell of a strip beside a wrong one in doubt 100; an unread last cell;
 -- an unread cell in doubt 101; four wrong cells and seventeen unread; an unread cell and a coefficient that is too large
@@ -188,23 +188,23 @@ abbrev pub moreCases : List Case
 moreCases =
     (write strip planA (3 ∷ 1 ∷ []) (nines 3) ⟹ only 0 leaving 4 ∷ 5 ∷ 0 ∷ [])
     ∷ (read strip planA (4 ∷ 5 ∷ 255 ∷ []) (0 ∷ 0 ∷ 100 ∷ []) (nines 2) ⟹ gives 100 100 0 1 0 leaving 3 ∷ 1 ∷ [])
-    ∷ (check (even 9 0 3 (1 ∷ 1 ∷ 4 ∷ [])) ⟹ only 2 leaving [])
+    ∷ (check (alike 9 0 3 (1 ∷ 1 ∷ 4 ∷ [])) ⟹ only 2 leaving [])
     ∷ (write oblong planA (3 ∷ 1 ∷ 7 ∷ []) (nines 8) ⟹ only 6 leaving nines 8)
     ∷ (write oblong planA (3 ∷ 1 ∷ 7 ∷ []) (nines 9) ⟹ only 9 leaving nines 9)
-    ∷ (write oblong (even 5 3 2 (0 ∷ 1 ∷ 2 ∷ [])) (1 ∷ 0 ∷ 0 ∷ 2 ∷ 3 ∷ 4 ∷ []) (nines 9)
+    ∷ (write oblong (alike 5 3 2 (0 ∷ 1 ∷ 2 ∷ [])) (1 ∷ 0 ∷ 0 ∷ 2 ∷ 3 ∷ 4 ∷ []) (nines 9)
     ⟹ only 0 leaving 1 ∷ 0 ∷ 2 ∷ 3 ∷ 0 ∷ 0 ∷ 4 ∷ 4 ∷ 2 ∷ [])
-    ∷ (write oblong (even 11 4 3 (1 ∷ 2 ∷ 3 ∷ 5 ∷ [])) (7 ∷ 1 ∷ 10 ∷ 2 ∷ 5 ∷ 3 ∷ 4 ∷ 9 ∷ 8 ∷ 6 ∷ []) (nines 16)
+    ∷ (write oblong (alike 11 4 3 (1 ∷ 2 ∷ 3 ∷ 5 ∷ [])) (7 ∷ 1 ∷ 10 ∷ 2 ∷ 5 ∷ 3 ∷ 4 ∷ 9 ∷ 8 ∷ 6 ∷ []) (nines 16)
     ⟹ only 0 leaving 0 ∷ 0 ∷ 6 ∷ 4 ∷ 9 ∷ 10 ∷ 0 ∷ 3 ∷ 0 ∷ 9 ∷ 1 ∷ 1 ∷ 2 ∷ 4 ∷ 10 ∷ 2 ∷ [])
     ∷ (check (set planA 38 1) ⟹ only 1 leaving [])
     ∷ (check (set planA 39 1) ⟹ only 1 leaving [])
     ∷ (read oblong planA (7 ∷ drop 1 mark₁) (101 ∷ sure 8) (nines 3) ⟹ only 7 leaving nines 3)
     ∷ (measure oblong planA mark₁ (101 ∷ sure 8) (3 ∷ 1 ∷ 7 ∷ []) ⟹ only 8 leaving 3 ∷ 1 ∷ 7 ∷ [])
     ∷ (read oblong planA (hidden 1) (99 ∷ sure 8) (nines 3) ⟹ only 8 leaving nines 3)
-    ∷ (check (even 1 1 0 (0 ∷ [])) ⟹ only 2 leaving [])
-    ∷ (check (even 7 0 0 []) ⟹ only 3 leaving [])
-    ∷ (check (even 19 17 1 (1 ∷ 2 ∷ 4 ∷ [])) ⟹ only 3 leaving [])
-    ∷ (check (even 2 3 1 (0 ∷ 1 ∷ [])) ⟹ only 3 leaving [])
-    ∷ (check (even 7 3 1 (1 ∷ 2 ∷ 7 ∷ [])) ⟹ only 5 leaving [])
+    ∷ (check (alike 1 1 0 (0 ∷ [])) ⟹ only 2 leaving [])
+    ∷ (check (alike 7 0 0 []) ⟹ only 3 leaving [])
+    ∷ (check (alike 19 17 1 (1 ∷ 2 ∷ 4 ∷ [])) ⟹ only 3 leaving [])
+    ∷ (check (alike 2 3 1 (0 ∷ 1 ∷ [])) ⟹ only 3 leaving [])
+    ∷ (check (alike 7 3 1 (1 ∷ 2 ∷ 7 ∷ [])) ⟹ only 5 leaving [])
     ∷ (check (set planA 9 1) ⟹ only 5 leaving [])
     ∷ (read oblong planA (0 ∷ 255 ∷ drop 2 mark₁) (0 ∷ 100 ∷ sure 7) (nines 3) ⟹ gives 300 300 1 1 1 leaving record₁)
     ∷ (measure oblong planA (0 ∷ 255 ∷ drop 2 mark₁) (0 ∷ 100 ∷ sure 7) record₁ ⟹ gives 300 300 1 1 1 leaving record₁)
@@ -217,7 +217,7 @@ moreCases =
     ∷ (measure strip planA (255 ∷ 5 ∷ 1 ∷ []) (100 ∷ 0 ∷ 100 ∷ []) (3 ∷ 1 ∷ []) ⟹ gives 200 0 1 1 1 leaving 3 ∷ 1 ∷ [])
     ∷ (read oblong planA (set mark₁ 8 255) (set (sure 9) 8 100) (nines 3) ⟹ gives 100 500 0 1 0 leaving record₁)
     ∷ (read oblong planA (hidden 1) (101 ∷ sure 8) (nines 3) ⟹ only 8 leaving nines 3)
-    ∷ (measure oblong (even 7 5 0 (0 ∷ 1 ∷ 2 ∷ 3 ∷ 4 ∷ [])) (replicate 17 255 ++ replicate 4 4 ++ replicate 4 5)
+    ∷ (measure oblong (alike 7 5 0 (0 ∷ 1 ∷ 2 ∷ 3 ∷ 4 ∷ [])) (replicate 17 255 ++ replicate 4 4 ++ replicate 4 5)
     (replicate 17 100 ++ sure 8) (5 ∷ []) ⟹ gives 2500 0 4 17 2 leaving 5 ∷ [])
     ∷ (measure oblong planA (hidden 1) (doubts 1) (3 ∷ 1 ∷ 7 ∷ []) ⟹ only 9 leaving 3 ∷ 1 ∷ 7 ∷ [])
     ∷ []

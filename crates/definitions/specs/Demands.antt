@@ -24,8 +24,10 @@
 --   FirstOfSeason file y    what it finds is a whole plan of the file, with the season y, and no plan before it has that season
 --   GroupsFill d            the groups of degrees 0 to d fill the K = (d + 1)(d + 2)/2 places of a record one after another,
 --                           with no gap and no overlap
---   Widened Q               the plan Q of 24 bytes, widened, has its season, modulus and degree, and its points each way; it has
---                           the number of Q, but that bytes 21 to 23 of Q no longer count
+--   WidensExactly old wide  widening gives 11 where the bytes old are more than 1,000 plans or no whole number of them, else 6
+--                           where the buffer has not 40 bytes for each, else 0
+--   Widened Q               the plan Q of 24 bytes, widened, has its season, modulus and degree, and its points each way; its
+--                           check gives what document 01's check gave Q with bytes 21 to 23 put to 0
 --   WidenedInOrder old      plan k of all that are widened is plan k of the bytes old, widened
 --
 -- Signed numbers are the kit's (lib.IntN, lib.Signed): pos n is n, negℤ (pos n) is -n, ≤ℤ their order.
@@ -183,6 +185,12 @@ pub record GroupsFill (d : ℕ) : Type 0 where
   -- within a group by rising power of Y: what stands at start k + j goes with X^(k - j) Y^j
   pub holds : (p : ℕ) (F : List ℕ) (z : ℕ → ℕ) →
       valueAt 1 p d F z ≡ sum (d + 1) (λ k. sum (k + 1) λ j. at F (start k + j) * (z 0 ^ (k - j) * z 1 ^ j)) % p
+
+pub record WidensExactly (old wide : List ℕ) : Type 0 where
+  pub many : 1000 * 24 < length old → widenNumber old wide ≡ 11
+  pub broken : length old % 24 ≢ 0 → widenNumber old wide ≡ 11
+  pub room : length old ≤ 1000 * 24 → length old % 24 ≡ 0 → length wide ≢ length old / 24 * 40 → widenNumber old wide ≡ 6
+  pub done : length old ≤ 1000 * 24 → length old % 24 ≡ 0 → length wide ≡ length old / 24 * 40 → widenNumber old wide ≡ 0
 
 -- Q has 24 bytes, and they may be any
 pub record Widened (Q : List ℕ) : Type 0 where

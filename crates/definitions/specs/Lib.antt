@@ -1,4 +1,4 @@
--- Document 01 as definitions, in its own order; then the words in which their laws are stated. Nothing is proved here.
+-- Documents 01 and 02 as definitions, in 01's order; then the words in which their laws are stated. Nothing is proved here.
 pub mod Refusals
 pub mod Plan
 pub mod Code

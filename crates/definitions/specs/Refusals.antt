@@ -14,7 +14,7 @@ use mathlib.Core.Path.{_≡_}
 use mathlib.Core.Logic.{_≢_, _⊎_}
 use mathlib.Core.Bool.{Bool, true, false}
 use mathlib.Core.List.{List, [], _∷_}
-use Prim.Native.Nat.{ℕ, zero, suc, _≤_}
+use Prim.Native.Nat.{ℕ, zero, suc, _≤_, _<_}
 use lib.Dec.{eqb}
 use lib.ListN.{length}
 use Rattle.bounded.specs.Bounded.{at, index}
@@ -41,6 +41,8 @@ Applies ((j when b) ∷ rows) k = ((j ≡ k) × (b ≡ true)) ⊎ Applies rows k
 pub record Earliest (order : List ℕ) (rows : List Refusal) (k : ℕ) : Type 0 where
   pub none : k ≡ 0 → (j : ℕ) → ¬ (Applies rows j)
   pub applies : k ≢ 0 → Applies rows k
+  -- it stands in the order, and no other that applies stands before it
+  pub listed : k ≢ 0 → rank order k < length order
   pub before : (j : ℕ) → Applies rows j → rank order k ≤ rank order j
 
 abbrev pub accepted {ℓ} : {A : Type ℓ} → ℕ → A → A → A

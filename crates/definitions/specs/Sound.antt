@@ -1,6 +1,6 @@
 -- A sound plan as facts.
 --
---   IsSide p n             n points are some, at most sixteen, and at most p
+--   IsSide p n           n points are some, at most sixteen, and at most p
 --   PointsFrom P a n     n points in the sixteen bytes from byte a on: each below p, strictly rising, the unused bytes 0
 --   Sound P              all bytes of the plan P are as in the table "The season plan", row by row
 --

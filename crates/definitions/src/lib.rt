@@ -4,7 +4,7 @@
 // What measuring and reading answer. Of a refusal all but the number is 0.
 #[repr(C)]
 pub struct Reading {
-    // 0, or the refusal of document 01's table
+    // 0, or the refusal of the table "What is returned"
     pub number: u32,
     // D, the record's cost
     pub cost: u32,

@@ -61,11 +61,11 @@ pub fn differing(n: usize, v: [u16; 16], w: [u16; 16]) -> u32
     count
 }
 
-// R for so many rows of n points: a strip is one row, a mark has n. It is at most 65535 * 16 * 16, below the 2^31 = 2147483648 of
-// an i32, in which a margin is kept.
-pub fn radius(full: u32, rows: usize, n: usize, d: usize) -> u32
-    requires { ⌜ (full < 65536) × (rows ≤ 16) × (n ≤ 16) × (d ≤ n) ⌝ }
-    ensures { λ r. ⌜ (r ≡ full * rows * (n - d)) × (r < 2147483648) ⌝ }
+// R for so many lines of n points: a strip is one line, a mark as many lines of its smaller side as the larger has points. It is
+// at most 65535 * 16 * 16, below the 2^31 = 2147483648 of an i32, in which a margin is kept.
+pub fn radius(full: u32, lines: usize, n: usize, d: usize) -> u32
+    requires { ⌜ (full < 65536) × (lines ≤ 16) × (n ≤ 16) × (d ≤ n) ⌝ }
+    ensures { λ r. ⌜ (r ≡ full * lines * (n - d)) × (r < 2147483648) ⌝ }
 {
-    full * rows as u32 * (n - d) as u32
+    full * lines as u32 * (n - d) as u32
 }

@@ -46,9 +46,9 @@ pub fn measure_strip(plan: Plan, record: &[u8], symbols: &[u8], doubts: &[u8]) -
         r ≡ readingOf strip P (now (symbols .entry)) (now (doubts .entry)) (now («record» .entry))) ⌝ }
 {
     let g = plan.grid;
-    let x = g.x;
-    let xs = evaluation::powers(x, g.d, g.p, g.m);
-    let values = evaluation::values(&xs, g.d, bytes::row(record), g.p, g.m);
+    let points = g.x;
+    let powers = evaluation::powers(points, g.d, g.p, g.m);
+    let values = evaluation::values(&powers, g.d, bytes::row(record), g.p, g.m);
     let tally = measure_row(symbols, doubts, values, g.full);
     let radius = word::radius(g.full, 1, g.a, g.d);
     answers::reading(radius, tally.cost, tally.differing, symbols)

@@ -41,11 +41,11 @@ pub fn check(plan: &[u8]) -> u32
         return 2;
     }
     let rows = plan[3];
-    if is_unfit(rows, p) {
+    if is_unfit(p, rows) {
         return 3;
     }
     let columns = plan[4];
-    if is_unfit(columns, p) {
+    if is_unfit(p, columns) {
         return 13;
     }
     if smaller(rows, columns) <= plan[5] {
@@ -61,7 +61,7 @@ pub fn check(plan: &[u8]) -> u32
 }
 
 // Whether n points are none, above 16, or more than p.
-fn is_unfit(n: u8, p: u8) -> bool
+fn is_unfit(p: u8, n: u8) -> bool
     ensures { λ r. ⌜ r ≡ unfit p n ⌝ }
 {
     (n == 0) | ((16 < n) | (p < n))
@@ -91,7 +91,8 @@ fn is_misplaced(plan: &[u8], a: usize, n: u8) -> bool
     found
 }
 
-// Byte i of them: a point is p or more, or not above the one before it, and the first is above any; an unused byte is not 0.
+// Whether byte i of them is: a point that is p or more, or not above the one before it, if there is one; an unused byte that is
+// not 0.
 fn is_wrong_point(byte: u8, before: u8, i: u8, n: u8, p: u8) -> bool
     ensures { λ r. ⌜ r ≡ cond (ltb i n) (leb p byte || (ltb 0 i && leb byte before)) (ltb 0 byte) ⌝ }
 {

@@ -4,12 +4,14 @@
 --   same-values        congruent coefficients have congruent values
 --   poly-same-or-far   two polynomials of total degree d below the smallest side are the same, or as many cells apart
 --   poly-one           so at most one is under the full doubt times the distance
+--   others-least       the smallest side times the others are all cells
 --
 -- What this file is for: a photograph has at most one record under the radius. Assumes nothing.
 use mathlib.Core.Logic.{_⊎_, inl, inr}
-use mathlib.Core.Path.{_≡_, _∙_}
-use Prim.Native.Nat.{ℕ, zero, suc, _*_, _-_, _/_, _%_, _≤_, _<_}
+use mathlib.Core.Path.{_≡_, ap, _∙_}
+use Prim.Native.Nat.{ℕ, zero, suc, _*_, _-_, _/_, _%_, _≤_, _<_, min, max}
 use native.Mathlib.Omega.{arith}
+use native.Mathlib.Decide.{decLe}
 use native.Mathlib.Nat.{mul-le-mul-left}
 use Rattle.bounded.proofs.Sum.{sum-eq, sum-rows, cell-row, cell-column}
 use Rattle.field.specs.Congruence.{Cong}
@@ -71,4 +73,17 @@ poly-one {q} m {n} {x} ax full d small s u du g h i j = elim (poly-same-or-far m
     arith,
     cost-far full (distance m n d) (cells m n) s u (word q m d n x g) (word q m d n x h) du f i,
   ))
+]
+
+pub others-least : (m : ℕ) (n : ℕ → ℕ) → others m n * least m n ≡ cells m n
+others-least zero n = omega arith
+others-least (suc m) n = elim (decLe (least m n) (n (suc m))) [
+  | yes l ↦
+      let a : max (least m n) (n (suc m)) ≡ n (suc m) = omega arith in
+      let b : min (least m n) (n (suc m)) ≡ least m n = omega arith in
+      rw (a, b) (omega (arith, ap (λ v. v * n (suc m)) (others-least m n)))
+  | no l ↦
+      let a : max (least m n) (n (suc m)) ≡ least m n = omega arith in
+      let b : min (least m n) (n (suc m)) ≡ n (suc m) = omega arith in
+      rw (a, b) (omega (arith, ap (λ v. v * n (suc m)) (others-least m n)))
 ]

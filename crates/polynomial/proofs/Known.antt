@@ -6,19 +6,17 @@
 --   value-strip-is   the value of a record in X
 --   value-mark-is    the value of a record in X and Y
 --   value-cell       its value in a cell of a grid
---   others-least     the smallest side times the others are all cells
 --
 -- What this file is for: laws for any number of coordinates hold of strips and of marks. Assumes nothing.
 use mathlib.Core.Path.{_≡_, refl, sym, ap, _∙_}
 use mathlib.Core.List.{List}
-use Prim.Native.Nat.{ℕ, zero, suc, _+_, _*_, _-_, _%_, _^_, _≤_, min, max}
+use Prim.Native.Nat.{ℕ, zero, suc, _+_, _*_, _-_, _%_, _^_, _≤_}
 use native.Mathlib.Omega.{arith}
 use native.Mathlib.Numerals.{add-one}
-use native.Mathlib.Decide.{decLe}
 use Rattle.bounded.specs.Bounded.{at, sum}
 use Rattle.bounded.proofs.Sum.{sum-eq, sum-const}
 use Rattle.polynomial.specs.Record.{start as startOf, coef, valueX, valueXY, gridValue}
-use Rattle.polynomial.specs.Sides.{cells, least, others, cellPoint}
+use Rattle.polynomial.specs.Sides.{cellPoint}
 use Rattle.polynomial.specs.Layout.{count, skip, start, value}
 
 pub start-strip : (k : ℕ) → start 0 k ≡ k
@@ -52,16 +50,3 @@ value-mark-is p d F z = ap (λ v. v % p) (sum-eq (d + 1) λ k _.
 pub value-cell : (p d : ℕ) (F : List ℕ) (n : ℕ → ℕ) (x : ℕ → ℕ → ℕ) (c : ℕ) →
     value 1 p d F (cellPoint 1 n x c) ≡ gridValue p d (n 1) (x 0) (x 1) F c
 value-cell p d F n x c = value-mark-is p d F (cellPoint 1 n x c)
-
-pub others-least : (m : ℕ) (n : ℕ → ℕ) → others m n * least m n ≡ cells m n
-others-least zero n = omega arith
-others-least (suc m) n = elim (decLe (least m n) (n (suc m))) [
-  | yes l ↦
-      let a : max (least m n) (n (suc m)) ≡ n (suc m) = omega arith in
-      let b : min (least m n) (n (suc m)) ≡ least m n = omega arith in
-      rw (a, b) (omega (arith, ap (λ v. v * n (suc m)) (others-least m n)))
-  | no l ↦
-      let a : max (least m n) (n (suc m)) ≡ least m n = omega arith in
-      let b : min (least m n) (n (suc m)) ≡ n (suc m) = omega arith in
-      rw (a, b) (omega (arith, ap (λ v. v * n (suc m)) (others-least m n)))
-]

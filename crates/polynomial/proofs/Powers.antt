@@ -1,6 +1,6 @@
 -- The laws of rows of powers, and of the sums of their multiples.
 --
---   equal-rows, zero-rows       rows that have one number everywhere, and those of a grid that have 0
+--   zero-rows                   rows of zeros
 --   powers-less                 the powers up to a degree serve a lower one
 --   powers-start, start-rows, start-points
 --                               the first two rows are all ones and the points
@@ -32,20 +32,14 @@ use Rattle.field.proofs.Loop.{upto-start, upto-step, upto-put, upto-less}
 use Rattle.field.proofs.Reciprocal.{product-fits}
 use Rattle.field.proofs.Row.{row-at, row-of, result-row, result-cong}
 use Rattle.polynomial.specs.Eval.{eval}
-use Rattle.polynomial.specs.declared.Grid.{Grid}
-use Rattle.polynomial.specs.Fit.{Fit}
 use Rattle.polynomial.specs.Powers.{Rows, Powers}
 
--- rows that have one number everywhere
-pub equal-rows : {p : ℕ} (v : ℕ) → v < p → Rows p (replicate 16 (replicate {A = ℕ} 16 v))
-equal-rows v h = record {
+pub zero-rows : {p : ℕ} → 0 < p → Rows p (replicate 16 (replicate {A = ℕ} 16 0))
+zero-rows h = record {
   size = refl;
-  done = λ t l. rw (getD-replicate 16 t (replicate {A = ℕ} 16 v) [] l)
-      (row-of (omega arith) refl λ j k. rw (getD-replicate {A = ℕ} 16 j v 0 k) h);
+  done = λ t l. rw (getD-replicate 16 t (replicate {A = ℕ} 16 0) [] l)
+      (row-of h refl λ j k. rw (getD-replicate {A = ℕ} 16 j 0 0 k) h);
 }
-
-pub zero-rows : {g : Grid} → Fit g → Rows (g .p) (replicate 16 (replicate {A = ℕ} 16 0))
-zero-rows f = equal-rows 0 (omega (arith, f .reciprocal .least))
 
 pub powers-less : (p : ℕ) (x : List ℕ) {d k : ℕ} {rows : List (List ℕ)} → k ≤ d → Powers p x d rows → Powers p x k rows
 powers-less p x h P = upto-less (omega arith) P

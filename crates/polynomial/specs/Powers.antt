@@ -4,7 +4,7 @@
 --   Powers p x d rows     row t has the powers t of the sixteen points x, modulo p, t ≤ d; 0^0 is 1
 --   Columns p d x F rows  row t has, for each row point, the coefficient of Y^t there, t ≤ d: the record F with X put in
 --
--- What this file is for: the powers of a plan's points are made once, and values at all points are then sums of rows.
+-- What this file is for: the powers of the points are made once for each axis, and values at all points are then sums of rows.
 use mathlib.Core.Path.{_≡_}
 use mathlib.Core.List.{List, []}
 use Prim.Native.Nat.{ℕ, suc, _%_, _^_}

@@ -72,16 +72,17 @@ fn set_columns(
     }
 }
 
-// What the values of a message on a grid are made of: its columns, and the powers of the column points. The tables are lent, since
-// one that is handed back is copied; that of the powers has those of the row points first, for the columns.
+// What the values of a message on a grid are made of: its columns, and the powers of the column points. Both tables are lent,
+// since a table that is handed back is copied.
 pub fn prepare(message: &[u8], g: Grid, columns: &mut [[u16; 16]; 16], ys: &mut [[u16; 16]; 16])
     requires { ⌜ Fit g × Word (g .p) (startOf (suc (g .d))) (now message) × Rows (g .p) (now columns) × Rows (g .p) (now ys) ⌝ }
     ensures { λ _. ⌜ Rows (g .p) (now (columns .exit)) × Columns (g .p) (g .d) (g .x) (now (message .entry)) (now (columns .exit))
         × Rows (g .p) (now (ys .exit)) × Powers (g .p) (g .y) (g .d) (now (ys .exit)) ⌝ }
 {
     let x = g.x;
-    evaluation::set_powers(ys, x, g.d, g.p, g.m);
-    set_columns(columns, message, ys, g.d, g.p, g.m);
+    let mut xs = [[0u16; 16]; 16];
+    evaluation::set_powers(&mut xs, x, g.d, g.p, g.m);
+    set_columns(columns, message, &xs, g.d, g.p, g.m);
     let y = g.y;
     evaluation::set_powers(ys, y, g.d, g.p, g.m);
 }

@@ -1,4 +1,4 @@
-// Values of a polynomial in one variable at all points at once. The powers of the points are made once for a plan; m is the
+// Values of a polynomial in one variable at all points at once. The powers of the points are made once for each axis; m is the
 // reciprocal of p (crate `field`).
 ghost use mathlib.Core.Path.{_≡_};
 ghost use mathlib.Core.List.{List};

@@ -11,7 +11,8 @@
 --   lowest-given, measures               "What is returned"
 --   found-exactly, first-found           document 02, request 2: when a plan of a season is found, and which
 --   groups-fill                          document 02, request 4: where the coefficients of a record stand
---   widened, widened-in-order            document 02, request 3: what a plan of 24 bytes becomes, and all of a file
+--   widens-exactly, widened-keeps, widened-in-order
+--                                        document 02, request 3: when plans are widened, what one becomes, and all of a file
 --
 -- What this file is for: the customer's sentences as theorems over the definitions that the calls' contracts repeat. The names in
 -- the statements are of `definitions/specs`. Assumes nothing.
@@ -35,7 +36,7 @@ use Rattle.polynomial.specs.Record.{start}
 use Rattle.definitions.specs.Widening.{narrowBytes, widenRows, widenNumber}
 use Rattle.definitions.specs.Demands.{RefusalsKeep, Shapes, Written, RoundTrip, Weighed, Nearest}
 use Rattle.definitions.specs.Demands.{UnreadCosts, MarkMargins, LowestGiven, Measures, FoundExactly, FirstOfSeason}
-use Rattle.definitions.specs.Demands.{GroupsFill, places, Widened, WidenedInOrder}
+use Rattle.definitions.specs.Demands.{GroupsFill, places, WidensExactly, Widened, WidenedInOrder}
 use Rattle.definitions.specs.Refusals.{table}
 use Rattle.definitions.proofs.Refusals.{first-earliest, first-absent}
 use Rattle.definitions.proofs.Finder as finder
@@ -175,10 +176,14 @@ groups-fill d = record {
     length-is : start (d + 1) ≡ places d
     length-is = omega arith
 
+-- Widening gives 11 for more than 1,000 plans or a broken one, else 6 where the buffer has not 40 bytes for each plan, else 0.
+pub widens-exactly : (old wide : List ℕ) → WidensExactly old wide
+widens-exactly = widening.widens-exactly
+
 -- A plan of 24 bytes, whatever they are, becomes a plan of the same season, modulus and degree, with its points each way. Where
 -- it was sound it stays sound; where it was not it keeps its number, but that its bytes 21 to 23 no longer count.
-pub widened : (Q : List ℕ) → length Q ≡ narrowBytes → Widened Q
-widened = widening.widened-plan
+pub widened-keeps : (Q : List ℕ) → length Q ≡ narrowBytes → Widened Q
+widened-keeps = widening.widened-plan
 
 -- All plans of a file are widened in order.
 pub widened-in-order : (old : List ℕ) → WidenedInOrder old

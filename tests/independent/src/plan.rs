@@ -91,16 +91,9 @@ fn points(p: u8, number: u8, bytes: &[u8]) -> Result<Vec<u32>, u32> {
 
 /// The plan that a plan of the old form becomes: each of its 40 bytes is one of the 24, or 0.
 pub fn widened(old: &[u8]) -> [u8; PLAN] {
-    let mut wide = [0; PLAN];
-    for (place, byte) in wide.iter_mut().enumerate() {
-        *byte = match place {
-            0..=3 => old[place],
-            4..=21 => old[place - 1],
-            22..=37 => old[place - 17],
-            _ => 0,
-        };
-    }
-    wide
+    let (season, p, n, d, points) = (&old[..2], old[2], old[3], old[4], &old[5..21]);
+    let wide = [season, &[p, n, n, d], points, points, &[0, 0]].concat();
+    wide.try_into().expect("40 bytes")
 }
 
 /// A number from 2 that is no product of two smaller ones.

@@ -36,7 +36,8 @@ prepare-requires : tie.Need-prepare-requires
 prepare-requires c κs =
     let (P, says, photo, given) = c .before .before .before .before .before .before .pre in
     let f = ready says .fit in
-    (f, record-word says given, zero-rows f, zero-rows f)
+    let least = f .reciprocal .least in
+    (f, record-word says given, zero-rows (omega (arith, least)), zero-rows (omega (arith, least)))
 
 measure-rows-requires : tie.Need-measure-rows-requires
 measure-rows-requires c κs =

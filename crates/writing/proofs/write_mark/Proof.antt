@@ -1,5 +1,6 @@
 -- `writing::write_mark` meets its contract: the plan's points are put in for X and for Y. Assumes nothing.
 use mathlib.Core.Path.{_∙_}
+use native.Mathlib.Omega.{arith}
 use Rattle.polynomial.proofs.Powers.{zero-rows}
 use Rattle.plan.proofs.Ready.{ready}
 use Rattle.plan.proofs.Values.{record-word, mark-cells, mark-is}
@@ -16,7 +17,8 @@ prepare-requires : tie.Need-prepare-requires
 prepare-requires c κs =
     let (P, says, w) = c .before .before .before .before .before .pre in
     let f = ready says .fit in
-    (f, record-word says (w .given), zero-rows f, zero-rows f)
+    let least = f .reciprocal .least in
+    (f, record-word says (w .given), zero-rows (omega (arith, least)), zero-rows (omega (arith, least)))
 
 write-rows-requires : tie.Need-write-rows-requires
 write-rows-requires c κs =

@@ -8,11 +8,11 @@ use Rattle.distance.proofs.word.radius.Statement.{statement}
 use Rattle.distance.proofs.word.radius.Tie as tie
 
 module _ (c : tie.Start) where
-  row-most : c .args .full * c .args .rows ≤ 1048560
-  row-most = mul-le-mul {n₁ = c .args .full} {m₁ = c .args .rows} {n₂ = 65535} {m₂ = 16} (omega arith) (omega arith)
+  row-most : c .args .full * c .args .lines ≤ 1048560
+  row-most = mul-le-mul {n₁ = c .args .full} {m₁ = c .args .lines} {n₂ = 65535} {m₂ = 16} (omega arith) (omega arith)
 
-  radius-most : c .args .full * c .args .rows * (c .args .n - c .args .d) ≤ 16776960
-  radius-most = mul-le-mul {n₁ = c .args .full * c .args .rows} {n₂ = 1048560} {m₂ = 16} row-most (omega arith)
+  radius-most : c .args .full * c .args .lines * (c .args .n - c .args .d) ≤ 16776960
+  radius-most = mul-le-mul {n₁ = c .args .full * c .args .lines} {n₂ = 1048560} {m₂ = 16} row-most (omega arith)
 
 returns : tie.Need-returns
 returns c = (refl, omega (arith, radius-most c))

@@ -1,6 +1,6 @@
 -- `reed_muller::decoder::decode` meets its contract: by the laws of its two outcomes. Assumes nothing.
 use native.Mathlib.Omega.{arith}
-use Rattle.polynomial.proofs.Powers.{equal-rows}
+use Rattle.polynomial.proofs.Powers.{zero-rows}
 use Rattle.grid.proofs.Answers.{positive}
 use Rattle.reed_muller.proofs.Outcome.{outcome-none, outcome-found}
 use borrow.Author.Needs.{needs}
@@ -29,7 +29,7 @@ pub decode-spec : {M : Type 1} → statement M
 decode-spec =
     tie.close
     (tie.spec
-    (λ c κs. let b = c .before .before .before .pre in (b .0, b .3, b .1, b .2, equal-rows 0 (positive (b .0))))
+    (λ c κs. let b = c .before .before .before .pre in (b .0, b .3, b .1, b .2, zero-rows (positive (b .0))))
     (λ c κs. search needs)
     returns
     (λ c κs. search needs)

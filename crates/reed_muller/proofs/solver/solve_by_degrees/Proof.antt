@@ -6,7 +6,7 @@ use native.Mathlib.Omega.{arith}
 use native.Mathlib.Numerals.{add-one}
 use lib.ListN.{set, getD-replicate}
 use borrow.Author.Tests.{not-true, not-false}
-use Rattle.polynomial.proofs.Powers.{equal-rows}
+use Rattle.polynomial.proofs.Powers.{zero-rows}
 use Rattle.grid.specs.Axes.{ColumnPowers}
 use Rattle.grid.specs.Answers.{unknown}
 use Rattle.grid.proofs.Answers.{positive}
@@ -84,7 +84,7 @@ solve-by-degrees-spec =
     (λ c.
     let start = c .before .before in
     let (f, _, sq, _, columns) = start .pre in
-    let S = solving-start f sq columns (equal-rows 0 (positive f)) refl (λ r l. getD-replicate 16 r unknown 0 l) in
+    let S = solving-start f sq columns (zero-rows (positive f)) refl (λ r l. getD-replicate 16 r unknown 0 l) in
     (omega arith, rw (add-one (start .args .g .d)) S, λ l. absurd (omega arith)))
     (λ c. search needs)
     (λ c κs.
