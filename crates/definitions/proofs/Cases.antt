@@ -8,6 +8,8 @@
 --   finder-cases                  what the finder hands back
 --   published-case                a published distance
 --   never-over-zero               nothing is a multiple of a fraction over 0
+--   not-thirteenth, not-by-columns
+--                                 what is not: 4 before 13, and a mark written column by column
 --   tray-cases                    case c as `trayread` reads it
 --   text-cases                    what it prints
 --   decimal-cases, signed-cases   numbers in print
@@ -18,11 +20,13 @@
 -- What this file is for: the definitions say what the customer worked out by hand; each is one computed comparison. Assumes
 -- nothing.
 use mathlib.Core.Path.{_≡_, refl}
+use mathlib.Core.Logic.{inl, inr}
+use mathlib.Core.Bool.{true}
 use mathlib.Core.List.{List, [], _∷_, _++_, map}
 use Prim.Native.Nat.{ℕ, _+_}
 use native.Mathlib.Omega.{arith}
 use lib.IntN.{pos, negsuc}
-use lib.Dec.{leb}
+use lib.Dec.{leb, lit<}
 use lib.ListN.{length, replicate, take, drop, set}
 use Rattle.bounded.specs.Bounded.{at, tab, index}
 use Rattle.definitions.specs.Cost.{class}
@@ -33,6 +37,11 @@ use Rattle.definitions.specs.Tray.{trayReading, trayRecord}
 use Rattle.definitions.specs.Printed.{decimal, signed, spaced, readLine, recordLine, refusedLine, answerText, trayText}
 use Rattle.definitions.specs.Widening.{widened, widenedAll, widenRows, widenNumber, widenBuffer, widenText}
 use Rattle.definitions.specs.Cases.{effect, only, call, expected, cases, oblongCases, moreCases}
+use Rattle.definitions.specs.Refusals.{_when_, table, Earliest}
+use Rattle.definitions.specs.Code.{oblong}
+use Rattle.definitions.specs.Demands.{Written}
+use Rattle.polynomial.specs.Record.{valueXY}
+use Rattle.definitions.specs.Cases.{gives, planWide, planTall, markWide, markTall, record₁}
 use Rattle.definitions.specs.Cases.{planA, mark₁, photoC, photoD, hidden, doubts, nines}
 
 pub cases-hold : map effect (map call cases) ≡ map expected cases
@@ -85,9 +94,23 @@ published-case = refl
 pub never-over-zero : (D k a : ℕ) → ¬ (D is k times (a over 0))
 never-over-zero D k a h = omega (arith, h .0)
 
+-- 4 is not the first in the table's order where 13 applies too
+pub not-thirteenth : ¬ (Earliest table ((4 when true) ∷ (13 when true) ∷ []) 4)
+unfolding index
+not-thirteenth e = omega (arith, e .before 13 (inr (inl (refl, refl))))
+
+-- and the mark of the record, written column by column, is not what is written
+pub not-by-columns : ¬ (Written oblong planWide record₁ (4 ∷ 6 ∷ 1 ∷ 3 ∷ 0 ∷ 2 ∷ []))
+unfolding valueXY
+not-by-columns w = omega (arith, w .1 0 1 (lit< tt) (lit< tt))
+
+-- an oblong mark each way, and a square's number of bytes after an oblong's plan
 pub tray-cases :
-    map trayReading ((planA ++ photoC ++ sure 9) ∷ (planA ++ mark₁) ∷ (planA ++ photoC ++ sure 10) ∷ drop 1 planA ∷ [])
-    ≡ record { number = 0; cost = 400; margin = pos 200; changed = 2; unread = 0; class = 1 } ∷ only 6 ∷ only 6 ∷ only 1 ∷ []
+    map trayReading (
+    (planA ++ photoC ++ sure 9) ∷ (planA ++ mark₁) ∷ (planA ++ photoC ++ sure 10) ∷ drop 1 planA
+    ∷ (planWide ++ markWide ++ sure 6) ∷ (planTall ++ markTall ++ sure 6) ∷ (planWide ++ sure 8) ∷ []
+    )
+    ≡ gives 400 200 2 0 1 ∷ only 6 ∷ only 6 ∷ only 1 ∷ gives 0 300 0 0 0 ∷ gives 0 300 0 0 0 ∷ only 6 ∷ []
 unfolding effect trayReading
 tray-cases = refl
 

@@ -1,5 +1,6 @@
 -- What `trayread` prints of an input that it refuses, and the room in which it reads.
 --
+--   tray-parts                 a plan, the symbols of its mark, and what follows are taken for plan, symbols and doubts
 --   plan-text                  the plan's own number, whatever follows
 --   count-text                 6 where another count of bytes follows a sound plan
 --   holds-whole, holds-first   a room that an input leaves space in, and one that it is too long for
@@ -11,8 +12,8 @@ use mathlib.Core.List.{List, _++_}
 use Prim.Native.Nat.{ℕ, zero, suc, _+_, _*_, _≤_, _<_}
 use native.Mathlib.Omega.{arith}
 use native.Mathlib.Decide.{decLe}
-use lib.ListN.{length, take, length-append, length-take, length-drop}
-use lib.Seq.{take-all, take-append-seam, take-take}
+use lib.ListN.{length, take, drop, length-append, length-take, length-drop}
+use lib.Seq.{take-all, take-append-seam, take-take, take-at, drop-at, drop-drop}
 use Rattle.definitions.specs.Refusals.{Refusal, first}
 use Rattle.definitions.specs.Plan.{planBytes, modulus, checkNumber}
 use Rattle.definitions.specs.Code.{oblong, size, cells}
@@ -20,10 +21,20 @@ use Rattle.definitions.specs.Cost.{full}
 use Rattle.definitions.specs.Calls.{photoTests, photoRows}
 use Rattle.definitions.specs.Tray.{planOf, symbolsOf, doubtsOf, bufferOf, trayReading, HoldsFirst, longest}
 use Rattle.definitions.specs.Printed.{refusedLine, answerText, trayText}
+use Rattle.definitions.specs.Demands.{TrayParts}
 use Rattle.definitions.proofs.Refusals.{first-at, equal, unequal}
 use Rattle.definitions.proofs.Sound.{sound, cells-most}
 use Rattle.definitions.proofs.Nearest.{reads-refused}
 use Rattle.definitions.proofs.Accepted.{photo-refused, photo-passes}
+
+pub tray-parts : (P s u : List ℕ) → length P ≡ planBytes → length s ≡ cells oblong P → TrayParts P s u
+tray-parts P s u e h =
+    let plan : planOf (P ++ (s ++ u)) ≡ P = take-at P (s ++ u) planBytes e in
+    let rest : drop planBytes (P ++ (s ++ u)) ≡ s ++ u = drop-at P (s ++ u) planBytes e in record {
+      plan = plan;
+      symbols = rw (plan, rest) (take-at s u _ h);
+      doubts = rw (plan, ← drop-drop, rest) (drop-at s u _ h);
+    }
 
 module _ (input : List ℕ) where
   abbrev n : ℕ

@@ -8,6 +8,7 @@
 --   widen-at, widens-exactly      a call that stops at row i of its refusals has that row's number; which it is, by the lengths
 --   widen-refused, widen-filled   a refused call leaves the buffer, any other fills it
 --   print-widened, print-refused  what `planwiden` prints, by the number of a call with a buffer of the right length
+--   prints-exactly                when it prints the refusal
 --   room-widened                  one byte more than 1,000 plans decides, for any input, what it prints
 --
 -- What this file is for: the call's number by the row at which it stops, its bytes one by one, and what they say to a user.
@@ -37,7 +38,7 @@ use Rattle.definitions.specs.Printed.{refusedLine}
 use Rattle.definitions.specs.Tray.{HoldsFirst}
 use Rattle.definitions.specs.Widening.{narrowBytes, mostPlans, narrowPlan, widened, widenedAll, fileRows, widenRows}
 use Rattle.definitions.specs.Widening.{widenNumber, widenBuffer, widenText, narrowRows, narrowNumber, cleared}
-use Rattle.definitions.specs.Demands.{WidensExactly, Widened, WidenedInOrder}
+use Rattle.definitions.specs.Demands.{WidensExactly, PrintsExactly, Widened, WidenedInOrder}
 use Rattle.definitions.proofs.Refusals.{Stops, numberAt, first-at, first-clear, otherwise, equal, unequal}
 
 -- byte c of a widened plan
@@ -221,3 +222,15 @@ room-widened input room came l h = rw (h .bytes) (go (decLe (length input) came)
     go (no m) =
         let c : mostPlans * narrowBytes < came = omega (arith, h .count) in
         long-text (take came input) (simp length-take (omega arith)) ∙ sym (long-text input (omega arith))
+
+pub prints-exactly : (input : List ℕ) → PrintsExactly input
+unfolding widenText first
+prints-exactly input = record {
+  many = λ h. rw (lt-ltb _ _ h);
+  broken = λ h. go h (decLe (length input) (mostPlans * narrowBytes));
+  done = λ h e. rw (le-ltb _ _ h, equal _ _ e);
+}
+  where
+    go : length input % 24 ≢ 0 → Dec (length input ≤ mostPlans * narrowBytes) → widenText input ≡ refusedLine 11
+    go h (yes l) = rw (le-ltb _ _ l, unequal _ _ h)
+    go h (no l) = rw (lt-ltb (mostPlans * narrowBytes) (length input) (omega arith))

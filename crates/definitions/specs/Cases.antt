@@ -58,7 +58,7 @@ abbrev pub expected : Case → Effect
 expected (c ⟹ o) = o
 
 -- D, margin, changed, unread and class of a record
-abbrev gives : ℕ → ℕ → ℕ → ℕ → ℕ → Reading
+abbrev pub gives : ℕ → ℕ → ℕ → ℕ → ℕ → Reading
 gives D z n m k = record { number = 0; cost = D; margin = pos z; changed = n; unread = m; class = k }
 
 -- sixteen bytes that begin with the points x
@@ -86,14 +86,14 @@ abbrev planJ : List ℕ
 planJ = alike 2 2 1 (0 ∷ 1 ∷ [])
 
 -- two rows and three columns, and three rows and two columns
-abbrev planWide : List ℕ
+abbrev pub planWide : List ℕ
 planWide = plan 7 2 3 1 (1 ∷ 3 ∷ []) (0 ∷ 2 ∷ 5 ∷ [])
 
-abbrev planTall : List ℕ
+abbrev pub planTall : List ℕ
 planTall = plan 7 3 2 1 (0 ∷ 2 ∷ 5 ∷ []) (1 ∷ 3 ∷ [])
 
 -- 3 + X + 2Y, its mark, and the photographs of cases c and d
-abbrev record₁ : List ℕ
+abbrev pub record₁ : List ℕ
 record₁ = 3 ∷ 1 ∷ 2 ∷ []
 
 abbrev pub mark₁ : List ℕ
@@ -116,10 +116,10 @@ abbrev pub nines : ℕ → List ℕ
 nines n = replicate n 9
 
 -- the marks of the same record by the oblong plans
-abbrev markWide : List ℕ
+abbrev pub markWide : List ℕ
 markWide = 4 ∷ 1 ∷ 0 ∷ 6 ∷ 3 ∷ 2 ∷ []
 
-abbrev markTall : List ℕ
+abbrev pub markTall : List ℕ
 markTall = 5 ∷ 2 ∷ 0 ∷ 4 ∷ 3 ∷ 0 ∷ []
 
 abbrev pub cases : List Case
@@ -145,7 +145,8 @@ cases =
 -- oblong marks, with other points each way: written and read; wrong cells, one short of the radius and on it; a record measured;
 -- a strip, over the row points; degrees up to the smaller side, which is below the larger; columns that are none, 17, more than
 -- p; the order 3, 13, 4; points of the columns that are p, not rising, and unused; both point sets wrong; strips by a plan whose
--- columns are unsound; bytes in the unused places of the rows of a wide plan and of the columns of a tall one
+-- columns are unsound; bytes in the unused places of the rows of a wide plan and of the columns of a tall one, and in
+-- the last place of the rows; sixteen rows of one cell, and one row of sixteen; a strip of degree 2
 abbrev pub oblongCases : List Case
 oblongCases =
     (write oblong planWide record₁ (nines 6) ⟹ only 0 leaving markWide)
@@ -176,6 +177,10 @@ oblongCases =
     ∷ (read strip (set planTall 22 4) (3 ∷ 5 ∷ 1 ∷ []) (sure 3) (nines 2) ⟹ only 5 leaving nines 2)
     ∷ (check (set planWide 8 5) ⟹ only 5 leaving [])
     ∷ (check (set planTall 24 5) ⟹ only 5 leaving [])
+    ∷ (check (set planTall 21 1) ⟹ only 5 leaving [])
+    ∷ (check (plan 17 16 1 0 (tab 16 λ i. i) (0 ∷ [])) ⟹ only 0 leaving [])
+    ∷ (check (plan 17 1 16 0 (16 ∷ []) (tab 16 λ i. i)) ⟹ only 0 leaving [])
+    ∷ (write strip (alike 5 3 2 (0 ∷ 1 ∷ 2 ∷ [])) (1 ∷ 2 ∷ 3 ∷ []) (nines 3) ⟹ only 0 leaving 1 ∷ 1 ∷ 2 ∷ [])
     ∷ []
 
 -- not of the table: a strip written and read, a plan with several faults at once, records of total degree 2, and of 3; each

@@ -17,15 +17,18 @@
 --   UnreadCosts C P s u F   an unread cell costs 100
 --   MarkMargins             a mark's margin is from -49,600 to 25,600, and both ends are reached
 --   LowestGiven             the number that is given is the first in the table's order of those that apply and concern the call;
---                           in widening 11 stands before 6, since without whole plans no length of the buffer is right
+--                           in widening 11 stands before 6: the plans are looked at before the buffer for them
 --   Measures C P s u F      measuring never gives 10: every record of a photograph's plan is measured, whatever its margin
 --   FoundExactly file y     the finder gives 11 where the file's length is no multiple of 40, else 0 where some plan of the file
 --                           has the season y, else 12
 --   FirstOfSeason file y    what it finds is a whole plan of the file, with the season y, and no plan before it has that season
 --   GroupsFill d            the groups of degrees 0 to d fill the K = (d + 1)(d + 2)/2 places of a record one after another,
 --                           with no gap and no overlap
+--   TrayParts P s u         what `trayread` takes for plan, symbols and doubts of the input P, s, u, a plan and as many symbols
+--                           as its mark has cells
 --   WidensExactly old wide  widening gives 11 where the bytes old are more than 1,000 plans or no whole number of them, else 6
 --                           where the buffer has not 40 bytes for each, else 0
+--   PrintsExactly input     `planwiden` prints REFUSED 11 in just these cases, else the plans
 --   Widened Q               the plan Q of 24 bytes, widened, has its season, modulus and degree, and its points each way; its
 --                           check gives what document 01's check gave Q with bytes 21 to 23 put to 0
 --   WidenedInOrder old      plan k of all that are widened is plan k of the bytes old, widened
@@ -34,7 +37,7 @@
 -- What this file is for: the sentences that a user relies on, each as one statement whose parts are named.
 use mathlib.Core.Path.{_≡_}
 use mathlib.Core.Bool.{false}
-use mathlib.Core.List.{List, [], _∷_}
+use mathlib.Core.List.{List, [], _∷_, _++_}
 use mathlib.Core.Logic.{_≢_, _↔_}
 use Prim.Native.Nat.{ℕ, _+_, _*_, _-_, _/_, _%_, _^_, _≤_, _<_, min, max}
 use lib.IntN.{ℤ, pos, negℤ, _-ℤ_}
@@ -59,7 +62,9 @@ use Rattle.definitions.specs.Finder.{findRows, findNumber, findOffset, f
 use Rattle.definitions.specs.Code.{IsRecord}
 use Rattle.definitions.specs.Photograph.{Photograph, sure}
 use Rattle.definitions.specs.Widening.{narrowPlan, widened, widenedAll, widenRows, widenNumber, widenBuffer}
-use Rattle.definitions.specs.Widening.{narrowNumber, cleared}
+use Rattle.definitions.specs.Widening.{widenText, narrowNumber, cleared}
+use Rattle.definitions.specs.Tray.{planOf, symbolsOf, doubtsOf}
+use Rattle.definitions.specs.Printed.{refusedLine}
 
 pub record RefusalsKeep : Type 0 where
   pub write : (C : Code) (P F B : List ℕ) → writeNumber C P F B ≢ 0 → writeBuffer C P F B ≡ B
@@ -186,11 +191,21 @@ pub record GroupsFill (d : ℕ) : Type 0 where
   pub holds : (p : ℕ) (F : List ℕ) (z : ℕ → ℕ) →
       valueAt 1 p d F z ≡ sum (d + 1) (λ k. sum (k + 1) λ j. at F (start k + j) * (z 0 ^ (k - j) * z 1 ^ j)) % p
 
+pub record TrayParts (P s u : List ℕ) : Type 0 where
+  pub plan : planOf (P ++ (s ++ u)) ≡ P
+  pub symbols : symbolsOf (P ++ (s ++ u)) ≡ s
+  pub doubts : doubtsOf (P ++ (s ++ u)) ≡ u
+
 pub record WidensExactly (old wide : List ℕ) : Type 0 where
   pub many : 1000 * 24 < length old → widenNumber old wide ≡ 11
   pub broken : length old % 24 ≢ 0 → widenNumber old wide ≡ 11
   pub room : length old ≤ 1000 * 24 → length old % 24 ≡ 0 → length wide ≢ length old / 24 * 40 → widenNumber old wide ≡ 6
   pub done : length old ≤ 1000 * 24 → length old % 24 ≡ 0 → length wide ≡ length old / 24 * 40 → widenNumber old wide ≡ 0
+
+pub record PrintsExactly (input : List ℕ) : Type 0 where
+  pub many : 1000 * 24 < length input → widenText input ≡ refusedLine 11
+  pub broken : length input % 24 ≢ 0 → widenText input ≡ refusedLine 11
+  pub done : length input ≤ 1000 * 24 → length input % 24 ≡ 0 → widenText input ≡ widenedAll input
 
 -- Q has 24 bytes, and they may be any
 pub record Widened (Q : List ℕ) : Type 0 where

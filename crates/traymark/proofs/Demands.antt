@@ -11,6 +11,7 @@
 --   lowest-given, measures               "What is returned"
 --   found-exactly, first-found           document 02, request 2: when a plan of a season is found, and which
 --   groups-fill                          document 02, request 4: where the coefficients of a record stand
+--   tray-parts, prints-exactly           what the programs take of their input, and when `planwiden` refuses it
 --   widens-exactly, widened-keeps, widened-in-order
 --                                        document 02, request 3: when plans are widened, what one becomes, and all of a file
 --
@@ -19,12 +20,12 @@
 use mathlib.Core.Path.{_≡_, refl, sym, _∙_}
 use mathlib.Core.Logic.{_↔_}
 use mathlib.Core.List.{List, [], _∷_}
-use Prim.Native.Nat.{ℕ, suc, _+_, _<_}
+use Prim.Native.Nat.{ℕ, suc, _+_, _*_, _<_}
 use native.Mathlib.Omega.{arith}
 use native.Mathlib.Numerals.{add-one}
 use lib.ListN.{length}
 use Rattle.bounded.specs.Bounded.{at, index}
-use Rattle.definitions.specs.Plan.{planRows, checkNumber}
+use Rattle.definitions.specs.Plan.{planBytes, rows, columns, planRows, checkNumber}
 use Rattle.definitions.specs.Code.{Code, size, cells, value, mark}
 use Rattle.definitions.specs.Cost.{full}
 use Rattle.definitions.specs.Calls.{photoRows, writeRows, writeNumber, writeBuffer}
@@ -36,11 +37,13 @@ use Rattle.polynomial.specs.Record.{start}
 use Rattle.definitions.specs.Widening.{narrowBytes, widenRows, widenNumber}
 use Rattle.definitions.specs.Demands.{RefusalsKeep, Shapes, Written, RoundTrip, Weighed, Nearest}
 use Rattle.definitions.specs.Demands.{UnreadCosts, MarkMargins, LowestGiven, Measures, FoundExactly, FirstOfSeason}
-use Rattle.definitions.specs.Demands.{GroupsFill, places, WidensExactly, Widened, WidenedInOrder}
+use Rattle.definitions.specs.Demands.{GroupsFill, places, TrayParts, WidensExactly, PrintsExactly, Widened}
+use Rattle.definitions.specs.Demands.{WidenedInOrder}
 use Rattle.definitions.specs.Refusals.{table}
 use Rattle.definitions.proofs.Refusals.{first-earliest, first-absent}
 use Rattle.definitions.proofs.Finder as finder
 use Rattle.definitions.proofs.Widening as widening
+use Rattle.definitions.proofs.Tray as tray
 use Rattle.definitions.proofs.Plan.{strip-size, mark-size}
 use Rattle.definitions.proofs.Sound.{sound, checked}
 use Rattle.definitions.proofs.Demands.{nearest-one}
@@ -175,6 +178,14 @@ groups-fill d = record {
   where
     length-is : start (d + 1) ≡ places d
     length-is = omega arith
+
+-- `trayread` takes a plan, the symbols of its mark and what follows for what they are.
+pub tray-parts : (P s u : List ℕ) → length P ≡ planBytes → length s ≡ rows P * columns P → TrayParts P s u
+tray-parts = tray.tray-parts
+
+-- `planwiden` prints REFUSED 11 for more than 1,000 plans or a broken one, else the plans.
+pub prints-exactly : (input : List ℕ) → PrintsExactly input
+prints-exactly = widening.prints-exactly
 
 -- Widening gives 11 for more than 1,000 plans or a broken one, else 6 where the buffer has not 40 bytes for each plan, else 0.
 pub widens-exactly : (old wide : List ℕ) → WidensExactly old wide
