@@ -23,6 +23,9 @@ loop-holds : tie.Need-loop-holds Inv-loop μ-loop
 unfolding tab
 loop-holds c = (omega arith, search needs, search needs)
 
+widened-byte-requires : tie.Need-widened-byte-requires Inv-loop μ-loop
+widened-byte-requires c κs = search needs
+
 loop-again : tie.Need-loop-again Inv-loop μ-loop
 loop-again c =
     let l = c .before .before .loop in
@@ -43,7 +46,8 @@ returns c =
 pub widen-plan-spec : {M : Type 1} → statement M
 widen-plan-spec = tie.close (tie.spec Inv-loop μ-loop
     loop-holds
-    (λ c κs. search needs) (λ c. search needs) (λ c. search needs) (λ c. search needs)
+    widened-byte-requires
+    (λ c. search needs) (λ c. search needs) (λ c. search needs)
     loop-again
     (λ c. search needs)
     returns)
