@@ -2,6 +2,8 @@
 --
 --   sound, checked   from the number 0 to the facts, and back
 --   check-at         the check that stops at row i gives that row's number
+--   fits             a side that the tests of its number pass
+--   placed, in-place points in their sixteen bytes, from their test to the facts, and back
 --   cells-most       strips and marks of a sound plan have at most 256 cells
 --
 -- What this file is for: the facts of a sound plan for whoever was given the number 0, and the number for whoever has the facts.
@@ -38,7 +40,7 @@ filled-no P a n h = none-any _ _ λ i l.
     le-ltb _ _ z
 
 -- a side that fits, and one that a test finds unfit
-fits : (p n : ℕ) → unfit p n ≡ false → IsSide p n
+pub fits : (p n : ℕ) → unfit p n ≡ false → IsSide p n
 fits p n h =
     let (a, b) = neither (eqb n 0) _ h in
     let (c, d) = neither (ltb 16 n) _ b in
@@ -48,7 +50,7 @@ fitting : (p n : ℕ) → IsSide p n → unfit p n ≡ false
 fitting p n F = nor (ne-eqb _ _ (F .some)) (nor (le-ltb _ _ (F .most)) (le-ltb _ _ (F .room)))
 
 -- the same of n points in the sixteen bytes from byte a on
-placed : (P : List ℕ) (a n : ℕ) → n ≤ 16 → misplaced P a n ≡ false → PointsFrom P a n
+pub placed : (P : List ℕ) (a n : ℕ) → n ≤ 16 → misplaced P a n ≡ false → PointsFrom P a n
 placed P a n k h = record {
   below = λ i l. leb-false _ _ (point i l .0);
   rising = λ i l. rw (add-one i) (leb-false _ _ (point (suc i) (omega arith) .1));
@@ -60,7 +62,7 @@ placed P a n k h = record {
     point i l = neither (leb (modulus P) (at P (a + i))) (unrisen P a i)
         (rw (lt-ltb i n l) at (any-none 16 (wrongPoint P a n) h i (omega arith)))
 
-in-place : (P : List ℕ) (a n : ℕ) → PointsFrom P a n → misplaced P a n ≡ false
+pub in-place : (P : List ℕ) (a n : ℕ) → PointsFrom P a n → misplaced P a n ≡ false
 in-place P a n F = none-any 16 (wrongPoint P a n) λ i l. elim (decLt i n) [
   | yes m ↦ rw (lt-ltb i n m) (nor (lt-leb _ _ (F .below i m)) (risen i m))
   | no m ↦ let k : n ≤ i = omega arith in rw (le-ltb i n k, F .unused i k l)

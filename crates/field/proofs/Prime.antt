@@ -1,12 +1,6 @@
 -- A prime modulus: its test, its inverses, and that it has no divisors of zero.
 --
---   Alone p m            no number from 2 below m divides p
---   alone-more           nor does m
---   root-small           the root of a number of 16 bits has 8
---   below-root           where none below the root divides, none does
 --   is-prime, prime-is   the test says that a number is prime exactly where it is
---   not-prime            what is not prime fails the test
---   root-prime           trial division up to the root
 --   inverse-step         p = k a + r makes minus k over r the inverse of a
 --   inverse-minus        minus an inverse is the inverse of minus the number
 --   not-twice            an odd prime is no number twice
@@ -19,9 +13,8 @@ use mathlib.Core.Path.{_≡_, refl, ap, _∙_}
 use mathlib.Core.Bool.{Bool, true, false, not, _&&_, false≢true}
 use Prim.Native.Nat.{ℕ, zero, suc, _+_, _*_, _-_, _/_, _%_, _≤_, _<_}
 use native.Mathlib.Omega.{arith}
-use native.Mathlib.Nat.{le-of-lt, div-add-mod, mod-lt, zero-mod, mul-le-mul, mul-le-mul-left, mul-mod-left, div-le-self}
-use native.Mathlib.Nat.{sub-add-cancel}
-use native.Mathlib.Decide.{ℕ-discrete, decLe}
+use native.Mathlib.Nat.{le-of-lt, div-add-mod, mod-lt, zero-mod, mul-mod-left, div-le-self, sub-add-cancel}
+use native.Mathlib.Decide.{ℕ-discrete}
 use lib.Dec.{eqb, leb}
 use borrow.Author.Tests.{eqb-false, ne-eqb, le-leb, leb-true}
 use Rattle.bounded.proofs.Any.{any-none, none-any}
@@ -29,33 +22,6 @@ use Rattle.field.specs.Congruence.{Cong}
 use Rattle.field.specs.Prime.{divided, isPrime, Prime, Inverse}
 use Rattle.field.proofs.Congruence.{same, ~sym, _⨾_, ~mul, ~mul-right, less, rest, remainder}
 use Rattle.field.proofs.Congruence.{below-eq, difference, mod-cong, cong-mod}
-
--- no number from 2 below m divides p
-abbrev pub Alone : (p m : ℕ) → Type 0
-Alone p m = (a : ℕ) → 2 ≤ a → a < m → p % a ≢ 0
-
-pub alone-more : (p m : ℕ) → Alone p m → p % m ≢ 0 → Alone p (m + 1)
-alone-more p m h n a i l = elim (ℕ-discrete a m) [ yes e ↦ rw e n | no e ↦ h a i (omega arith) ]
-
--- the root of a number of 16 bits has 8
-pub root-small : (d : ℕ) → d * d < 65536 → d < 256
-root-small d h = elim (decLe 256 d) [ yes l ↦ absurd (omega (arith, mul-le-mul l l)) | no l ↦ omega arith ]
-
--- a divisor from the root on has a partner below it
-pub below-root : (p s : ℕ) → p < s * s → Alone p s → Alone p p
-below-root p s h d a i l z = elim (decLe s a) [
-  | no k ↦ d a i (omega arith) z
-  | yes k ↦ elim (decLe s (p / a)) [
-    | yes m ↦ omega (arith, mul-le-mul k m, div-add-mod p a)
-    | no m ↦ elim (decLe 2 (p / a)) [
-      | yes o ↦ d (p / a) o (omega arith) (ap (λ t. t % (p / a)) e ∙ mul-mod-left a (p / a))
-      | no o ↦ omega (arith, mul-le-mul-left {m = p / a} {n = 1} a (omega arith), e)
-    ]
-  ]
-]
-  where
-    e : p ≡ a * (p / a)
-    e = omega (arith, div-add-mod p a)
 
 -- the test and the facts
 pub is-prime : (p : ℕ) → isPrime p ≡ true → Prime p
@@ -78,17 +44,6 @@ prime-is p r = rw (
   le-leb 2 p (r .least),
   none-any (p - 2) (λ i. eqb (p % (2 + i)) 0) λ i l. ne-eqb _ _ (r .alone (2 + i) (omega arith) (omega (arith, r .least))),
 )
-
-pub not-prime : (p : ℕ) → ¬ (Prime p) → isPrime p ≡ false
-not-prime p n = go (isPrime p) refl
-  where
-    go : (b : Bool) → isPrime p ≡ b → isPrime p ≡ false
-    go true e = absurd (n (is-prime p e))
-    go false e = e
-
--- trial division up to the root
-pub root-prime : (p s : ℕ) → 2 ≤ p → p < s * s → Alone p s → isPrime p ≡ true
-root-prime p s h l d = prime-is p (record { least = h; alone = below-root p s l d })
 
 -- an inverse by division: p = k a + r makes minus k over r the inverse of a
 pub inverse-step : {p a s : ℕ} → 0 < p → Inverse p (p % a) s → Inverse p a ((p - p / a) * s % p)

@@ -34,7 +34,7 @@ pub fn check(plan: &[u8]) -> u32
         return 1;
     }
     let p = plan[2];
-    if !field::scalar::is_prime(p as u16) {
+    if !field::scalar::is_prime(p) {
         return 2;
     }
     if 251 < p {
@@ -77,29 +77,37 @@ fn smaller(a: u8, b: u8) -> u8
     b
 }
 
-// Whether one of the sixteen bytes from byte a on, of which the first n are points, is wrong.
+// Whether one of the sixteen bytes from byte a on, of which the first n are points, is wrong. All are looked at, each with the one
+// after it, and none has a branch of its own: so they are compared at once.
 fn is_misplaced(plan: &[u8], a: usize, n: u8) -> bool
-    requires { ⌜ (length (now plan) ≡ planBytes) × (0 < a) × (a + 16 ≤ planBytes) ⌝ }
+    requires { ⌜ (length (now plan) ≡ planBytes) × (a + 16 < planBytes) × (n ≤ 16) ⌝ }
     ensures { λ r. ⌜ r ≡ misplaced (now (plan .entry)) a n ⌝ }
 {
     let p = plan[2];
     let mut found = false;
     for i in 0..16 {
         let at = a + i as usize;
-        found = found | is_wrong_point(plan[at], plan[at - 1], i, n, p);
+        found = found | is_wrong_point(plan[at], plan[at + 1], i, n, p);
     }
     found
 }
 
-// Whether byte i of them is: a point that is p or more, or not above the one before it, if there is one; an unused byte that is
-// not 0.
-fn is_wrong_point(byte: u8, before: u8, i: u8, n: u8, p: u8) -> bool
-    ensures { λ r. ⌜ r ≡ cond (ltb i n) (leb p byte || (ltb 0 i && leb byte before)) (ltb 0 byte) ⌝ }
+// Whether byte i of them is not below its limit, or the next one is a point too and not above it.
+fn is_wrong_point(byte: u8, next: u8, i: u8, n: u8, p: u8) -> bool
+    requires { ⌜ i < 16 ⌝ }
+    ensures { λ r. ⌜ r ≡ (leb (cond (ltb i n) p 1) byte || (ltb (i + 1) n && leb next byte)) ⌝ }
+{
+    (limit(i, n, p) <= byte) | ((i + 1 < n) & (next <= byte))
+}
+
+// What byte i must be below: a point below p, an unused byte below 1.
+fn limit(i: u8, n: u8, p: u8) -> u8
+    ensures { λ r. ⌜ r ≡ cond (ltb i n) p 1 ⌝ }
 {
     if i < n {
-        return (p <= byte) | ((0 < i) & (byte <= before));
+        return p;
     }
-    0 < byte
+    1
 }
 
 // What a sound plan says.

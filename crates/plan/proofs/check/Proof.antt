@@ -1,10 +1,11 @@
 -- `plan::check` meets its contract: at each return the tests before it failed, and its own holds. Assumes nothing.
 use native.Mathlib.Omega.{arith}
+use lib.Dec.{lit<}
 use borrow.Author.Tests.{lt-ltb, le-ltb}
 use Rattle.definitions.specs.Plan.{planRows}
 use Rattle.definitions.proofs.Refusals.{_&_, equal, unequal, answered, answered-not}
 use Rattle.definitions.proofs.Sound.{check-at}
-use Rattle.plan.proofs.Reached.{low, high, spare-reached}
+use Rattle.plan.proofs.Reached.{low, high, spare-reached, fit-most}
 use borrow.Author.Needs.{needs}
 use Rattle.plan.proofs.check.Statement.{statement}
 use Rattle.plan.proofs.check.Tie as tie
@@ -64,7 +65,6 @@ check-spec =
     (λ c. search needs) (λ c. search needs) (λ c. search needs) (λ c κs. search needs)
     returns-2
     (λ c. search needs)
-    (λ c. omega (arith, c .shared-slice-known2 .given 2))
     (λ c κs. search needs)
     returns-3
     returns-4
@@ -74,8 +74,12 @@ check-spec =
     returns-6
     (λ c κs. search needs) (λ c. search needs)
     returns-7
-    (λ c κs. search needs)
+    (λ c κs.
+    let e = c .before .before .before .before .before .before in
+    (omega arith, lit< tt, fit-most _ _ (e .before .is-unfit .ensures) (e .if5 .left)))
     returns-8
-    (λ c κs. search needs)
+    (λ c κs.
+    let e = c .before .before .before .before .before in
+    (omega arith, lit< tt, fit-most _ _ (e .before .is-unfit2 .ensures) (e .if6 .left)))
     returns-9
     returns-10)

@@ -1,13 +1,10 @@
--- `plan::is_wrong_point` meets its contract: of a point, and of an unused byte. Assumes nothing.
-use borrow.Author.Tests.{lt-ltb, le-ltb}
+-- `plan::is_wrong_point` meets its contract: the limit is that of the contract. Assumes nothing.
+use borrow.Author.Needs.{needs}
 use Rattle.plan.proofs.is_wrong_point.Statement.{statement}
 use Rattle.plan.proofs.is_wrong_point.Tie as tie
 
 returns : tie.Need-returns
-returns c = rw (lt-ltb (c .before .args .i) (c .before .args .n) (c .if1 .taken))
-
-returns-2 : tie.Need-returns-2
-returns-2 c = rw (le-ltb (c .before .args .i) (c .before .args .n) (c .if1 .left))
+returns c = rw (c .limit .ensures)
 
 pub is-wrong-point-spec : {M : Type 1} → statement M
-is-wrong-point-spec = tie.close (tie.spec returns returns-2)
+is-wrong-point-spec = tie.close (tie.spec (λ c κs. search needs) (λ c. search needs) returns)

@@ -1,44 +1,56 @@
--- `field::scalar::is_prime` meets its contract: no number from 2 below the divisor divides p, and where that is past
--- the root, none does. Assumes nothing.
-use mathlib.Core.Path.{sym}
-use Prim.Native.Nat.{_-_, _≤_}
+-- `field::scalar::is_prime` meets its contract: one test, which antt computes for every byte. Assumes nothing.
+use mathlib.Core.Path.{_≡_, refl}
+use mathlib.Core.Bool.{Bool, true, false, cond, not, _&&_, _||_, true≢false}
+use Prim.Native.Nat.{ℕ, _%_, _<_}
 use native.Mathlib.Omega.{arith}
-use native.Mathlib.Nat.{mul-le-mul, mul-le-mul-left}
-use Rattle.field.proofs.Prime.{Alone, alone-more, root-small, root-prime, not-prime}
+use lib.Dec.{eqb, ltb}
+use Rattle.bounded.specs.Bounded.{any}
+use Rattle.bounded.proofs.Any.{any-none}
+use Rattle.field.specs.Prime.{isPrime}
 use borrow.Author.Needs.{needs}
 use Rattle.field.proofs.scalar.is_prime.Statement.{statement}
 use Rattle.field.proofs.scalar.is_prime.Tie as tie
 
-abbrev Inv-loop : tie.InvT-loop
-Inv-loop p n divisor₀ divisor = (2 ≤ p) × (2 ≤ divisor) × (divisor ≤ 256) × Alone p divisor
+abbrev splits : (d p : ℕ) → Bool
+splits d p = eqb (p % d) 0 && not (eqb p d)
 
-abbrev μ-loop : tie.MeasureT-loop
-μ-loop p n divisor₀ divisor = 256 - divisor
+-- what is returned for p
+answer : ℕ → Bool
+answer p = ltb 1 p && not (((((splits 2 p || splits 3 p) || splits 5 p) || splits 7 p) || splits 11 p) || splits 13 p)
 
-returns : tie.Need-returns Inv-loop μ-loop
-returns c = sym (not-prime _ λ r. omega (arith, r .least))
+wrong : ℕ → Bool
+wrong p = cond (answer p) (not (isPrime p)) (isPrime p)
 
-loop-holds : tie.Need-loop-holds Inv-loop μ-loop
-loop-holds c = (omega arith, omega arith, omega arith, λ a h l. absurd (omega arith))
+none-wrong : any 256 wrong ≡ false
+unfolding any isPrime answer wrong
+none-wrong = refl
 
-returns-2 : tie.Need-returns-2 Inv-loop μ-loop
-returns-2 c =
-    let l = c .before .before .loop in
-    let square = mul-le-mul-left (l .divisor) (l .inv .1) in
-    sym (not-prime _ λ r. r .alone (l .divisor) (omega arith) (omega (arith, square)) (omega arith))
+right : (p : ℕ) → p < 256 → answer p ≡ isPrime p
+unfolding wrong
+right p l = go (answer p) (isPrime p) (any-none 256 wrong none-wrong p l)
+  where
+    go : (a b : Bool) → cond a (not b) b ≡ false → a ≡ b
+    go true true e = refl
+    go true false e = absurd (true≢false e)
+    go false true e = absurd (true≢false e)
+    go false false e = refl
 
-loop-again : tie.Need-loop-again Inv-loop μ-loop
-loop-again c =
-    let small = root-small (c .before .before .loop .divisor) (omega arith) in
-    (omega arith, omega arith, omega arith, alone-more _ _ (c .before .before .loop .inv .3) (λ h. omega arith))
-
-returns-3 : tie.Need-returns-3 Inv-loop μ-loop
-returns-3 c = sym (root-prime _ (c .before .loop .divisor) (c .before .loop .inv .0) (omega arith) (c .before .loop .inv .3))
+returns : tie.Need-returns
+unfolding answer
+returns c =
+    let b = c .before .before in
+    rw (
+      b .before .before .before .splits .ensures,
+      b .before .before .splits2 .ensures,
+      b .before .splits3 .ensures,
+      b .splits4 .ensures,
+      c .before .splits5 .ensures,
+      c .splits6 .ensures,
+    )
+    (right (b .before .before .before .before .args .p) (omega arith))
 
 pub is-prime-spec : {M : Type 1} → statement M
-is-prime-spec = tie.close (tie.spec Inv-loop μ-loop
-    returns loop-holds
-    (λ c. let b = c .loop .inv .2 in omega (arith, mul-le-mul b b))
-    (λ c. search needs) returns-2 (λ c. search needs)
-    (λ c. omega (arith, root-small (c .before .before .loop .divisor) (omega arith)))
-    loop-again returns-3)
+is-prime-spec = tie.close (tie.spec
+    (λ c κs. search needs) (λ c κs. search needs) (λ c κs. search needs)
+    (λ c κs. search needs) (λ c κs. search needs) (λ c κs. search needs)
+    returns)
