@@ -7,8 +7,7 @@
 --   powers-step                 the product of two rows has the sum of their powers
 --   product-small               a product of two numbers of a byte
 --   terms rows w i j            the first i terms at point j, by the rows and the coefficients w, not reduced
---   terms-none, terms-first, terms-more
---                               none, the first, and one term more, as a loop makes them
+--   terms-first, terms-more     the first, and one term more, as a loop makes them
 --   terms-row, term-fits        the sums are small, and one term more can be added
 --   terms-values                reduced, they are the polynomial's values
 --
@@ -77,30 +76,34 @@ powers-step h k x {w} z e f g = g ∙ tab-eq 16 λ j i. cong-mod z
 pub product-small : {a b : ℕ} → a < 256 → b < 256 → a * b ≤ 65025
 product-small {a} {b} h k = mul-le-mul {n₁ = a} {m₁ = b} {n₂ = 255} {m₂ = 255} (omega arith) (omega arith)
 
--- the first i terms of the values at point j, by the rows and the coefficients w, not reduced
+-- the terms of the values at point j, by the rows and the coefficients w, not reduced: the first is its coefficient, since the
+-- power 0 is 1
+abbrev term : (rows : List (List ℕ)) (w : ℕ → ℕ) (t j : ℕ) → ℕ
+term rows w zero j = w 0
+term rows w (suc t) j = w (suc t) * at (getD rows (suc t) []) j
+
 abbrev pub terms : (rows : List (List ℕ)) (w : ℕ → ℕ) (i j : ℕ) → ℕ
-terms rows w i j = sum i λ t. w t * at (getD rows t []) j
+terms rows w i j = sum i λ t. term rows w t j
 
--- the sums at all points as a loop makes them: none, the first, and one term more
-pub terms-none : (rows : List (List ℕ)) (w : ℕ → ℕ) → replicate 16 0 ≡ row (terms rows w 0)
-terms-none rows w = tab-is 16 _ (replicate 16 0) refl λ j k. getD-replicate 16 j 0 0 k
+-- the sums at all points as a loop makes them: the first term, and one more
+pub terms-first : (rows : List (List ℕ)) (w : ℕ → ℕ) → replicate 16 (w 0) ≡ row (terms rows w 1)
+terms-first rows w = tab-is 16 (terms rows w 1) (replicate 16 (w 0)) refl λ j k.
+    omega (arith, getD-replicate 16 j (w 0) 0 k)
 
-pub terms-first : (rows : List (List ℕ)) (w : ℕ → ℕ) {l : List ℕ} → l ≡ row (λ j. w 0 * at (getD rows 0 []) j) →
-    l ≡ row (terms rows w 1)
-terms-first rows w e = e ∙ tab-eq 16 λ j k. omega arith
-
-pub terms-more : (rows : List (List ℕ)) (w : ℕ → ℕ) (i : ℕ) {s l : List ℕ} → s ≡ row (terms rows w i) →
+pub terms-more : (rows : List (List ℕ)) (w : ℕ → ℕ) (i : ℕ) {s l : List ℕ} → 0 < i → s ≡ row (terms rows w i) →
     l ≡ row (λ j. at s j + w i * at (getD rows i []) j) → l ≡ row (terms rows w (i + 1))
-terms-more rows w i e f = f ∙ rw e
-    (tab-eq 16 λ j k. omega (arith, row-at (terms rows w i) j k, sum-more i (λ t. w t * at (getD rows t []) j)))
+terms-more rows w zero h e f = absurd (omega arith)
+terms-more rows w (suc i) h e f = f ∙ rw e
+    (tab-eq 16 λ j k. omega (arith, row-at (terms rows w (suc i)) j k, sum-more (suc i) (λ t. term rows w t j)))
 
--- each term is a product of two residues, so that the sums are small, and one term more can be added
+-- each term is a residue or a product of two, so that the sums are small, and one term more can be added
 module _ {p : ℕ} {rows : List (List ℕ)} {w : ℕ → ℕ} (h : p ≤ 251) (R : Rows p rows) (W : (t : ℕ) → t < 16 → w t < p) where
   terms-most : (i j : ℕ) → i ≤ 16 → terms rows w i j ≤ i * 62750
   terms-most i j l = omega (arith, sum-le i {g = λ t. 62750} each, sum-const i 62750)
     where
-      each : (t : ℕ) → t < i → w t * at (getD rows t []) j ≤ 62750
-      each t k = let s : t < 16 = omega arith in product-fits h (le-of-lt (W t s)) (R .done t s .small j)
+      each : (t : ℕ) → t < i → term rows w t j ≤ 62750
+      each zero k = omega (arith, W 0 (omega arith))
+      each (suc t) k = let s : suc t < 16 = omega arith in product-fits h (le-of-lt (W (suc t) s)) (R .done (suc t) s .small j)
 
   pub terms-row : (i : ℕ) {s : List ℕ} → i ≤ 16 → s ≡ row (terms rows w i) → Row 16777216 s
   terms-row i l e = rw e
@@ -116,7 +119,11 @@ module _ {p : ℕ} {rows : List (List ℕ)} {w : ℕ → ℕ} (h : p ≤ 251) (R
 module _ {p d : ℕ} {rows : List (List ℕ)} (w : ℕ → ℕ) (x : List ℕ) (z : 0 < p) (P : Powers p x d rows) where
   terms-cong : (i j : ℕ) → i ≤ suc d → j < 16 → Cong (p - 1) (terms rows w i j) (eval i w (at x j))
   terms-cong zero j h k = same refl
-  terms-cong (suc i) j h k = ~add (terms-cong i j (omega arith) k) (~mul (w i) (result-cong _ z (P .done i (omega arith)) j k))
+  terms-cong (suc i) j h k = ~add (terms-cong i j (omega arith) k) (one i (omega arith))
+    where
+      one : (t : ℕ) → t < suc d → Cong (p - 1) (term rows w t j) (w t * at x j ^ t)
+      one zero l = same (rw (pow-zero (at x j)) (omega arith))
+      one (suc t) l = ~mul (w (suc t)) (result-cong _ z (P .done (suc t) l) j k)
 
   -- reduced, they are the values
   pub terms-values : {s l : List ℕ} → s ≡ row (terms rows w (suc d)) → l ≡ row (λ j. at s j % p) →

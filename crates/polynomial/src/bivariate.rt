@@ -72,19 +72,19 @@ fn set_columns(
     }
 }
 
-// What the values of a message on a grid are made of: its columns, and the powers of the column points. Both tables are lent,
-// since a table that is handed back is copied.
-pub fn prepare(message: &[u8], g: Grid, columns: &mut [[u16; 16]; 16], ys: &mut [[u16; 16]; 16])
-    requires { ⌜ Fit g × Word (g .p) (startOf (suc (g .d))) (now message) × Rows (g .p) (now columns) × Rows (g .p) (now ys) ⌝ }
+// What the values of a message on a grid are made of: its columns, and the powers of the column points. The tables are lent,
+// since one that is handed back is copied; that of the powers has those of the row points first, for the columns.
+pub fn prepare(message: &[u8], g: Grid, columns: &mut [[u16; 16]; 16], powers: &mut [[u16; 16]; 16])
+    requires { ⌜ Fit g × Word (g .p) (startOf (suc (g .d))) (now message) × Rows (g .p) (now columns)
+        × Rows (g .p) (now powers) ⌝ }
     ensures { λ _. ⌜ Rows (g .p) (now (columns .exit)) × Columns (g .p) (g .d) (g .x) (now (message .entry)) (now (columns .exit))
-        × Rows (g .p) (now (ys .exit)) × Powers (g .p) (g .y) (g .d) (now (ys .exit)) ⌝ }
+        × Rows (g .p) (now (powers .exit)) × Powers (g .p) (g .y) (g .d) (now (powers .exit)) ⌝ }
 {
     let x = g.x;
-    let mut xs = [[0u16; 16]; 16];
-    evaluation::set_powers(&mut xs, x, g.d, g.p, g.m);
-    set_columns(columns, message, &xs, g.d, g.p, g.m);
+    evaluation::set_powers(powers, x, g.d, g.p, g.m);
+    set_columns(columns, message, powers, g.d, g.p, g.m);
     let y = g.y;
-    evaluation::set_powers(ys, y, g.d, g.p, g.m);
+    evaluation::set_powers(powers, y, g.d, g.p, g.m);
 }
 
 // Place r of each row.
@@ -115,7 +115,7 @@ pub fn row_values(
     ensures { λ v. ⌜ Row p v × ((x y F : List ℕ) → Columns p d x F (now (columns .entry)) → Powers p y d (now (powers .entry)) →
         v ≡ row (λ j. valueXY p d F (at x r) (at y j))) ⌝ }
 {
-    let mut sum = evaluation::product(columns[0][r], &powers[0]);
+    let mut sum = [columns[0][r] as u32; 16];
     let mut t = 1;
     while t <= d {
         evaluation::add_product(&mut sum, columns[t][r], &powers[t]);

@@ -34,20 +34,6 @@ pub fn powers(x: [u16; 16], d: usize, p: u16, m: u16) -> [[u16; 16]; 16]
     rows
 }
 
-// c v, the first of such sums.
-pub fn product(c: u16, v: &[u16; 16]) -> [u32; 16]
-    requires { ⌜ (c < 256) × Row 256 (now v) ⌝ }
-    ensures { λ r. ⌜ r ≡ row (λ j. c * at (now (v .entry)) j) ⌝ }
-{
-    let mut out = [0u32; 16];
-    let mut j = 0;
-    while j < 16 {
-        out[j] = c as u32 * v[j] as u32;
-        j += 1;
-    }
-    out
-}
-
 // c v added to the sums. The bounds keep each of them within 32 bits.
 pub fn add_product(sum: &mut [u32; 16], c: u16, v: &[u16; 16])
     requires { ⌜ Row 16777216 (now sum) × (c < 256) × Row 256 (now v) ⌝ }
@@ -60,14 +46,14 @@ pub fn add_product(sum: &mut [u32; 16], c: u16, v: &[u16; 16])
     }
 }
 
-// The values at the points, whose powers are given, of the polynomial with the k + 1 coefficients w. The sums of products are
-// reduced once, at the end: sixteen products of numbers below 251 are less than 2^20.
+// The values at the points, whose powers are given, of the polynomial with the k + 1 coefficients w. The first term is its
+// coefficient. The sums of products are reduced once, at the end: sixteen products of numbers below 251 are less than 2^20.
 pub fn values(powers: &[[u16; 16]; 16], k: usize, w: [u16; 16], p: u16, m: u16) -> [u16; 16]
     requires { ⌜ Reciprocal p m × Rows p (now powers) × Row p w × (k < 16) ⌝ }
     ensures { λ r. ⌜ Row p r
         × ((x : List ℕ) → Powers p x k (now (powers .entry)) → r ≡ row (λ j. eval (suc k) (at w) (at x j) % p)) ⌝ }
 {
-    let mut sum = product(w[0], &powers[0]);
+    let mut sum = [w[0] as u32; 16];
     let mut i = 1;
     while i <= k {
         add_product(&mut sum, w[i], &powers[i]);
