@@ -6,7 +6,9 @@
 --   photo-refused, photo-passes   the plan's own number; past the plan, that of the tests of a photograph
 --   write-refused, write-passes   the same of writing
 --   measure-refused, measure-at   the photograph's number; that of the test after it
+--   writing-accepted              a record of a sound plan is written into a buffer of its length
 --   measuring-accepted            a photograph and a record of its plan are measured
+--   plan-first                    a plan that is refused has its own number in every call
 --
 -- What this file is for: the calls test in order, and each case of theirs is one law. Assumes nothing.
 use mathlib.Core.Path.{_≡_, refl, sym, _∙_}
@@ -18,17 +20,17 @@ use borrow.Author.Tests.{leb-false, lt-leb, eqb-true, not-false}
 use Rattle.bounded.proofs.Any.{any-none, none-any}
 use Rattle.definitions.specs.Refusals.{_when_, first}
 use Rattle.definitions.specs.Plan.{modulus, planRows, checkNumber}
-use Rattle.definitions.specs.Code.{Code, size, cells}
+use Rattle.definitions.specs.Code.{Code, size, cells, IsRecord}
 use Rattle.definitions.specs.Cost.{full}
 use Rattle.definitions.specs.Calls.{overflowing, recordRow, photoTests, photoRows}
 use Rattle.definitions.specs.Calls.{writeTests, writeRows, writeNumber, measureRows, measureNumber}
 use Rattle.definitions.specs.Calls.{nearest, missing, readRows, readNumber}
-use Rattle.definitions.specs.Code.{IsRecord}
 use Rattle.definitions.specs.Photograph.{Photograph}
 use Rattle.definitions.specs.Accepted.{Writing}
+use Rattle.definitions.specs.Demands.{PlanFirst}
 use Rattle.definitions.proofs.Refusals.{testAt, first-clear, first-both, Stops, numberAt, first-at, first-refuses}
-use Rattle.definitions.proofs.Refusals.{first-passes}
-use Rattle.definitions.proofs.Sound.{sound}
+use Rattle.definitions.proofs.Refusals.{first-passes, equal}
+use Rattle.definitions.proofs.Sound.{sound, checked}
 use Rattle.definitions.proofs.Photograph.{photo-accepted, accepted-photo, accepted-buffer}
 
 -- one row that does not apply
@@ -93,6 +95,11 @@ module _ (C : Code) (P : List ℕ) where
     unfolding writeNumber writeRows planRows checkNumber
     write-passes = first-passes (planRows P) (writeTests (modulus P) F B (cells C P) (size C P)) tt
 
+    pub writing-accepted : Writing C P F B → writeNumber C P F B ≡ 0
+    writing-accepted w = sym (write-passes (checked P (w .sound)))
+        ∙ sym (first-at (writeTests (modulus P) F B (cells C P) (size C P)) 3
+        (equal _ _ (w .given .size), (equal _ _ (w .room), (none-any _ _ (λ i l. lt-leb _ _ (w .given .below i l)), tt))))
+
   -- measuring: the photograph's number, and the test after it
   module _ (s u F : List ℕ) where
     pub measure-refused : (k : ℕ) → k ≡ first (photoRows C P s u F) → (k ≡ 0 → ⊥) → k ≡ measureNumber C P s u F
@@ -110,3 +117,12 @@ module _ (C : Code) (P : List ℕ) where
     pub measuring-accepted : Photograph C P s u → IsRecord C P F → measureNumber C P s u F ≡ 0
     measuring-accepted h r =
         sym (measure-at 1 refl (photo-accepted C P s u F h (r .size)) refl (none-any _ _ (λ i l. lt-leb _ _ (r .below i l)), tt))
+
+pub plan-first : (P : List ℕ) → PlanFirst P
+unfolding readNumber readRows photoRows planRows
+plan-first P = record {
+  write = λ C F B n. sym (write-refused C P F B (checkNumber P) refl n);
+  measure = λ C s u F n. sym (measure-refused C P s u F (checkNumber P) (photo-refused C P s u F (checkNumber P) refl n) n);
+  read = λ C s u B n. sym (first-refuses (photoRows C P s u B) ((10 when missing (nearest C P s u)) ∷ []) tt (checkNumber P)
+      (photo-refused C P s u B (checkNumber P) refl n) n);
+}

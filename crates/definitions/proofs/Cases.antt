@@ -8,13 +8,12 @@
 --   finder-cases                  what the finder hands back
 --   published-case                a published distance
 --   never-over-zero               nothing is a multiple of a fraction over 0
---   not-thirteenth, not-by-columns
+--   four-not-first, not-by-columns
 --                                 what is not: 4 before 13, and a mark written column by column
 --   tray-cases                    case c as `trayread` reads it
---   text-cases                    what it prints
+--   text-cases, record-cases      what it prints
 --   decimal-cases, signed-cases   numbers in print
 --   widening-cases                plans of 24 bytes widened, and refused
---   widening-limits               1,000 plans and one more
 --   widening-texts                what `planwiden` prints
 --
 -- What this file is for: the definitions say what the customer worked out by hand; each is one computed comparison. Assumes
@@ -95,9 +94,9 @@ pub never-over-zero : (D k a : ℕ) → ¬ (D is k times (a over 0))
 never-over-zero D k a h = omega (arith, h .0)
 
 -- 4 is not the first in the table's order where 13 applies too
-pub not-thirteenth : ¬ (Earliest table ((4 when true) ∷ (13 when true) ∷ []) 4)
+pub four-not-first : ¬ (Earliest table ((4 when true) ∷ (13 when true) ∷ []) 4)
 unfolding index
-not-thirteenth e = omega (arith, e .before 13 (inr (inl (refl, refl))))
+four-not-first e = omega (arith, e .before 13 (inr (inl (refl, refl))))
 
 -- and the mark of the record, written column by column, is not what is written
 pub not-by-columns : ¬ (Written oblong planWide record₁ (4 ∷ 6 ∷ 1 ∷ 3 ∷ 0 ∷ 2 ∷ []))
@@ -129,16 +128,26 @@ caseF = 32 ∷ 48 ∷ 32 ∷ 53 ∷ 32 ∷ 48 ∷ 32 ∷ 53 ∷ 48 ∷ 48 ∷ 32
 abbrev refusal : List ℕ → List ℕ
 refusal number = 82 ∷ 69 ∷ 70 ∷ 85 ∷ 83 ∷ 69 ∷ 68 ∷ 32 ∷ number ++ 10 ∷ []
 
--- case c, in season 12 and in season 268; case f; case d; a byte less than case c and a byte more; a plan a byte short
+-- case c, in season 12 and in season 268; case f; case d; a byte less than case c and a byte more; a plan a byte short; no
+-- columns; nothing
 pub text-cases :
     map trayText (
     (planA ++ photoC ++ sure 9) ∷ (set planA 0 1 ++ photoC ++ sure 9) ∷ (planA ++ hidden 5 ++ doubts 5)
-    ∷ (planA ++ photoD ++ sure 9) ∷ (planA ++ photoC ++ sure 8) ∷ (planA ++ photoC ++ sure 10) ∷ drop 1 planA ∷ []
+    ∷ (planA ++ photoD ++ sure 9) ∷ (planA ++ photoC ++ sure 8) ∷ (planA ++ photoC ++ sure 10) ∷ drop 1 planA
+    ∷ (set planWide 4 0 ++ markWide) ∷ [] ∷ []
     )
     ≡ reading (49 ∷ 50 ∷ []) caseC ∷ reading (50 ∷ 54 ∷ 56 ∷ []) caseC ∷ reading (49 ∷ 50 ∷ []) caseF
-    ∷ refusal (49 ∷ 48 ∷ []) ∷ refusal (54 ∷ []) ∷ refusal (54 ∷ []) ∷ refusal (49 ∷ []) ∷ []
+    ∷ refusal (49 ∷ 48 ∷ []) ∷ refusal (54 ∷ []) ∷ refusal (54 ∷ []) ∷ refusal (49 ∷ [])
+    ∷ refusal (49 ∷ 51 ∷ []) ∷ refusal (49 ∷ []) ∷ []
 unfolding effect trayReading trayRecord decimal signed spaced readLine recordLine refusedLine answerText trayText
 text-cases = refl
+
+-- six coefficients, and one
+pub record-cases : map recordLine ((1 ∷ 0 ∷ 0 ∷ 2 ∷ 3 ∷ 40 ∷ []) ∷ (9 ∷ []) ∷ [])
+    ≡ (82 ∷ 69 ∷ 67 ∷ 79 ∷ 82 ∷ 68 ∷ 32 ∷ 49 ∷ 32 ∷ 48 ∷ 32 ∷ 48 ∷ 32 ∷ 50 ∷ 32 ∷ 51 ∷ 32 ∷ 52 ∷ 48 ∷ 10 ∷ [])
+    ∷ (82 ∷ 69 ∷ 67 ∷ 79 ∷ 82 ∷ 68 ∷ 32 ∷ 57 ∷ 10 ∷ []) ∷ []
+unfolding decimal spaced recordLine
+record-cases = refl
 
 -- 0, 9, 10, 65535, 4294967295
 pub decimal-cases : map decimal (0 ∷ 9 ∷ 10 ∷ 65535 ∷ 4294967295 ∷ [])
@@ -175,11 +184,6 @@ pub widening-cases :
     ∷ (11, nines 40) ∷ (11, []) ∷ (11, nines 40) ∷ (6, nines 41) ∷ (6, nines 39) ∷ (6, nines 1) ∷ []
 unfolding effect widened widenedAll widenRows widenNumber widenBuffer
 widening-cases = refl
-
-pub widening-limits : (old wide : List ℕ) → length wide ≡ 40000 →
-    (length old ≡ 24000 → widenNumber old wide ≡ 0) × (length old ≡ 24024 → widenNumber old wide ≡ 11)
-unfolding effect widenRows widenNumber
-widening-limits old wide e = (λ h. rw (h, e), λ h. rw h)
 
 -- two plans; none; a byte too many
 pub widening-texts : map widenText ((narrowA ++ narrowA) ∷ [] ∷ (narrowA ++ 0 ∷ []) ∷ [])

@@ -16,5 +16,6 @@ pub mod Published
 pub mod Finder
 pub mod Accepted
 pub mod Printed
+pub mod Room
 pub mod Tray
 pub mod Widening

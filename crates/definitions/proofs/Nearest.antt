@@ -16,11 +16,10 @@ use native.Mathlib.Omega.{arith}
 use borrow.Author.Tests.{ltb-true, lt-ltb, le-ltb}
 use Rattle.definitions.specs.Refusals.{Refusal, _when_, first, accepted}
 use Rattle.definitions.specs.Plan.{modulus, planRows}
-use Rattle.definitions.specs.Code.{Code, size}
+use Rattle.definitions.specs.Code.{Code, size, IsRecord}
 use Rattle.definitions.specs.Cost.{full, radius}
 use Rattle.definitions.specs.Calls.{photoRows, refused, costOf, readingOf, within, nearest, missing, the}
 use Rattle.definitions.specs.Calls.{readRows, readNumber, readReading, readBuffer}
-use Rattle.definitions.specs.Code.{IsRecord}
 use Rattle.definitions.specs.Reads.{Reads}
 use Rattle.definitions.proofs.Refusals.{first-append}
 use Rattle.definitions.proofs.Search.{search-none, search-the}

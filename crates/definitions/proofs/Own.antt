@@ -23,11 +23,10 @@ use Rattle.bounded.proofs.Sum.{sum-eq, sum-const}
 use Rattle.bounded.proofs.Tab.{length-tab}
 use Rattle.polynomial.specs.Sides.{least, others}
 use Rattle.definitions.specs.Plan.{side, degree}
-use Rattle.definitions.specs.Code.{Code, strip, oblong, cells, value, mark}
+use Rattle.definitions.specs.Code.{Code, strip, oblong, cells, value, mark, IsRecord}
 use Rattle.definitions.specs.Cost.{full, radius, margin}
 use Rattle.distance.specs.Cost.{cell, hamming}
 use Rattle.definitions.specs.Calls.{costOf, changedOf, unreadOf, readingOf, readReading, readBuffer}
-use Rattle.definitions.specs.Code.{IsRecord}
 use Rattle.definitions.specs.Sound.{Sound}
 use Rattle.definitions.specs.Photograph.{Photograph, sure}
 use Rattle.definitions.specs.Demands.{Nearest, clean}

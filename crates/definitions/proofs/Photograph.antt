@@ -12,7 +12,7 @@ use mathlib.Core.List.{List}
 use Prim.Native.Nat.{ℕ, zero, suc, _<_}
 use lib.Dec.{eqb, ltb, leb}
 use lib.ListN.{length}
-use borrow.Author.Tests.{eqb-true, ltb-false, leb-false, eq-eqb, le-ltb, lt-leb}
+use borrow.Author.Tests.{eqb-true, ltb-false, leb-false, eq-eqb, le-ltb, lt-leb, not-false}
 use Rattle.bounded.specs.Bounded.{at}
 use Rattle.bounded.proofs.Any.{any-none, none-any}
 use Rattle.definitions.specs.Refusals.{Refusal, first, accepted}
@@ -67,23 +67,19 @@ module _ (C : Code) (P s u B : List ℕ) where
     clear : (i : ℕ) → testAt rest i ≡ false
     clear = first-clear rest tt (sym (split ∙ ap (λ k. accepted k (first rest) k) passed) ∙ e)
 
-    not-not : (b : Bool) → not b ≡ false → b ≡ true
-    not-not true h = refl
-    not-not false h = absurd (true≢false h)
-
     pub accepted-photo : Photograph C P s u
     accepted-photo = record {
       sound = sound P passed;
-      symbols = eqb-true _ _ (not-not _ (clear 0));
-      doubts = eqb-true _ _ (not-not _ (clear 1));
+      symbols = eqb-true _ _ (not-false _ (clear 0));
+      doubts = eqb-true _ _ (not-false _ (clear 1));
       symbol = λ c m. one c (leb (modulus P) (at s c)) refl (any-none _ _ (clear 3) c m);
       doubt = λ c m. ltb-false _ _ (doubted c m .0);
-      erased = λ c m k. eqb-true _ _ (not-not _ (not-both _ _ (doubted c m .1) (eq-eqb _ _ k)));
+      erased = λ c m k. eqb-true _ _ (not-false _ (not-both _ _ (doubted c m .1) (eq-eqb _ _ k)));
     }
       where
         one : (c : ℕ) (b : Bool) → leb (modulus P) (at s c) ≡ b → b && not (eqb (at s c) unread) ≡ false →
             (at s c < modulus P) ⊎ (at s c ≡ unread)
-        one c true t h = inr (eqb-true _ _ (not-not _ h))
+        one c true t h = inr (eqb-true _ _ (not-false _ h))
         one c false t h = inl (leb-false _ _ t)
 
         doubted : (c : ℕ) → c < cells C P →
@@ -91,4 +87,4 @@ module _ (C : Code) (P s u B : List ℕ) where
         doubted c m = neither (ltb full (at u c)) (eqb (at s c) unread && not (eqb (at u c) full)) (any-none _ _ (clear 4) c m)
 
     pub accepted-buffer : length B ≡ size C P
-    accepted-buffer = eqb-true _ _ (not-not _ (clear 2))
+    accepted-buffer = eqb-true _ _ (not-false _ (clear 2))

@@ -1,30 +1,34 @@
--- A plan is sound exactly when its check gives 0.
+-- A plan is sound exactly when its check gives 0, and else gets the number of the first row that it breaks.
 --
---   sound, checked   from the number 0 to the facts, and back
---   check-at         the check that stops at row i gives that row's number
---   fits             a side that the tests of its number pass
---   placed, in-place points in their sixteen bytes, from their test to the facts, and back
---   cells-most       strips and marks of a sound plan have at most 256 cells
+--   sound, checked     from the number 0 to the facts, and back
+--   check-at           the check that stops at row i gives that row's number
+--   checked-exactly    which number the check gives, by the first row of the table that the plan breaks
+--   fits               a side that its test does not find unfit
+--   placed, in-place   points in their sixteen bytes, from their test to the facts, and back
+--   cells-most         strips and marks of a sound plan have at most 256 cells
 --
 -- What this file is for: the facts of a sound plan for whoever was given the number 0, and the number for whoever has the facts.
 -- Assumes nothing.
 use mathlib.Core.Path.{_≡_, refl, sym, ap}
-use mathlib.Core.Bool.{false}
+use mathlib.Core.Bool.{Bool, true, false, not}
 use mathlib.Core.List.{List}
-use Prim.Native.Nat.{ℕ, zero, suc, _+_, _-_, _≤_, _<_}
+use Prim.Native.Nat.{ℕ, zero, suc, _+_, _-_, _≤_, _<_, min}
 use native.Mathlib.Omega.{arith}
 use native.Mathlib.Decide.{decLt}
 use native.Mathlib.Numerals.{add-one}
 use native.Mathlib.Nat.{mul-le-mul}
-use lib.Dec.{eqb, ltb, leb}
-use borrow.Author.Tests.{leb-false, ltb-false, eqb-true, eqb-false, not-false, lt-leb, lt-ltb, le-ltb, ne-eqb}
+use lib.Dec.{eqb, ltb, leb, lit≤, lit<}
+use lib.ListN.{length}
+use borrow.Author.Tests.{leb-false, ltb-false, eqb-true, eqb-false, not-false, lt-leb, lt-ltb, le-ltb, le-leb, ne-eqb}
 use Rattle.bounded.specs.Bounded.{at}
 use Rattle.bounded.proofs.Any.{any-none, none-any}
+use Rattle.field.specs.Prime.{Prime, isPrime}
 use Rattle.field.proofs.Prime.{is-prime, prime-is}
-use Rattle.definitions.specs.Plan.{modulus, rows, columns, filled, unfit, unrisen, wrongPoint, misplaced}
+use Rattle.definitions.specs.Plan.{planBytes, modulus, rows, columns, degree, filled, unfit, unrisen, wrongPoint, misplaced}
 use Rattle.definitions.specs.Plan.{planRows, checkNumber}
 use Rattle.definitions.specs.Code.{Code, strip, oblong, cells}
 use Rattle.definitions.specs.Sound.{IsSide, PointsFrom, Sound}
+use Rattle.definitions.specs.Demands.{CheckedExactly, Whole, IsModulus}
 use Rattle.definitions.proofs.Refusals.{testAt, first-clear, Stops, numberAt, first-at, _&_, equal, not-true, neither, nor}
 
 -- the n bytes from byte a on are 0
@@ -93,19 +97,66 @@ pub check-at : (P : List ℕ) (i : ℕ) → Stops (planRows P) i → numberAt (p
 unfolding checkNumber
 check-at P i h = first-at (planRows P) i h
 
-pub checked : (P : List ℕ) → Sound P → checkNumber P ≡ 0
-unfolding planRows
-checked P S = sym (check-at P 9 (
-    equal _ _ (S .whole)
-    & filled-no P 38 2 (S .spare)
-    & not-true (prime-is _ (S .prime))
-    & le-ltb _ _ (S .small)
-    & fitting _ _ (S .tall)
-    & fitting _ _ (S .wide)
-    & lt-leb _ _ (S .low)
-    & in-place P 6 (rows P) (S .rowPoints)
-    & in-place P 22 (columns P) (S .columnPoints)
-    & tt))
+-- a test that is not false is true
+holds : (b : Bool) → (b ≡ false → ⊥) → b ≡ true
+holds true h = refl
+holds false h = absurd (h refl)
+
+module _ (P : List ℕ) where
+  -- rows that do not apply, before others
+  clear-whole : {A : Type 0} → Whole P → A → (not (eqb (length P) planBytes) ≡ false) × ((filled P 38 2 ≡ false) × A)
+  clear-whole (w, z) a = equal _ _ w & filled-no P 38 2 (λ i l m. go i l m (decLt i 39)) & a
+    where
+      go : (i : ℕ) → 38 ≤ i → i < 40 → Dec (i < 39) → at P i ≡ 0
+      go i l m (yes k) = let e : i ≡ 38 = omega arith in rw e (z .0)
+      go i l m (no k) = let e : i ≡ 39 = omega arith in rw e (z .1)
+
+  clear-modulus : {A : Type 0} → IsModulus (modulus P) → A →
+      (not (isPrime (modulus P)) ≡ false) × ((ltb 251 (modulus P) ≡ false) × A)
+  clear-modulus (p, m) a = not-true (prime-is _ p) & le-ltb _ _ m & a
+
+  clear-sides : {A : Type 0} → IsSide (modulus P) (rows P) → IsSide (modulus P) (columns P) → A →
+      (unfit (modulus P) (rows P) ≡ false) × ((unfit (modulus P) (columns P) ≡ false) × A)
+  clear-sides t w a = fitting _ _ t & fitting _ _ w & a
+
+  pub checked : Sound P → checkNumber P ≡ 0
+  unfolding planRows
+  checked S = sym (check-at P 9
+      (clear-whole (S .whole, (S .spare 38 (lit≤ tt) (lit< tt), S .spare 39 (lit≤ tt) (lit< tt)))
+      (clear-modulus (S .prime, S .small)
+      (clear-sides (S .tall) (S .wide)
+      (lt-leb _ _ (S .low) & in-place P 6 (rows P) (S .rowPoints) & in-place P 22 (columns P) (S .columnPoints) & tt)))))
+
+  pub checked-exactly : CheckedExactly P
+  unfolding planRows
+  checked-exactly = record {
+    one = λ n. one n (not (eqb (length P) planBytes)) refl;
+    two = λ w n. two w n (not (isPrime (modulus P))) refl;
+    three = λ w m n. sym (check-at P 4 (clear-whole w (clear-modulus m (holds _ λ e. n (fits _ _ e)))));
+    thirteen = λ w m t n.
+        sym (check-at P 5 (clear-whole w (clear-modulus m (fitting _ _ t & holds _ (λ e. n (fits _ _ e))))));
+    four = λ w m t u h. sym (check-at P 6 (clear-whole w (clear-modulus m (clear-sides t u (le-leb _ _ h)))));
+    five = λ w m t u h n. five w m t u h n (misplaced P 6 (rows P)) refl;
+  }
+    where
+      one : ¬ (Whole P) → (b : Bool) → not (eqb (length P) planBytes) ≡ b → checkNumber P ≡ 1
+      one n true e = sym (check-at P 0 e)
+      one n false e = sym (check-at P 1 (e & holds _ λ f.
+          let z = zeros P 38 2 f in
+          n (eqb-true _ _ (not-false _ e), (z 38 (lit≤ tt) (lit< tt), z 39 (lit≤ tt) (lit< tt)))))
+
+      two : Whole P → ¬ (IsModulus (modulus P)) → (b : Bool) → not (isPrime (modulus P)) ≡ b → checkNumber P ≡ 2
+      two w n true e = sym (check-at P 2 (clear-whole w e))
+      two w n false e =
+          sym (check-at P 3 (clear-whole w (e & holds _ λ f. n (is-prime _ (not-false _ e), ltb-false _ _ f))))
+
+      five : Whole P → IsModulus (modulus P) → IsSide (modulus P) (rows P) → IsSide (modulus P) (columns P) →
+          degree P < min (rows P) (columns P) → ¬ (PointsFrom P 6 (rows P) × PointsFrom P 22 (columns P)) → (b : Bool) →
+          misplaced P 6 (rows P) ≡ b → checkNumber P ≡ 5
+      five w m t u h n true e =
+          sym (check-at P 7 (clear-whole w (clear-modulus m (clear-sides t u (lt-leb _ _ h & e)))))
+      five w m t u h n false e = sym (check-at P 8 (clear-whole w (clear-modulus m (clear-sides t u
+          (lt-leb _ _ h & e & holds _ (λ f. n (placed P 6 (rows P) (t .most) e, placed P 22 (columns P) (u .most) f)))))))
 
 pub cells-most : (C : Code) {P : List ℕ} → Sound P → cells C P ≤ 256
 cells-most strip S = omega (arith, S .tall .most)

@@ -1,9 +1,9 @@
--- What `trayread` prints of an input that it refuses, and the room in which it reads.
+-- What `trayread` takes of an input, what it prints of one that it refuses, and the room in which it reads.
 --
 --   tray-parts                 a plan, the symbols of its mark, and what follows are taken for plan, symbols and doubts
 --   plan-text                  the plan's own number, whatever follows
 --   count-text                 6 where another count of bytes follows a sound plan
---   holds-whole, holds-first   a room that an input leaves space in, and one that it is too long for
+--   tray-refused               all three, and 1 for a short input
 --   room-text                  one byte more than the longest input decides, for any input, what is printed
 --
 -- What this file is for: the program reads into a fixed room, and says of any input what the definition says. Assumes nothing.
@@ -12,18 +12,20 @@ use mathlib.Core.List.{List, _++_}
 use Prim.Native.Nat.{ℕ, zero, suc, _+_, _*_, _≤_, _<_}
 use native.Mathlib.Omega.{arith}
 use native.Mathlib.Decide.{decLe}
-use lib.ListN.{length, take, drop, length-append, length-take, length-drop}
-use lib.Seq.{take-all, take-append-seam, take-take, take-at, drop-at, drop-drop}
+use lib.ListN.{length, take, drop, length-take, length-drop}
+use lib.Seq.{take-at, drop-at, drop-drop}
 use Rattle.definitions.specs.Refusals.{Refusal, first}
 use Rattle.definitions.specs.Plan.{planBytes, modulus, checkNumber}
 use Rattle.definitions.specs.Code.{oblong, size, cells}
 use Rattle.definitions.specs.Cost.{full}
 use Rattle.definitions.specs.Calls.{photoTests, photoRows}
-use Rattle.definitions.specs.Tray.{planOf, symbolsOf, doubtsOf, bufferOf, trayReading, HoldsFirst, longest}
+use Rattle.definitions.specs.Tray.{planOf, symbolsOf, doubtsOf, bufferOf, trayReading, longest}
+use Rattle.definitions.specs.Room.{HoldsFirst}
 use Rattle.definitions.specs.Printed.{refusedLine, answerText, trayText}
-use Rattle.definitions.specs.Demands.{TrayParts}
+use Rattle.definitions.specs.Demands.{TrayParts, TrayRefused}
+use Rattle.definitions.proofs.Room.{room-decides}
 use Rattle.definitions.proofs.Refusals.{first-at, equal, unequal}
-use Rattle.definitions.proofs.Sound.{sound, cells-most}
+use Rattle.definitions.proofs.Sound.{sound, checked-exactly, cells-most}
 use Rattle.definitions.proofs.Nearest.{reads-refused}
 use Rattle.definitions.proofs.Accepted.{photo-refused, photo-passes}
 
@@ -76,6 +78,14 @@ module _ (input : List ℕ) where
     excess-text : longest < length input → refusedLine 6 ≡ trayText input
     excess-text l = count-text λ h. omega (arith, cells-most oblong (sound (planOf input) e))
 
+  pub tray-refused : TrayRefused input
+  tray-refused = record {
+    short = λ l. sym (plan-text 1
+        (sym (checked-exactly (planOf input) .one (λ w. omega (arith, simp length-take at (w .0))))) (λ z. omega arith));
+    unsound = λ n. sym (plan-text _ refl n);
+    count = λ e n. sym (count-text e n);
+  }
+
 -- beyond the longest input only the plan counts
 long-text : (a b : List ℕ) → planOf a ≡ planOf b → longest < length a → longest < length b → trayText a ≡ trayText b
 long-text a b p l m = go (checkNumber (planOf b)) refl
@@ -85,27 +95,7 @@ long-text a b p l m = go (checkNumber (planOf b)) refl
     go (suc k) e =
         sym (plan-text a (suc k) (sym (ap checkNumber p ∙ e)) (λ z. omega arith)) ∙ plan-text b (suc k) (sym e) (λ z. omega arith)
 
--- every input has its rooms: one that it leaves space in, and one that it is too long for
-pub holds-whole : (input space : List ℕ) → HoldsFirst input (input ++ space) (length input)
-holds-whole input space = record {
-  count = simp length-append (omega arith);
-  bytes = take-append-seam input space ∙ sym (take-all (length input) input (omega arith));
-}
-
-pub holds-first : (room more : List ℕ) → HoldsFirst (room ++ more) room (length room)
-holds-first room more = record {
-  count = simp length-append (omega arith);
-  bytes = take-all (length room) room (omega arith) ∙ sym (take-append-seam room more);
-}
-
 -- so a room with one byte more decides what is printed
 pub room-text : (input room : List ℕ) (came : ℕ) → longest < length room → HoldsFirst input room came →
     trayText (take came room) ≡ trayText input
-room-text input room came l h = rw (h .bytes) (go (decLe (length input) came))
-  where
-    go : Dec (length input ≤ came) → trayText (take came input) ≡ trayText input
-    go (yes m) = rw (take-all came input m)
-    go (no m) =
-        let c : longest < came = omega (arith, h .count) in
-        long-text (take came input) input (take-take planBytes came input (omega arith)) (simp length-take (omega arith))
-        (omega arith)
+room-text = room-decides trayText planBytes longest (omega arith) long-text

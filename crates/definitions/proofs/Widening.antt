@@ -23,7 +23,7 @@ use native.Mathlib.Decide.{decLe}
 use native.Mathlib.Nat.{add-sub-cancel}
 use lib.Dec.{ltb, leb, lit<}
 use lib.ListN.{length, take, length-append, length-take, List·getD-append}
-use lib.Seq.{take-all, getD-take, getD-append-add}
+use lib.Seq.{getD-take, getD-append-add}
 use borrow.Author.Tests.{lt-ltb, le-ltb}
 use Rattle.bounded.specs.Bounded.{at, any, tab}
 use Rattle.bounded.proofs.Any.{any-eq}
@@ -35,10 +35,11 @@ use Rattle.definitions.specs.Refusals.{_when_, first}
 use Rattle.definitions.specs.Plan.{planBytes, modulus, rowPoint, columnPoint, filled, unfit, unrisen, misplaced}
 use Rattle.definitions.specs.Plan.{planRows, checkNumber}
 use Rattle.definitions.specs.Printed.{refusedLine}
-use Rattle.definitions.specs.Tray.{HoldsFirst}
+use Rattle.definitions.specs.Room.{HoldsFirst}
 use Rattle.definitions.specs.Widening.{narrowBytes, mostPlans, narrowPlan, widened, widenedAll, fileRows, widenRows}
 use Rattle.definitions.specs.Widening.{widenNumber, widenBuffer, widenText, narrowRows, narrowNumber, cleared}
 use Rattle.definitions.specs.Demands.{WidensExactly, PrintsExactly, Widened, WidenedInOrder}
+use Rattle.definitions.proofs.Room.{room-decides}
 use Rattle.definitions.proofs.Refusals.{Stops, numberAt, first-at, first-clear, otherwise, equal, unequal}
 
 -- byte c of a widened plan
@@ -150,6 +151,7 @@ module _ (Q : List ℕ) (e : length Q ≡ narrowBytes) where
     rowPoints = row-point Q;
     columnPoints = column-point Q;
     spare = refl;
+    dropped = λ z. sym (first-at (narrowRows Q) 1 (equal _ _ e, z));
     kept = λ k. same-number Q Q e (first-clear (narrowRows Q) tt k 1) (λ i l. refl) ∙ k;
     refused = λ z. same-number Q Q e z (λ i l. refl);
     number = cleared-number;
@@ -175,13 +177,18 @@ module _ (old wide : List ℕ) where
   unfolding widenNumber
   widen-at i h = first-at (widenRows old wide) i h
 
+  pub widen-filled : 0 ≡ widenNumber old wide → widenedAll old ≡ widenBuffer old wide
+  unfolding widenBuffer
+  widen-filled e = rw (← e)
+
   pub widens-exactly : WidensExactly old wide
   unfolding widenRows
   widens-exactly = record {
     many = λ h. sym (widen-at 0 (lt-ltb _ _ h));
     broken = λ h. go h (decLe (length old) (mostPlans * narrowBytes));
     room = λ h e n. sym (widen-at 2 (le-ltb _ _ h, (equal _ _ e, unequal _ _ n)));
-    done = λ h e f. sym (widen-at 3 (le-ltb _ _ h, (equal _ _ e, (equal _ _ f, tt))));
+    done = λ h e f.
+        let z = widen-at 3 (le-ltb _ _ h, (equal _ _ e, (equal _ _ f, tt))) in (sym z, sym (widen-filled z));
   }
     where
       go : length old % 24 ≢ 0 → Dec (length old ≤ mostPlans * narrowBytes) → widenNumber old wide ≡ 11
@@ -191,10 +198,6 @@ module _ (old wide : List ℕ) where
   pub widen-refused : widenNumber old wide ≢ 0 → widenBuffer old wide ≡ wide
   unfolding widenBuffer
   widen-refused h = otherwise (widenNumber old wide) _ _ h
-
-  pub widen-filled : 0 ≡ widenNumber old wide → widenedAll old ≡ widenBuffer old wide
-  unfolding widenBuffer
-  widen-filled e = rw (← e)
 
   module _ (e : length wide ≡ length old / narrowBytes * planBytes) where
     file-number : widenNumber old wide ≡ first (fileRows old)
@@ -215,13 +218,7 @@ long-text input l = rw (lt-ltb _ _ l)
 
 pub room-widened : (input room : List ℕ) (came : ℕ) → mostPlans * narrowBytes < length room → HoldsFirst input room came →
     widenText (take came room) ≡ widenText input
-room-widened input room came l h = rw (h .bytes) (go (decLe (length input) came))
-  where
-    go : Dec (length input ≤ came) → widenText (take came input) ≡ widenText input
-    go (yes m) = rw (take-all came input m)
-    go (no m) =
-        let c : mostPlans * narrowBytes < came = omega (arith, h .count) in
-        long-text (take came input) (simp length-take (omega arith)) ∙ sym (long-text input (omega arith))
+room-widened = room-decides widenText 0 (mostPlans * narrowBytes) (omega arith) λ a b _ l m. long-text a l ∙ sym (long-text b m)
 
 pub prints-exactly : (input : List ℕ) → PrintsExactly input
 unfolding widenText first

@@ -7,8 +7,7 @@ use mathlib.Core.Path.{_≡_}
 use mathlib.Core.List.{List}
 use Prim.Native.Nat.{ℕ}
 use lib.ListN.{length}
-use Rattle.definitions.specs.Code.{Code, cells}
-use Rattle.definitions.specs.Code.{IsRecord}
+use Rattle.definitions.specs.Code.{Code, cells, IsRecord}
 use Rattle.definitions.specs.Sound.{Sound}
 
 pub record Writing (C : Code) (P F B : List ℕ) : Type 0 where

@@ -146,7 +146,9 @@ cases =
 -- a strip, over the row points; degrees up to the smaller side, which is below the larger; columns that are none, 17, more than
 -- p; the order 3, 13, 4; points of the columns that are p, not rising, and unused; both point sets wrong; strips by a plan whose
 -- columns are unsound; bytes in the unused places of the rows of a wide plan and of the columns of a tall one, and in
--- the last place of the rows; sixteen rows of one cell, and one row of sixteen; a strip of degree 2
+-- the last place of the rows; sixteen rows of one cell, and one row of sixteen; a strip of degree 2; rows alone that are none,
+-- 17, more than p; 4 before 5, and 13 before 5 in the rows; no plan at all; byte 38 before p; 13 from writing, measuring and
+-- reading a mark; a symbol too few
 abbrev pub oblongCases : List Case
 oblongCases =
     (write oblong planWide record₁ (nines 6) ⟹ only 0 leaving markWide)
@@ -181,6 +183,17 @@ oblongCases =
     ∷ (check (plan 17 16 1 0 (tab 16 λ i. i) (0 ∷ [])) ⟹ only 0 leaving [])
     ∷ (check (plan 17 1 16 0 (16 ∷ []) (tab 16 λ i. i)) ⟹ only 0 leaving [])
     ∷ (write strip (alike 5 3 2 (0 ∷ 1 ∷ 2 ∷ [])) (1 ∷ 2 ∷ 3 ∷ []) (nines 3) ⟹ only 0 leaving 1 ∷ 1 ∷ 2 ∷ [])
+    ∷ (check (set planWide 3 0) ⟹ only 3 leaving [])
+    ∷ (check (plan 19 17 1 0 (1 ∷ 2 ∷ 4 ∷ []) (0 ∷ [])) ⟹ only 3 leaving [])
+    ∷ (check (plan 2 3 2 1 (0 ∷ 1 ∷ []) (0 ∷ 1 ∷ [])) ⟹ only 3 leaving [])
+    ∷ (check (set (set planWide 5 2) 6 7) ⟹ only 4 leaving [])
+    ∷ (check (set (set planWide 4 0) 6 7) ⟹ only 13 leaving [])
+    ∷ (check [] ⟹ only 1 leaving [])
+    ∷ (check (set (set planWide 2 9) 38 1) ⟹ only 1 leaving [])
+    ∷ (write oblong (set planWide 4 0) record₁ (nines 6) ⟹ only 13 leaving nines 6)
+    ∷ (measure oblong (set planWide 4 0) markWide (sure 6) record₁ ⟹ only 13 leaving record₁)
+    ∷ (read oblong (set planWide 4 0) markWide (sure 6) (nines 3) ⟹ only 13 leaving nines 3)
+    ∷ (read oblong planWide (drop 1 markWide) (sure 6) (nines 3) ⟹ only 6 leaving nines 3)
     ∷ []
 
 -- not of the table: a strip written and read, a plan with several faults at once, records of total degree 2, and of 3; each

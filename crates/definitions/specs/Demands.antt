@@ -3,6 +3,9 @@
 --
 --   RefusalsKeep            demand 1: a refused call gives its number and zeros or an empty part, and leaves the buffer lent for
 --                           its result
+--   CheckedExactly P        which number checking gives: that of the first row of the table that the plan P breaks; `Whole` is
+--                           its length and its last two bytes, `IsModulus` says which p may be
+--   PlanFirst P             a plan that is refused has its own number in every call, for strips and marks, whatever else is wrong
 --   Shapes P                a strip has a cell for each row point and d + 1 coefficients, and its limit is 100 (rows - d); a mark
 --                           has rows times columns cells and K = (d + 1)(d + 2)/2 coefficients, and its limit is 100 times the
 --                           larger side times (the smaller - d)
@@ -26,8 +29,10 @@
 --                           with no gap and no overlap
 --   TrayParts P s u         what `trayread` takes for plan, symbols and doubts of the input P, s, u, a plan and as many symbols
 --                           as its mark has cells
+--   TrayRefused input       `trayread` prints 1 for fewer than 40 bytes, else an unsound plan's own number, whatever follows,
+--                           else 6 for another count of bytes than 40 and two for each cell
 --   WidensExactly old wide  widening gives 11 where the bytes old are more than 1,000 plans or no whole number of them, else 6
---                           where the buffer has not 40 bytes for each, else 0
+--                           where the buffer has not 40 bytes for each, else 0, with the plans in the buffer
 --   PrintsExactly input     `planwiden` prints REFUSED 11 in just these cases, else the plans
 --   Widened Q               the plan Q of 24 bytes, widened, has its season, modulus and degree, and its points each way; its
 --                           check gives what document 01's check gave Q with bytes 21 to 23 put to 0
@@ -36,7 +41,7 @@
 -- Signed numbers are the kit's (lib.IntN, lib.Signed): pos n is n, negℤ (pos n) is -n, ≤ℤ their order.
 -- What this file is for: the sentences that a user relies on, each as one statement whose parts are named.
 use mathlib.Core.Path.{_≡_}
-use mathlib.Core.Bool.{false}
+use mathlib.Core.Bool.{true, false}
 use mathlib.Core.List.{List, [], _∷_, _++_}
 use mathlib.Core.Logic.{_≢_, _↔_}
 use Prim.Native.Nat.{ℕ, _+_, _*_, _-_, _/_, _%_, _^_, _≤_, _<_, min, max}
@@ -44,11 +49,13 @@ use lib.IntN.{ℤ, pos, negℤ, _-ℤ_}
 use lib.Signed.{_≤ℤ_}
 use lib.ListN.{length, take, drop}
 use Rattle.bounded.specs.Bounded.{at, sum}
+use Rattle.field.specs.Prime.{Prime}
+use Rattle.definitions.specs.Sound.{IsSide, PointsFrom}
 use Rattle.definitions.specs.declared.Reading.{Reading}
 use Rattle.definitions.specs.Refusals.{table, Earliest}
 use Rattle.definitions.specs.Plan.{planBytes, season, modulus, rows, columns, degree, rowPoint, columnPoint}
 use Rattle.definitions.specs.Plan.{filled, planRows, checkNumber}
-use Rattle.definitions.specs.Code.{Code, strip, oblong, size, cells, value}
+use Rattle.definitions.specs.Code.{Code, strip, oblong, size, cells, value, IsRecord}
 use Rattle.polynomial.specs.Layout.{value as valueAt}
 use Rattle.polynomial.specs.Record.{start, valueX, valueXY}
 use Rattle.definitions.specs.Cost.{full, unread, radius}
@@ -59,12 +66,11 @@ use Rattle.definitions.specs.Calls.{costOf, readingOf, writeRows, writeN
 use Rattle.definitions.specs.Calls.{measureRows, measureNumber, measureReading}
 use Rattle.definitions.specs.Calls.{readRows, readNumber, readReading, readBuffer}
 use Rattle.definitions.specs.Finder.{findRows, findNumber, findOffset, findBytes}
-use Rattle.definitions.specs.Code.{IsRecord}
 use Rattle.definitions.specs.Photograph.{Photograph, sure}
 use Rattle.definitions.specs.Widening.{narrowPlan, widened, widenedAll, widenRows, widenNumber, widenBuffer}
 use Rattle.definitions.specs.Widening.{widenText, narrowNumber, cleared}
 use Rattle.definitions.specs.Tray.{planOf, symbolsOf, doubtsOf}
-use Rattle.definitions.specs.Printed.{refusedLine}
+use Rattle.definitions.specs.Printed.{refusedLine, trayText}
 
 pub record RefusalsKeep : Type 0 where
   pub write : (C : Code) (P F B : List ℕ) → writeNumber C P F B ≢ 0 → writeBuffer C P F B ≡ B
@@ -74,6 +80,29 @@ pub record RefusalsKeep : Type 0 where
       (readReading C P s u B ≡ calls.refused (readNumber C P s u B)) × (readBuffer C P s u B ≡ B)
   pub find : (file : List ℕ) (y : ℕ) → findNumber file y ≢ 0 → (findOffset file y ≡ 0) × (findBytes file y ≡ [])
   pub widen : (old wide : List ℕ) → widenNumber old wide ≢ 0 → widenBuffer old wide ≡ wide
+
+abbrev pub Whole : List ℕ → Type 0
+Whole P = (length P ≡ 40) × ((at P 38 ≡ 0) × (at P 39 ≡ 0))
+
+abbrev pub IsModulus : ℕ → Type 0
+IsModulus p = Prime p × (p ≤ 251)
+
+-- each where no row before it is broken
+pub record CheckedExactly (P : List ℕ) : Type 0 where
+  pub one : ¬ (Whole P) → checkNumber P ≡ 1
+  pub two : Whole P → ¬ (IsModulus (modulus P)) → checkNumber P ≡ 2
+  pub three : Whole P → IsModulus (modulus P) → ¬ (IsSide (modulus P) (rows P)) → checkNumber P ≡ 3
+  pub thirteen : Whole P → IsModulus (modulus P) → IsSide (modulus P) (rows P) → ¬ (IsSide (modulus P) (columns P)) →
+      checkNumber P ≡ 13
+  pub four : Whole P → IsModulus (modulus P) → IsSide (modulus P) (rows P) → IsSide (modulus P) (columns P) →
+      min (rows P) (columns P) ≤ degree P → checkNumber P ≡ 4
+  pub five : Whole P → IsModulus (modulus P) → IsSide (modulus P) (rows P) → IsSide (modulus P) (columns P) →
+      degree P < min (rows P) (columns P) → ¬ (PointsFrom P 6 (rows P) × PointsFrom P 22 (columns P)) → checkNumber P ≡ 5
+
+pub record PlanFirst (P : List ℕ) : Type 0 where
+  pub write : (C : Code) (F B : List ℕ) → checkNumber P ≢ 0 → writeNumber C P F B ≡ checkNumber P
+  pub measure : (C : Code) (s u F : List ℕ) → checkNumber P ≢ 0 → measureNumber C P s u F ≡ checkNumber P
+  pub read : (C : Code) (s u B : List ℕ) → checkNumber P ≢ 0 → readNumber C P s u B ≡ checkNumber P
 
 -- K, the number of a record's places
 abbrev pub places : ℕ → ℕ
@@ -174,10 +203,8 @@ pub record FirstOfSeason (file : List ℕ) (y : ℕ) : Type 0 where
   pub same : season (findBytes file y) ≡ y
   pub before : (i : ℕ) → i < k → season (drop (i * 40) file) ≢ y
 
--- the group of degree k has the k + 1 places from start k on
+-- the group of degree k has the k + 1 places from start k on; that the calls ask K bytes of a record is `markSize` of Shapes
 pub record GroupsFill (d : ℕ) : Type 0 where
-  -- K is the length that the calls ask of a record, for every plan of the degree d
-  pub asked : (P : List ℕ) → degree P ≡ d → size oblong P ≡ places d
   -- the first group begins at the first place, and each other one where the group before it ends
   pub first : start 0 ≡ 0
   pub next : (k : ℕ) → start (k + 1) ≡ start k + (k + 1)
@@ -196,11 +223,18 @@ pub record TrayParts (P s u : List ℕ) : Type 0 where
   pub symbols : symbolsOf (P ++ (s ++ u)) ≡ s
   pub doubts : doubtsOf (P ++ (s ++ u)) ≡ u
 
+pub record TrayRefused (input : List ℕ) : Type 0 where
+  pub short : length input < 40 → trayText input ≡ refusedLine 1
+  pub unsound : checkNumber (planOf input) ≢ 0 → trayText input ≡ refusedLine (checkNumber (planOf input))
+  pub count : checkNumber (planOf input) ≡ 0 → length input ≢ 40 + 2 * (rows (planOf input) * columns (planOf input)) →
+      trayText input ≡ refusedLine 6
+
 pub record WidensExactly (old wide : List ℕ) : Type 0 where
   pub many : 1000 * 24 < length old → widenNumber old wide ≡ 11
   pub broken : length old % 24 ≢ 0 → widenNumber old wide ≡ 11
   pub room : length old ≤ 1000 * 24 → length old % 24 ≡ 0 → length wide ≢ length old / 24 * 40 → widenNumber old wide ≡ 6
-  pub done : length old ≤ 1000 * 24 → length old % 24 ≡ 0 → length wide ≡ length old / 24 * 40 → widenNumber old wide ≡ 0
+  pub done : length old ≤ 1000 * 24 → length old % 24 ≡ 0 → length wide ≡ length old / 24 * 40 →
+      (widenNumber old wide ≡ 0) × (widenBuffer old wide ≡ widenedAll old)
 
 pub record PrintsExactly (input : List ℕ) : Type 0 where
   pub many : 1000 * 24 < length input → widenText input ≡ refusedLine 11
@@ -218,6 +252,8 @@ pub record Widened (Q : List ℕ) : Type 0 where
   pub rowPoints : (i : ℕ) → i < 16 → rowPoint (widened Q) i ≡ at Q (5 + i)
   pub columnPoints : (i : ℕ) → i < 16 → columnPoint (widened Q) i ≡ at Q (5 + i)
   pub spare : filled (widened Q) 38 2 ≡ false
+  -- by document 01 bytes 21 to 23 are 0
+  pub dropped : filled Q 21 3 ≡ true → narrowNumber Q ≡ 1
   -- a plan that was sound stays sound
   pub kept : narrowNumber Q ≡ 0 → checkNumber (widened Q) ≡ 0
   -- one that was not keeps its number, if its bytes 21 to 23 are 0

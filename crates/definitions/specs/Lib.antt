@@ -7,6 +7,7 @@ pub mod Published
 pub mod Search
 pub mod Calls
 pub mod Finder
+pub mod Room
 pub mod Tray
 pub mod Printed
 pub mod Widening

@@ -1,4 +1,4 @@
--- What the program `trayread` prints, byte for byte, in ASCII.
+-- What the programs print, byte for byte, in ASCII: numbers, the lines of `trayread`, and the refusal of either program.
 --
 --   decimal n       the digits of n, the most significant first; 0 has one digit, and no other number begins with 0
 --   signed z        the same of a signed number, with '-' in front where it is below 0
@@ -6,9 +6,9 @@
 --   readLine y r    READ, the season y and five numbers of the reading r
 --   recordLine F    RECORD, the coefficients F
 --   refusedLine k   REFUSED, the number k
---   trayText input  what is printed for an input: the first two lines, or the third
+--   trayText input  what `trayread` prints for an input: the first two lines, or the third
 --
--- What this file is for: the program's one answer is `trayText` of all that came in, whatever its length.
+-- What this file is for: the one answer of `trayread` is `trayText` of all that came in, whatever its length.
 use mathlib.Core.List.{List, [], _∷_, _++_}
 use Prim.Native.Nat.{ℕ, zero, suc, _+_, _/_, _%_}
 use lib.IntN.{ℤ, pos, negsuc}

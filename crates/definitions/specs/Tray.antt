@@ -2,15 +2,13 @@
 --
 --   planOf, symbolsOf, doubtsOf   the parts of the input
 --   trayReading, trayRecord       the reading of the mark, and the record that is printed
---   HoldsFirst input room came    a room holds the first bytes of an input of any length: `came` of them, all or as many as fit
 --   longest                       the length of the longest input that a sound plan takes, with 16 times 16 cells
 --
 -- What this file is for: fewer than 40 bytes are refusal 1, since the plan is short; a wrong count after a sound plan is 6, since
 -- the symbols or the doubts have not their length.
-use mathlib.Core.Path.{_≡_}
 use mathlib.Core.List.{List}
-use Prim.Native.Nat.{ℕ, _+_, min}
-use lib.ListN.{length, take, drop, replicate}
+use Prim.Native.Nat.{ℕ, _+_}
+use lib.ListN.{take, drop, replicate}
 use Rattle.definitions.specs.declared.Reading.{Reading}
 use Rattle.definitions.specs.Plan.{planBytes}
 use Rattle.definitions.specs.Code.{oblong, size, cells}
@@ -34,10 +32,6 @@ trayReading input = readReading oblong (planOf input) (symbolsOf input) (doubtsO
 
 unfoldable pub trayRecord : List ℕ → List ℕ
 trayRecord input = readBuffer oblong (planOf input) (symbolsOf input) (doubtsOf input) (bufferOf input)
-
-pub record HoldsFirst (input room : List ℕ) (came : ℕ) : Type 0 where
-  pub count : came ≡ min (length input) (length room)
-  pub bytes : take came room ≡ take came input
 
 abbrev pub longest : ℕ
 longest = planBytes + 256 + 256

@@ -40,7 +40,8 @@ fit-most p n e h = fits p n (answered e h) .most
 
 -- byte i of the sixteen from byte a on is not below its limit, or the next one is a point too and not above it
 abbrev pub wrongPair : List ℕ → (a n i : ℕ) → Bool
-wrongPair P a n i = leb (cond (ltb i n) (modulus P) 1) (at P (a + i)) || (ltb (i + 1) n && leb (at P (a + (i + 1))) (at P (a + i)))
+wrongPair P a n i =
+    leb (cond (ltb i n) (modulus P) 1) (at P (a + i)) || (ltb (i + 1) n && leb (at P (a + (i + 1))) (at P (a + i)))
 
 module _ (P : List ℕ) (a n : ℕ) where
   pairs-placed : any 16 (wrongPair P a n) ≡ false → n ≤ 16 → PointsFrom P a n

@@ -77,8 +77,8 @@ fn smaller(a: u8, b: u8) -> u8
     b
 }
 
-// Whether one of the sixteen bytes from byte a on, of which the first n are points, is wrong. All are looked at, each with the one
-// after it, and none has a branch of its own: so they are compared at once.
+// Whether one of the sixteen bytes from byte a on, of which the first n are points, is wrong. Each is looked at with the one
+// after it and without a branch, so that the compiler compares all at once.
 fn is_misplaced(plan: &[u8], a: usize, n: u8) -> bool
     requires { ⌜ (length (now plan) ≡ planBytes) × (a + 16 < planBytes) × (n ≤ 16) ⌝ }
     ensures { λ r. ⌜ r ≡ misplaced (now (plan .entry)) a n ⌝ }

@@ -8,7 +8,7 @@ ghost use mathlib.Core.Path.{_≡_};
 ghost use mathlib.Core.List.{List};
 ghost use Prim.Native.Nat.{ℕ, _*_, _/_, _≤_};
 ghost use lib.ListN.{length, take};
-ghost use Rattle.definitions.specs.Tray.{HoldsFirst};
+ghost use Rattle.definitions.specs.Room.{HoldsFirst};
 ghost use Rattle.definitions.specs.Widening.{widenText};
 ghost use Rattle.text.specs.Put.{Put};
 

@@ -1,17 +1,19 @@
 -- The customer's demands, for strips and for marks of any two sides, and what the documents say of every plan, cell, margin and
 -- number.
 --
---   sound-exactly                        "The season plan": which plans are sound
+--   sound-exactly, checked-exactly       "The season plan": which plans are sound, and which number any other gets
+--   plan-first                           and gets it in every call
 --   shapes                               how many cells and coefficients there are, and the limits
 --   demand-1                             demand 1: what a refusal gives and leaves
---   demand-2-written, demand-2           demand 2: what is written, and that it is read back
+--   writes, demand-2-written, demand-2   demand 2: that every record is written, what is written, and that it is read back
 --   demand-2-cost, demand-2-cost-read    demand 2: costs and margins, of measuring and of reading
 --   demand-3                             demand 3
 --   unread-costs, mark-margins           "Photographed mark and cost"
 --   lowest-given, measures               "What is returned"
 --   found-exactly, first-found           document 02, request 2: when a plan of a season is found, and which
 --   groups-fill                          document 02, request 4: where the coefficients of a record stand
---   tray-parts, prints-exactly           what the programs take of their input, and when `planwiden` refuses it
+--   tray-parts, tray-refused             what `trayread` takes of its input, and when it refuses it
+--   prints-exactly                       when `planwiden` refuses its input
 --   widens-exactly, widened-keeps, widened-in-order
 --                                        document 02, request 3: when plans are widened, what one becomes, and all of a file
 --
@@ -35,15 +37,18 @@ use Rattle.definitions.specs.Sound.{Sound}
 use Rattle.definitions.specs.Photograph.{Photograph, sure}
 use Rattle.polynomial.specs.Record.{start}
 use Rattle.definitions.specs.Widening.{narrowBytes, widenRows, widenNumber}
-use Rattle.definitions.specs.Demands.{RefusalsKeep, Shapes, Written, RoundTrip, Weighed, Nearest}
+use Rattle.definitions.specs.Accepted.{Writing}
+use Rattle.definitions.specs.Demands.{RefusalsKeep, CheckedExactly, PlanFirst, Shapes, Written, RoundTrip, Weighed, Nearest}
 use Rattle.definitions.specs.Demands.{UnreadCosts, MarkMargins, LowestGiven, Measures, FoundExactly, FirstOfSeason}
-use Rattle.definitions.specs.Demands.{GroupsFill, places, TrayParts, WidensExactly, PrintsExactly, Widened}
-use Rattle.definitions.specs.Demands.{WidenedInOrder}
+use Rattle.definitions.specs.Demands.{GroupsFill, places, TrayParts, TrayRefused, WidensExactly, PrintsExactly}
+use Rattle.definitions.specs.Demands.{Widened, WidenedInOrder}
 use Rattle.definitions.specs.Refusals.{table}
 use Rattle.definitions.proofs.Refusals.{first-earliest, first-absent}
 use Rattle.definitions.proofs.Finder as finder
 use Rattle.definitions.proofs.Widening as widening
 use Rattle.definitions.proofs.Tray as tray
+use Rattle.definitions.proofs.Sound as plans
+use Rattle.definitions.proofs.Accepted as accepted
 use Rattle.definitions.proofs.Plan.{strip-size, mark-size}
 use Rattle.definitions.proofs.Sound.{sound, checked}
 use Rattle.definitions.proofs.Demands.{nearest-one}
@@ -60,6 +65,14 @@ use Rattle.traymark.proofs.Answer.{write-keeps, write-fills, measure-re
 -- A plan is sound, all its bytes as in the table, exactly when checking it gives 0.
 pub sound-exactly : (P : List ℕ) → Sound P ↔ (checkNumber P ≡ 0)
 sound-exactly P = (checked P, sound P)
+
+-- Checking gives the number of the first row of the table that the plan breaks, in the table's order, 13 between 3 and 4.
+pub checked-exactly : (P : List ℕ) → CheckedExactly P
+checked-exactly = plans.checked-exactly
+
+-- A plan that is refused has its own number in every call, whatever else is wrong; strips look at the whole plan too.
+pub plan-first : (P : List ℕ) → PlanFirst P
+plan-first = accepted.plan-first
 
 -- A strip is over the row points, with d + 1 coefficients and the limit 100 (rows - d). A mark has rows times columns cells, K
 -- coefficients and the limit 100 times the larger side times (the smaller side - d), whichever is the larger.
@@ -89,6 +102,10 @@ demand-1 = record {
 -- limit with its cost; it is refusal 10 exactly when no record costs under the limit.
 pub demand-3 : (C : Code) (P s u B : List ℕ) → Photograph C P s u → length B ≡ size C P → Nearest C P s u B
 demand-3 = nearest-one
+
+-- Every record of a sound plan is written into a buffer of the right length.
+pub writes : (C : Code) (P F B : List ℕ) → Writing C P F B → writeNumber C P F B ≡ 0
+writes = accepted.writing-accepted
 
 -- Demand 2, writing: for every plan, record and buffer that the writer accepts, each cell of the buffer afterwards has the value,
 -- modulo p, of the record's polynomial at its row and column points; for a strip, at its row point.
@@ -164,7 +181,6 @@ first-found = finder.first-of-season
 -- The groups of degrees 0 to d fill the K = (d + 1)(d + 2)/2 places of a record one after another, with no gap and no overlap.
 pub groups-fill : (d : ℕ) → GroupsFill d
 groups-fill d = record {
-  asked = λ P e. mark-size P ∙ rw e length-is;
   first = refl;
   next = λ k. omega (arith, start-next k);
   within = λ k j h l. rw (← length-is) (start-below k (d + 1) j (omega arith) h);
@@ -183,11 +199,17 @@ groups-fill d = record {
 pub tray-parts : (P s u : List ℕ) → length P ≡ planBytes → length s ≡ rows P * columns P → TrayParts P s u
 tray-parts = tray.tray-parts
 
+-- It prints 1 for fewer than 40 bytes, an unsound plan's own number whatever follows, and 6 for another count of bytes after a
+-- sound plan.
+pub tray-refused : (input : List ℕ) → TrayRefused input
+tray-refused = tray.tray-refused
+
 -- `planwiden` prints REFUSED 11 for more than 1,000 plans or a broken one, else the plans.
 pub prints-exactly : (input : List ℕ) → PrintsExactly input
 prints-exactly = widening.prints-exactly
 
--- Widening gives 11 for more than 1,000 plans or a broken one, else 6 where the buffer has not 40 bytes for each plan, else 0.
+-- Widening gives 11 for more than 1,000 plans or a broken one, else 6 where the buffer has not 40 bytes for each plan, else 0,
+-- and then the plans are in the buffer.
 pub widens-exactly : (old wide : List ℕ) → WidensExactly old wide
 widens-exactly = widening.widens-exactly
 

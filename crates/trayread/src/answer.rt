@@ -14,7 +14,8 @@ ghost use lib.ListN.{length, take};
 ghost use Rattle.definitions.specs.Plan.{checkNumber};
 ghost use Rattle.definitions.specs.Code.{oblong};
 ghost use Rattle.definitions.specs.Calls.{readReading, readBuffer};
-ghost use Rattle.definitions.specs.Tray.{planOf, HoldsFirst};
+ghost use Rattle.definitions.specs.Tray.{planOf};
+ghost use Rattle.definitions.specs.Room.{HoldsFirst};
 ghost use Rattle.definitions.specs.Printed.{answerText, trayText};
 ghost use Rattle.text.specs.Put.{Put};
 
