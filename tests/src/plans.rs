@@ -11,6 +11,10 @@ pub type Shape = (u32, usize, usize, usize);
 /// The primes of the random plans.
 pub const PRIMES: [u32; 9] = [2, 3, 5, 7, 11, 13, 101, 241, 251];
 
+/// p 251: 16 by 16 cells with the lowest, a middle and the highest d, and oblongs about as long.
+pub const LARGE_SQUARES: [Shape; 3] = [(251, 16, 16, 0), (251, 16, 16, 7), (251, 16, 16, 15)];
+pub const LARGE_OBLONGS: [Shape; 4] = [(251, 16, 8, 7), (251, 8, 16, 7), (251, 16, 15, 14), (251, 15, 16, 7)];
+
 /// Every p of `PRIMES` with every number of rows, of columns and every d, p rows or columns among them.
 pub fn shapes() -> &'static [Shape] {
     static SHAPES: LazyLock<Vec<Shape>> = LazyLock::new(|| PRIMES.into_iter().flat_map(shapes_of).collect());

@@ -9,7 +9,7 @@ use independent::{exhaustive, Code, Plan, FULL_DOUBT};
 use traymark_tests::calls::{hold, Arguments, Call, Outcome};
 use traymark_tests::counts::Counts;
 use traymark_tests::photo::{noise, photograph, rival, Photo};
-use traymark_tests::plans::{self, Shape};
+use traymark_tests::plans::{self, Shape, LARGE_OBLONGS, LARGE_SQUARES};
 use traymark_tests::random::Random;
 
 /// Squares: the seeds go through their shapes.
@@ -35,11 +35,9 @@ pub fn oblong(seed: u64, random: &mut Random, counts: &mut Counts) -> Result<(),
     costing(Code::Mark, &plan, Some(cost), random, counts)
 }
 
-/// p 251: mostly 16 by 16 with d 0, 7 and 15, else oblongs about as long.
+/// Mostly squares.
 pub fn large_mark(seed: u64, random: &mut Random, counts: &mut Counts) -> Result<(), String> {
-    let squares = [(251, 16, 16, 0), (251, 16, 16, 7), (251, 16, 16, 15)];
-    let oblongs = [(251, 16, 8, 7), (251, 8, 16, 7), (251, 16, 15, 14), (251, 15, 16, 7)];
-    let shapes = [&squares[..], &squares, &squares, &oblongs].concat();
+    let shapes = [&LARGE_SQUARES[..], &LARGE_SQUARES, &LARGE_SQUARES, &LARGE_OBLONGS].concat();
     shaped(Code::Mark, &shapes, seed, random, counts)
 }
 

@@ -8,7 +8,7 @@ use std::iter::repeat_with;
 use traymark_tests::calls::{hold, Arguments, Call};
 use traymark_tests::counts::Counts;
 use traymark_tests::photo::{photograph, rival};
-use traymark_tests::plans::{self, Shape};
+use traymark_tests::plans::{self, Shape, LARGE_OBLONGS, LARGE_SQUARES};
 use traymark_tests::random::Random;
 
 /// A way to break arguments.
@@ -25,13 +25,16 @@ struct Fault {
 pub fn alone(seed: u64, random: &mut Random, counts: &mut Counts) -> Result<(), String> {
     let code = [Code::Strip, Code::Mark][seed as usize % 2];
     let (plan, given) = sound(code, random);
-    expect(&given, &[], random, counts)?;
-    for fault in FAULTS {
-        let mut given = given.clone();
-        (fault.apply)(&mut given, &plan, random);
-        expect(&given, &[fault], random, counts)?;
-    }
-    Ok(())
+    each(1, &plan, &given, random, counts)
+}
+
+/// The largest plans, with faults of the buffers alone: some of those of plans need unused point bytes.
+pub fn largest(seed: u64, random: &mut Random, counts: &mut Counts) -> Result<(), String> {
+    let code = [Code::Strip, Code::Mark][seed as usize % 2];
+    let shapes = [&LARGE_SQUARES[..], &LARGE_OBLONGS].concat();
+    let plan = plans::plan(shapes[seed as usize / 2 % shapes.len()], random);
+    let given = arguments(code, &plan, random);
+    each(6, &plan, &given, random, counts)
 }
 
 pub fn together(seed: u64, random: &mut Random, counts: &mut Counts) -> Result<(), String> {
@@ -39,7 +42,7 @@ pub fn together(seed: u64, random: &mut Random, counts: &mut Counts) -> Result<(
     let (plan, mut given) = sound(code, random);
     // in every other case the plan stays sound, so that the higher numbers are seen
     let first = random.pick(&[1, 6]);
-    let choice: Vec<&Fault> = FAULTS.iter().copied().filter(|fault| rank(fault.number) >= rank(first)).collect();
+    let choice: Vec<&Fault> = faults_from(first).collect();
     let mut faults: Vec<&Fault> = Vec::new();
     for _ in 0..random.between(2, 6) {
         let fault = random.pick(&choice);
@@ -47,7 +50,8 @@ pub fn together(seed: u64, random: &mut Random, counts: &mut Counts) -> Result<(
             faults.push(fault);
         }
     }
-    // the last first: a photograph at the radius is made anew, what is in buffers is broken before their lengths
+    // the last first: a photograph at the radius is made anew, doubts are broken before symbols, as both may be of one cell,
+    // and what is in buffers before their lengths
     faults.sort_by_key(|fault| std::cmp::Reverse(rank(fault.number)));
     faults.iter().for_each(|fault| (fault.apply)(&mut given, &plan, random));
     expect(&given, &faults, random, counts)
@@ -72,6 +76,22 @@ fn rank(number: u32) -> usize {
     ORDER.into_iter().position(|other| other == number).expect("a refusal's number")
 }
 
+/// The faults with that number and those after it in the order.
+fn faults_from(first: u32) -> impl Iterator<Item = &'static Fault> {
+    FAULTS.iter().copied().filter(move |fault| rank(fault.number) >= rank(first))
+}
+
+/// No fault, and each from that number on alone.
+fn each(first: u32, plan: &Plan, given: &Arguments, random: &mut Random, counts: &mut Counts) -> Result<(), String> {
+    expect(given, &[], random, counts)?;
+    for fault in faults_from(first) {
+        let mut given = given.clone();
+        (fault.apply)(&mut given, plan, random);
+        expect(&given, &[fault], random, counts)?;
+    }
+    Ok(())
+}
+
 /// Every call gives the first number of the faults that concern it.
 fn expect(given: &Arguments, faults: &[&Fault], random: &mut Random, counts: &mut Counts) -> Result<(), String> {
     for call in Call::ALL {
@@ -91,17 +111,23 @@ pub fn sound(code: Code, random: &mut Random) -> (Plan, Arguments) {
     let fits = |&(_, rows, columns, _): &Shape| (2..=14).contains(&rows) && (2..=14).contains(&columns);
     let shape = repeat_with(|| random.pick(plans::shapes())).find(fits).expect("there are such shapes");
     let plan = plans::plan(shape, random);
+    let given = arguments(code, &plan, random);
+    (plan, given)
+}
+
+/// Arguments that every call accepts.
+fn arguments(code: Code, plan: &Plan, random: &mut Random) -> Arguments {
     let mut given = Arguments {
         code,
         plan: plan.bytes().to_vec(),
         record: Vec::new(),
         symbols: Vec::new(),
         doubts: Vec::new(),
-        mark: random.bytes(code.cells(&plan)),
+        mark: random.bytes(code.cells(plan)),
     };
-    let cost = random.between(0, code.radius(&plan) - 1);
-    photographed(&mut given, &plan, cost, random);
-    (plan, given)
+    let cost = random.between(0, code.radius(plan) - 1);
+    photographed(&mut given, plan, cost, random);
+    given
 }
 
 /// A record, and a photograph of it that costs so much.
@@ -175,15 +201,21 @@ const FAULTS: &[&Fault] = &[
     fault!("no mark", "mark length", 6, ON_MARK, |g, _, _| g.mark.clear()),
     fault!("mark one short", "mark length", 6, ON_MARK, |g, _, _| shorten(&mut g.mark)),
     fault!("mark one long", "mark length", 6, ON_MARK, |g, _, _| g.mark.push(0)),
-    fault!("symbol p", "a symbol", 7, ON_PHOTO, |g, plan, r| *even(&mut g.symbols, r) = plan.p as u8),
-    fault!("symbol 254", "a symbol", 7, ON_PHOTO, |g, _, r| *even(&mut g.symbols, r) = 254),
-    fault!("symbol above p", "a symbol", 7, ON_PHOTO, |g, plan, r| *even(&mut g.symbols, r) = large(plan, r).min(254)),
-    fault!("doubt 101", "a doubt", 8, ON_PHOTO, |g, _, r| *odd(&mut g.doubts, r) = 101),
-    fault!("doubt above 100", "a doubt", 8, ON_PHOTO, |g, _, r| *odd(&mut g.doubts, r) = r.between(101, 255) as u8),
+    fault!("symbol p", "a symbol", 7, ON_PHOTO, |g, plan, r| *any(&mut g.symbols, r) = plan.p as u8),
+    fault!("first symbol p", "a symbol", 7, ON_PHOTO, |g, plan, _| g.symbols[0] = plan.p as u8),
+    fault!("last symbol p", "a symbol", 7, ON_PHOTO, |g, plan, _| *last(&mut g.symbols) = plan.p as u8),
+    fault!("symbol 254", "a symbol", 7, ON_PHOTO, |g, _, r| *any(&mut g.symbols, r) = 254),
+    fault!("symbol above p", "a symbol", 7, ON_PHOTO, |g, plan, r| *any(&mut g.symbols, r) = large(plan, r).min(254)),
+    fault!("doubt 101", "a doubt", 8, ON_PHOTO, |g, _, r| *any(&mut g.doubts, r) = 101),
+    fault!("first doubt 101", "a doubt", 8, ON_PHOTO, |g, _, _| g.doubts[0] = 101),
+    fault!("last doubt 101", "a doubt", 8, ON_PHOTO, |g, _, _| *last(&mut g.doubts) = 101),
+    fault!("doubt above 100", "a doubt", 8, ON_PHOTO, |g, _, r| *any(&mut g.doubts, r) = r.between(101, 255) as u8),
     fault!("unread with doubt 99", "a doubt", 8, ON_PHOTO, |g, _, r| misdoubted(g, 99, r)),
     fault!("unread with doubt 0", "a doubt", 8, ON_PHOTO, |g, _, r| misdoubted(g, 0, r)),
     fault!("unread with doubt 101", "a doubt", 8, ON_PHOTO, |g, _, r| misdoubted(g, 101, r)),
     fault!("coefficient p", "a coefficient", 9, GIVEN_RECORD, |g, plan, r| *any(&mut g.record, r) = plan.p as u8),
+    fault!("first coefficient p", "a coefficient", 9, GIVEN_RECORD, |g, plan, _| g.record[0] = plan.p as u8),
+    fault!("last coefficient p", "a coefficient", 9, GIVEN_RECORD, |g, plan, _| *last(&mut g.record) = plan.p as u8),
     fault!("coefficient above p", "a coefficient", 9, GIVEN_RECORD, |g, plan, r| *any(&mut g.record, r) = large(plan, r)),
     fault!("at the radius", "a photograph", 10, READING, |g, plan, r| photographed(g, plan, g.code.radius(plan), r)),
 ];
@@ -209,25 +241,18 @@ fn large(plan: &Plan, random: &mut Random) -> u8 {
 }
 
 fn misdoubted(given: &mut Arguments, doubt: u8, random: &mut Random) {
-    let cell = 1 + 2 * random.below(given.symbols.len() / 2);
+    let cell = random.below(given.symbols.len());
     given.symbols[cell] = 255;
     given.doubts[cell] = doubt;
 }
 
-/// Any element, one at an even place, one at an odd place: broken symbols and broken doubts are apart.
 fn any<'a>(items: &'a mut [u8], random: &mut Random) -> &'a mut u8 {
     let place = random.below(items.len());
     &mut items[place]
 }
 
-fn even<'a>(items: &'a mut [u8], random: &mut Random) -> &'a mut u8 {
-    let place = 2 * random.below(items.len().div_ceil(2));
-    &mut items[place]
-}
-
-fn odd<'a>(items: &'a mut [u8], random: &mut Random) -> &'a mut u8 {
-    let place = 1 + 2 * random.below(items.len() / 2);
-    &mut items[place]
+fn last(items: &mut [u8]) -> &mut u8 {
+    items.last_mut().expect("no buffer is empty yet")
 }
 
 fn shorten(items: &mut Vec<u8>) {

@@ -34,6 +34,7 @@ pub fn all() -> Vec<Suite> {
         Suite { name: "widening", cases: widening::CASES, case: widening::numbers },
         Suite { name: "widened-bytes", cases: widening::PLANS, case: widening::bytes },
         Suite { name: "faults-alone", cases: 1_000, case: faults::alone },
+        Suite { name: "faults-largest", cases: 140, case: faults::largest },
         Suite { name: "faults-together", cases: 20_000, case: faults::together },
         Suite { name: "faults-in-plans", cases: 300, case: faults::in_plans },
         Suite { name: "lengths", cases: 400, case: lengths::case },
