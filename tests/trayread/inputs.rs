@@ -5,7 +5,7 @@ use crate::printed::printed;
 use independent::calls::bytes;
 use independent::{Code, Plan, PLAN};
 use traymark_tests::photo::{photograph, rival};
-use traymark_tests::plans::{self, Shape};
+use traymark_tests::plans::{self, Shape, LARGE_OBLONGS, LARGE_SQUARES};
 use traymark_tests::program::Input;
 use traymark_tests::random::Random;
 
@@ -17,6 +17,7 @@ pub fn inputs() -> Vec<Input> {
     inputs.extend(counts());
     inputs.extend(all_lengths());
     inputs.extend(unsound());
+    inputs.extend(unsound_large());
     inputs.extend(photographs());
     inputs.extend(rubbish());
     inputs
@@ -171,7 +172,7 @@ fn unharmed(shape: Shape) -> Vec<u8> {
     photographed(&plan, 0, random)
 }
 
-/// Case c with one byte changed, alone, cut after the plan, and with much after it: the plan's number whatever follows.
+/// Case c with one byte changed.
 fn unsound() -> Vec<Input> {
     let fields = [(38, 1, 1), (39, 9, 1), (2, 9, 2), (2, 252, 2), (2, 1, 2), (5, 3, 4), (5, 255, 4)];
     let rows = [(3, 0, 3), (3, 17, 3), (3, 8, 3), (3, 1, 4), (3, 2, 5), (3, 4, 5)];
@@ -179,11 +180,29 @@ fn unsound() -> Vec<Input> {
     let row_points = [(7, 1, 5), (8, 7, 5), (9, 5, 5), (21, 1, 5)];
     let column_points = [(23, 1, 5), (24, 7, 5), (25, 5, 5), (37, 1, 5)];
     let photo = [(40, 7, 7), (48, 254, 7), (49, 101, 8), (57, 255, 8), (40, 255, 8)];
+    changed("case c", &case_c(), &[&fields[..], &rows, &columns, &row_points, &column_points, &photo].concat())
+}
+
+/// Large trays with one byte changed, in the photograph the first and the last symbol and doubt.
+fn unsound_large() -> Vec<Input> {
+    let fields = [(39, 1, 1), (2, 9, 2), (3, 17, 3), (4, 0, 13), (4, 17, 13), (5, 16, 4)];
+    let points = [(6, 251, 5), (21, 251, 5), (22, 251, 5), (37, 251, 5)];
+    let large = |shape: &Shape| {
+        let (good, doubts) = (unharmed(*shape), PLAN + shape.1 * shape.2);
+        let photo = [(PLAN, 251, 7), (doubts - 1, 251, 7), (doubts, 101, 8), (good.len() - 1, 101, 8)];
+        changed(&format!("{shape:?}"), &good, &[&fields[..], &points, &photo].concat())
+    };
+    [&LARGE_SQUARES[..], &LARGE_OBLONGS].concat().iter().flat_map(large).collect()
+}
+
+/// The tray with each of these places changed to the value, and the number that this gets: alone, and where the place is of
+/// the plan cut after the plan and with much after it, as the plan's number comes whatever follows.
+fn changed(tray: &str, good: &[u8], changes: &[(usize, u8, u32)]) -> Vec<Input> {
     let mut inputs = Vec::new();
-    for (place, value, number) in [&fields[..], &rows, &columns, &row_points, &column_points, &photo].concat() {
-        let mut bytes = case_c();
+    for &(place, value, number) in changes {
+        let mut bytes = good.to_vec();
         bytes[place] = value;
-        let name = format!("case c with byte {place} {value}");
+        let name = format!("{tray} with byte {place} {value}");
         let mut said = |name: String, bytes: &[u8]| {
             inputs.push(Input::new(name, bytes.to_vec(), format!("REFUSED {number}\n")));
         };
@@ -200,11 +219,10 @@ fn unsound() -> Vec<Input> {
 /// Photographs of all sizes whose cost is clean, around the radius, or anything below it.
 fn photographs() -> Vec<Input> {
     let squares = [(2, 2, 2, 1), (3, 3, 3, 2), (5, 5, 5, 1), (13, 13, 13, 6), (101, 8, 8, 3), (241, 12, 12, 11)];
-    let large_squares = [(251, 16, 16, 0), (251, 16, 16, 7), (251, 16, 16, 15)];
     let oblongs = [(2, 1, 2, 0), (3, 3, 2, 1), (5, 2, 5, 1), (13, 13, 4, 3), (101, 8, 3, 0), (241, 7, 12, 6)];
-    let large_oblongs = [(251, 16, 8, 7), (251, 8, 16, 7), (251, 16, 15, 14), (251, 1, 16, 0), (251, 16, 1, 0)];
+    let longest = [(251, 1, 16, 0), (251, 16, 1, 0)];
     let mut inputs = Vec::new();
-    let shapes = [&squares[..], &large_squares, &oblongs, &large_oblongs].concat();
+    let shapes = [&squares[..], &LARGE_SQUARES, &oblongs, &LARGE_OBLONGS, &longest].concat();
     for (k, shape) in shapes.into_iter().enumerate() {
         let random = &mut Random::new(k as u64);
         let radius = Code::Mark.radius(&plans::plan(shape, random));
