@@ -51,7 +51,8 @@ target/staticlib/libtraymark.a: $(call read_by,$(LIBRARIES))
 	rt staticlib traymark
 
 ## make tests           6 min         80 s            the calls and the programs against an independent decoder, from Rust and C;
-##                                                    the wrapper's own tests, the benchmark's ports and the two examples
+##                                                    the wrapper's and that decoder's own tests, the benchmark's ports and
+##                                                    the two examples
 tests: lib program
 	$(CARGO) run --quiet --release -p traymark-tests --bin calls
 	$(CARGO) run --quiet --release -p traymark-tests --bin program target/bin/trayread
@@ -59,7 +60,7 @@ tests: lib program
 	$(CARGO) run --quiet --release -p traymark-tests --bin strips input | cmp - crates/example_strips/stdin
 	$(CARGO) run --quiet --release -p traymark-tests --bin strips output | cmp - crates/example_strips/stdout
 	$(CARGO) run --quiet --release -p traymark-bench check
-	$(CARGO) test --quiet --release -p traymark
+	$(CARGO) test --quiet --release -p traymark -p independent
 	$(CC11) tests/c/calls.c target/staticlib/libtraymark.a -o target/calls_c
 	target/calls_c
 	$(CC11) examples/read_case_c.c target/staticlib/libtraymark.a -o target/read_case_c
