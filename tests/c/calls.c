@@ -1,5 +1,5 @@
-/* The nine calls from C: the layout of the answer, the cases of document 01, wrong and unread cells at once, a half tray,
-   plans widened, and the refusals at empty buffers. */
+/* The nine calls from C: the layout of the answer, the cases of document 01, wrong and unread cells at once, oblong
+   marks and strips beside them, plans widened, and the refusals at empty buffers. */
 #include <stdio.h>
 #include <stdlib.h>
 #include <string.h>
@@ -58,9 +58,11 @@ static const uint8_t mixed[9] = {0, 255, 5, 0, 2, 6, 2, 4, 1}, mixed_doubts[9] =
 static const uint8_t plan_s[40] = {0, 12, 7, 3, 3, 0, 1, 2, 4, [22] = 1, 2, 4}, record_s[1] = {5};
 static const uint8_t mixed_s[3] = {5, 255, 4}, mixed_s_doubts[3] = {0, 100, 1};
 
-/* a half tray: row points 1 2 4, column points 3 5; 3 + X + 2Y has this mark, and the radius is 300 */
-static const uint8_t plan_t[40] = {0, 12, 7, 3, 2, 1, 1, 2, 4, [22] = 3, 5};
-static const uint8_t mark_t[6] = {3, 0, 4, 1, 6, 3};
+/* plan W has more columns than rows, plan T, a half tray, more rows: the marks of 3 + X + 2Y and the strips of 3 + X */
+static const uint8_t plan_w[40] = {0, 12, 7, 2, 3, 1, 1, 3, [22] = 0, 2, 5};
+static const uint8_t mark_w[6] = {4, 1, 0, 6, 3, 2}, strip_w[2] = {4, 6};
+static const uint8_t plan_t[40] = {0, 12, 7, 3, 2, 1, 0, 2, 5, [22] = 1, 3};
+static const uint8_t mark_t[6] = {5, 2, 0, 4, 3, 0}, strip_t[3] = {3, 5, 1};
 
 static int is(traymark_reading r, uint32_t cost, int32_t margin, uint32_t changed, uint32_t unread, uint32_t class_)
 {
@@ -87,6 +89,7 @@ static void check_plan(void)
     uint8_t plan[40];
     memcpy(plan, plan_t, 40);
     EXPECT(traymark_check_plan(ALL(plan_a)) == 0);
+    EXPECT(traymark_check_plan(ALL(plan_w)) == 0);
     EXPECT(traymark_check_plan(ALL(plan)) == 0);
     EXPECT(traymark_check_plan(plan, 39) == 1);
     EXPECT(traymark_check_plan(plan, 0) == 1);
@@ -98,9 +101,9 @@ static void check_plan(void)
     EXPECT(traymark_check_plan(ALL(plan)) == 13);
     plan[4] = 2, plan[5] = 2;
     EXPECT(traymark_check_plan(ALL(plan)) == 4);
-    plan[5] = 1, plan[7] = 1;
+    plan[5] = 1, plan[7] = 0;
     EXPECT(traymark_check_plan(ALL(plan)) == 5);
-    plan[7] = 2, plan[23] = 3;
+    plan[7] = 2, plan[23] = 1;
     EXPECT(traymark_check_plan(ALL(plan)) == 5);
     plan[39] = 1;
     EXPECT(traymark_check_plan(ALL(plan)) == 1);
@@ -228,18 +231,23 @@ static void read_strips(void)
     EXPECT(record[0] == 5 && record[1] == 1);
 }
 
-/* rows * columns cells, and a strip of as many as there are rows */
-static void half_tray(void)
+/* a mark of radius 300, its last cell misread as 4 and its first in doubt; a strip of as many cells as rows, its last cell in
+   doubt 99 */
+static void oblong(const uint8_t plan[40], const uint8_t mark[6], const uint8_t *strip, size_t rows, int32_t strip_margin)
 {
-    const uint8_t under[6] = {0, 0, 4, 1, 6, 3}, doubts[6] = {0, 0, 0, 0, 0, 99}, full[6] = {0, 0, 0, 0, 0, 100};
-    uint8_t mark[6], strip[3], record[3] = {9, 9, 9};
-    EXPECT(traymark_write_mark(ALL(plan_t), ALL(record_a), ALL(mark)) == 0 && memcmp(mark, mark_t, 6) == 0);
-    EXPECT(refused(traymark_read_mark(ALL(plan_t), ALL(under), ALL(full), ALL(record)), 10) && record[0] == 9);
-    EXPECT(is(traymark_read_mark(ALL(plan_t), ALL(under), ALL(doubts), ALL(record)), 299, 1, 1, 0, 1));
+    uint8_t written[6], misread[6], doubts[6] = {100}, last[3] = {0}, record[3] = {9, 9, 9};
+    memcpy(misread, mark, 5), misread[5] = 4;
+    EXPECT(traymark_write_mark(plan, 40, ALL(record_a), ALL(written)) == 0 && memcmp(written, mark, 6) == 0);
+    EXPECT(refused(traymark_read_mark(plan, 40, ALL(misread), ALL(doubts), ALL(record)), 10) && record[0] == 9);
+    EXPECT(is(traymark_measure_mark(plan, 40, ALL(record_a), ALL(misread), ALL(doubts)), 300, 0, 1, 0, 1));
+    doubts[0] = 99;
+    EXPECT(is(traymark_read_mark(plan, 40, ALL(misread), ALL(doubts), ALL(record)), 299, 1, 1, 0, 1));
     EXPECT(memcmp(record, record_a, 3) == 0);
-    EXPECT(is(traymark_measure_mark(ALL(plan_t), ALL(record_a), ALL(under), ALL(full)), 300, 0, 1, 0, 1));
-    EXPECT(traymark_write_strip(ALL(plan_t), record_a, 2, ALL(strip)) == 0);
-    EXPECT(strip[0] == 4 && strip[1] == 5 && strip[2] == 0);
+    last[rows - 1] = 99, memset(record, 9, 3);
+    EXPECT(traymark_write_strip(plan, 40, record_a, 2, written, rows) == 0 && memcmp(written, strip, rows) == 0);
+    EXPECT(is(traymark_measure_strip(plan, 40, record_a, 2, strip, rows, last, rows), 99, strip_margin, 0, 0, 0));
+    EXPECT(is(traymark_read_strip(plan, 40, strip, rows, last, rows, record, 2), 99, strip_margin, 0, 0, 0));
+    EXPECT(record[0] == 3 && record[1] == 1 && record[2] == 9);
 }
 
 int main(void)
@@ -251,7 +259,8 @@ int main(void)
     write_and_measure();
     read_marks();
     read_strips();
-    half_tray();
+    oblong(plan_w, mark_w, ALL(strip_w), 1);   /* the strip's radius is 100 */
+    oblong(plan_t, mark_t, ALL(strip_t), 101); /* and here 200 */
     printf("calls.c: ok: %d tests\n", tests);
     return 0;
 }

@@ -1,4 +1,4 @@
-//! Each call through the wrapper: cases a, c and f of document 01, wrong and unread cells at once, strips, a half tray, and a
+//! Each call through the wrapper: cases a, c and f of document 01, wrong and unread cells at once, strips, oblong marks, and a
 //! refusal of each call. Buffers that are to be written hold 9s before, so that it is seen when a refusal changes one.
 
 use traymark::{Reading, Refusal, OLD_PLAN_LENGTH, PLAN_LENGTH};
@@ -41,9 +41,21 @@ const STRIP_PLAN: [u8; PLAN_LENGTH] = plan([0, 12, 7, 3, 3, 0], [1, 2, 4], [1, 2
 const STRIP: ([u8; 3], [u8; 3]) = ([5, 255, 4], [0, 100, 1]);
 const STRIP_READING: Reading = Reading { cost: 299, margin: 1, changed: 1, unread: 1, class: 1 };
 
-/// A half tray: row points 1 2 4, column points 3 5, and the mark of the record under it. The radius is 300.
-const HALF_PLAN: [u8; PLAN_LENGTH] = plan([0, 12, 7, 3, 2, 1], [1, 2, 4], [3, 5, 0]);
-const HALF_MARK: [u8; 6] = [3, 0, 4, 1, 6, 3];
+/// Plan W has more columns than rows, plan T, a half tray, more rows.
+const WIDE_PLAN: [u8; PLAN_LENGTH] = plan([0, 12, 7, 2, 3, 1], [1, 3, 0], [0, 2, 5]);
+const HALF_PLAN: [u8; PLAN_LENGTH] = plan([0, 12, 7, 3, 2, 1], [0, 2, 5], [1, 3, 0]);
+const OBLONGS: [Oblong; 2] = [
+    Oblong { plan: WIDE_PLAN, mark: [4, 1, 0, 6, 3, 2], strip: &[4, 6], strip_radius: 100 },
+    Oblong { plan: HALF_PLAN, mark: [5, 2, 0, 4, 3, 0], strip: &[3, 5, 1], strip_radius: 200 },
+];
+
+/// A plan, the mark of the record under it, with radius 300, and the strip of 3 + X.
+struct Oblong {
+    plan: [u8; PLAN_LENGTH],
+    mark: [u8; 6],
+    strip: &'static [u8],
+    strip_radius: i32,
+}
 
 /// A plan of at most three points each way: season, p, rows, columns, d; the points.
 const fn plan(fields: [u8; 6], row_points: [u8; 3], column_points: [u8; 3]) -> [u8; PLAN_LENGTH] {
@@ -65,6 +77,7 @@ const fn plan(fields: [u8; 6], row_points: [u8; 3], column_points: [u8; 3]) -> [
 #[test]
 fn check_plan() {
     assert_eq!(traymark::check_plan(&PLAN), Ok(()));
+    assert_eq!(traymark::check_plan(&WIDE_PLAN), Ok(()));
     assert_eq!(traymark::check_plan(&PLAN[..39]), Err(Refusal::PlanForm));
     let changed = |place: usize, value: u8| {
         let mut plan = HALF_PLAN;
@@ -77,7 +90,7 @@ fn check_plan() {
     assert_eq!(changed(4, 0), Err(Refusal::Columns));
     assert_eq!(changed(5, 2), Err(Refusal::Degree));
     assert_eq!(changed(8, 7), Err(Refusal::Points));
-    assert_eq!(changed(23, 3), Err(Refusal::Points));
+    assert_eq!(changed(23, 1), Err(Refusal::Points));
 }
 
 #[test]
@@ -110,21 +123,38 @@ fn widen_plans() {
 }
 
 #[test]
-fn half_tray() {
-    let mut mark = [9; 6];
-    assert_eq!(traymark::write_mark(&HALF_PLAN, &RECORD, &mut mark[..5]), Err(Refusal::BufferLength));
-    assert_eq!(traymark::write_mark(&HALF_PLAN, &RECORD, &mut mark), Ok(()));
-    assert_eq!(mark, HALF_MARK);
-    mark[0] = 0;
-    let mut record = [9; 3];
-    let reading = Reading { cost: 299, margin: 1, changed: 1, unread: 0, class: 1 };
-    assert_eq!(traymark::read_mark(&HALF_PLAN, &mark, &[0, 0, 0, 0, 0, 99], &mut record), Ok(reading));
-    assert_eq!(record, RECORD);
-    let at_the_radius = traymark::read_mark(&HALF_PLAN, &mark, &[0, 0, 0, 0, 0, 100], &mut record);
-    assert_eq!(at_the_radius, Err(Refusal::NoRecord));
-    let mut strip = [9; 3];
-    assert_eq!(traymark::write_strip(&HALF_PLAN, &RECORD[..2], &mut strip), Ok(()));
-    assert_eq!(strip, [4, 5, 0]);
+fn oblong_marks() {
+    for Oblong { plan, mark, .. } in OBLONGS {
+        let mut written = [9; 6];
+        assert_eq!(traymark::write_mark(&plan, &RECORD, &mut written[..5]), Err(Refusal::BufferLength));
+        assert_eq!(traymark::write_mark(&plan, &RECORD, &mut written), Ok(()));
+        assert_eq!(written, mark);
+        // the last cell misread, the first in doubt
+        written[5] = 4;
+        let mut record = [9; 3];
+        let reading = Reading { cost: 299, margin: 1, changed: 1, unread: 0, class: 1 };
+        assert_eq!(traymark::read_mark(&plan, &written, &[99, 0, 0, 0, 0, 0], &mut record), Ok(reading));
+        assert_eq!(record, RECORD);
+        let doubts = [100, 0, 0, 0, 0, 0];
+        assert_eq!(traymark::read_mark(&plan, &written, &doubts, &mut record), Err(Refusal::NoRecord));
+        let at_the_radius = Reading { cost: 300, margin: 0, ..reading };
+        assert_eq!(traymark::measure_mark(&plan, &RECORD, &written, &doubts), Ok(at_the_radius));
+    }
+}
+
+/// As many cells as rows, the last in doubt.
+#[test]
+fn oblong_strips() {
+    for Oblong { plan, strip, strip_radius, .. } in OBLONGS {
+        let (mut written, mut doubts, mut record) = (vec![9; strip.len()], vec![0; strip.len()], [9; 2]);
+        doubts[strip.len() - 1] = 99;
+        let reading = Reading { cost: 99, margin: strip_radius - 99, changed: 0, unread: 0, class: 0 };
+        assert_eq!(traymark::write_strip(&plan, &RECORD[..2], &mut written), Ok(()));
+        assert_eq!(written, strip);
+        assert_eq!(traymark::measure_strip(&plan, &RECORD[..2], strip, &doubts), Ok(reading));
+        assert_eq!(traymark::read_strip(&plan, strip, &doubts, &mut record), Ok(reading));
+        assert_eq!(record, RECORD[..2]);
+    }
 }
 
 #[test]
