@@ -1,14 +1,15 @@
-//! Cases a to l of document 01, with unread cells counted apart from changed ones, and some more, half trays among them,
+//! Cases a to l of document 01, with unread cells counted apart from changed ones, the table of oblong marks, and some more
 //! whose answers were worked out by hand.
 
-use independent::{Code, Reading, PLAN};
+use independent::Code::{self, Mark, Strip};
+use independent::{Reading, PLAN};
 use std::array::from_fn;
 use std::ops::Range;
 use traymark_tests::calls::{hold, Arguments, Call, Outcome};
 use traymark_tests::counts::Counts;
 use traymark_tests::random::Random;
 
-pub const CASES: u64 = 96;
+pub const CASES: u64 = 100;
 
 /// A call and its outcome as the document says it.
 struct Row {
@@ -30,30 +31,26 @@ pub fn case(seed: u64, random: &mut Random, counts: &mut Counts) -> Result<(), S
     Ok(())
 }
 
+fn rows() -> Vec<Row> {
+    let mut rows = lettered();
+    rows.extend(oblongs());
+    rows.extend(more());
+    rows
+}
+
 const MARK: [u8; 9] = [6, 1, 5, 0, 2, 6, 2, 4, 1];
 const SURE: [u8; 9] = [0; 9];
 
+/// Cases a to l.
 #[rustfmt::skip]
-fn rows() -> Vec<Row> {
-    use Code::{Mark, Strip};
-    let plan_a = plan(7, 3, 1, &[1, 2, 4]);
-    let plan_d0 = plan(7, 3, 0, &[1, 2, 4]);
+fn lettered() -> Vec<Row> {
+    let plan_a = plan_a();
     let plan_h = plan(2, 1, 0, &[0]);
     let plan_j = plan(2, 2, 1, &[0, 1]);
     let case_c = [0, 1, 5, 0, 2, 6, 2, 4, 0];
     let case_d = [0, 0, 0, 0, 2, 6, 2, 4, 1];
     let case_e = [1, 1, 1, 0, 0, 0, 0, 0, 0];
     let (unread_5, unread_6) = (unread(MARK, 0..5), unread(MARK, 0..6));
-    let wrong_and_unread = unread([0, 1, 5, 0, 2, 6, 2, 4, 1], 1..2);
-    let unread_0 = unread(MARK, 3..4);
-    let (wrong_first, full_doubts) = ([0, 1, 5, 0, 2, 6, 2, 4, 1], [100, 100, 0, 0, 0, 0, 0, 0, 0]);
-    let one_read = unread([7; 256], 1..256);
-    let few_read = unread(from_fn::<u8, 256, _>(|cell| if cell < 16 { 8 } else { 7 }), 33..256);
-    let (tall, broad) = (oblong(7, 1, &[1, 2, 4], &[3, 5]), oblong(7, 1, &[3, 5], &[1, 2, 4]));
-    let (tall_mark, broad_mark) = ([3, 0, 4, 1, 6, 3], [1, 3, 0, 3, 5, 2]);
-    let (sixteen, eight) = ([0, 1, 2, 3, 5, 8, 13, 21, 34, 55, 89, 144, 233, 240, 249, 250], [2, 3, 4, 9, 80, 81, 200, 250]);
-    let (tall_16, broad_16) = (oblong(251, 7, &sixteen, &eight), oblong(251, 7, &eight, &sixteen));
-    let (one_column, one_row) = (oblong(251, 0, &sixteen, &[9]), oblong(251, 0, &[9], &sixteen));
     vec![
         write(Mark, &plan_a, &[3, 1, 2], 9, Ok(&MARK)), // a
         read(Mark, &plan_a, &MARK, &SURE, Ok((&[3, 1, 2], [0, 600, 0, 0, 0]))), // b
@@ -71,6 +68,61 @@ fn rows() -> Vec<Row> {
         check(&plan(9, 3, 1, &[1, 2, 4]), 2), // l
         check(&plan(7, 3, 3, &[1, 2, 4]), 4),
         check(&plan(7, 3, 1, &[1, 1, 4]), 5),
+    ]
+}
+
+/// The table of oblong marks in docs/SPECIFICATION.md.
+#[rustfmt::skip]
+fn oblongs() -> Vec<Row> {
+    let (w, t) = (plan_w(), plan_t());
+    let no_column = with(&w, &[(4, 0)]);
+    vec![
+        write(Mark, &w, &[3, 1, 2], 6, Ok(&[4, 1, 0, 6, 3, 2])),
+        write(Mark, &t, &[3, 1, 2], 6, Ok(&[5, 2, 0, 4, 3, 0])),
+        read(Mark, &w, &[4, 1, 0, 6, 3, 2], &[0; 6], Ok((&[3, 1, 2], [0, 300, 0, 0, 0]))),
+        read(Mark, &t, &[5, 2, 0, 4, 3, 0], &[0; 6], Ok((&[3, 1, 2], [0, 300, 0, 0, 0]))),
+        read(Mark, &w, &[4, 1, 0, 6, 3, 4], &[99, 0, 0, 0, 0, 0], Ok((&[3, 1, 2], [299, 1, 1, 0, 1]))),
+        read(Mark, &w, &[4, 1, 0, 6, 3, 4], &[100, 0, 0, 0, 0, 0], Err((10, 3))),
+        read(Mark, &t, &[5, 4, 0, 4, 3, 0], &[0, 0, 0, 0, 99, 0], Ok((&[3, 1, 2], [299, 1, 1, 0, 1]))),
+        read(Mark, &t, &[5, 4, 0, 4, 3, 0], &[0, 0, 0, 0, 100, 0], Err((10, 3))),
+        measure(Mark, &t, &[3, 1, 2], &[4, 1, 0, 6, 3, 2], &[0; 6], [800, -500, 4, 0, 2]),
+        write(Strip, &w, &[3, 1], 2, Ok(&[4, 6])),
+        read(Strip, &t, &[3, 5, 255], &[0, 0, 100], Ok((&[3, 1], [100, 100, 0, 1, 0]))),
+        check(&with(&w, &[(5, 2)]), 4),
+        check(&with(&t, &[(5, 2)]), 4),
+        check(&oblong(7, 2, &[0, 1, 2], &[0, 1, 2, 3]), 0),
+        check(&no_column, 13),
+        check(&fields(19, [1, 17, 0], &[0], &[1, 2, 4]), 13),
+        check(&fields(2, [2, 3, 1], &[0, 1], &[0, 1]), 13),
+        check(&with(&no_column, &[(5, 2)]), 13),
+        check(&with(&no_column, &[(3, 0)]), 3),
+        check(&with(&w, &[(24, 7)]), 5),
+        check(&with(&w, &[(23, 0)]), 5),
+        check(&with(&w, &[(25, 1)]), 5),
+        check(&with(&w, &[(37, 1)]), 5),
+        check(&with(&w, &[(6, 7), (22, 7)]), 5),
+        check(&with(&w, &[(8, 5)]), 5),
+        check(&with(&t, &[(24, 5)]), 5),
+        write(Strip, &no_column, &[3, 1], 2, Err(13)),
+        read(Strip, &with(&t, &[(22, 4)]), &[3, 5, 1], &[0; 3], Err((5, 2))),
+    ]
+}
+
+/// Worked out by hand.
+#[rustfmt::skip]
+fn more() -> Vec<Row> {
+    let (plan_a, w, t) = (plan_a(), plan_w(), plan_t());
+    let plan_d0 = plan(7, 3, 0, &[1, 2, 4]);
+    let wrong_and_unread = unread([0, 1, 5, 0, 2, 6, 2, 4, 1], 1..2);
+    let unread_0 = unread(MARK, 3..4);
+    let (wrong_first, full_doubts) = ([0, 1, 5, 0, 2, 6, 2, 4, 1], [100, 100, 0, 0, 0, 0, 0, 0, 0]);
+    let one_read = unread([7; 256], 1..256);
+    let few_read = unread(from_fn::<u8, 256, _>(|cell| if cell < 16 { 8 } else { 7 }), 33..256);
+    let half_at_radius = unread([0, 2, 0, 4, 3, 0], 5..6);
+    let eight = [2, 3, 4, 9, 80, 81, 200, 250];
+    let (tall_16, broad_16) = (oblong(251, 7, &SIXTEEN, &eight), oblong(251, 7, &eight, &SIXTEEN));
+    let (one_column, one_row) = (oblong(251, 0, &SIXTEEN, &[9]), oblong(251, 0, &[9], &SIXTEEN));
+    vec![
         check(&plan_a, 0),
         check(&plan(9, 0, 3, &[1, 1, 4]), 2),
         // a cell wrong and a cell unread at once; a cell unread where the mark is 0
@@ -104,27 +156,18 @@ fn rows() -> Vec<Row> {
         measure(Strip, &plan_16(15), &[0; 16], &[255; 16], &[100; 16], [1_600, -1_500, 0, 16, 0]),
         read(Mark, &plan_16(0), &one_read.0, &one_read.1, Ok((&[7], [25_500, 100, 0, 255, 0]))),
         read(Mark, &plan_16(0), &few_read.0, &few_read.1, Ok((&[7], [25_500, 100, 16, 223, 3]))),
-        // half trays: 3 + X + 2Y with three rows and two columns, and with two rows and three columns; R is 300
-        write(Mark, &tall, &[3, 1, 2], 6, Ok(&tall_mark)),
-        write(Mark, &broad, &[3, 1, 2], 6, Ok(&broad_mark)),
-        read(Mark, &tall, &tall_mark, &[0; 6], Ok((&[3, 1, 2], [0, 300, 0, 0, 0]))),
-        read(Mark, &broad, &broad_mark, &[0; 6], Ok((&[3, 1, 2], [0, 300, 0, 0, 0]))),
-        // X and Y exchanged
-        write(Mark, &broad, &[3, 2, 1], 6, Ok(&[3, 4, 6, 0, 1, 3])),
-        read(Mark, &broad, &[3, 4, 6, 0, 1, 3], &[0; 6], Ok((&[3, 2, 1], [0, 300, 0, 0, 0]))),
-        // one under R, and R
-        read(Mark, &tall, &[0, 0, 4, 1, 6, 3], &[0, 0, 0, 0, 0, 99], Ok((&[3, 1, 2], [299, 1, 1, 0, 1]))),
-        read(Mark, &tall, &[0, 0, 4, 1, 6, 255], &[0, 0, 0, 0, 0, 100], Err((10, 3))),
-        measure(Mark, &tall, &[3, 1, 2], &[0, 0, 4, 1, 6, 255], &[0, 0, 0, 0, 0, 100], [300, 0, 1, 1, 1]),
-        read(Mark, &broad, &[0, 3, 0, 3, 5, 2], &[0, 0, 0, 0, 0, 99], Ok((&[3, 1, 2], [299, 1, 1, 0, 1]))),
-        read(Mark, &broad, &[0, 3, 0, 3, 5, 255], &[0, 0, 0, 0, 0, 100], Err((10, 3))),
-        // strips go by the rows: 3 + X at 1 2 4, R 200, and at 3 5, R 100
-        write(Strip, &tall, &[3, 1], 3, Ok(&[4, 5, 0])),
-        read(Strip, &tall, &[4, 5, 255], &[0, 0, 100], Ok((&[3, 1], [100, 100, 0, 1, 0]))),
-        write(Strip, &broad, &[3, 1], 2, Ok(&[6, 1])),
-        read(Strip, &broad, &[6, 1], &[0, 99], Ok((&[3, 1], [99, 1, 0, 0, 0]))),
-        read(Strip, &broad, &[6, 1], &[0, 100], Err((10, 2))),
-        write(Strip, &tall, &[3, 1], 2, Err(6)),
+        // the half tray of README.md; X and Y exchanged, from T to W
+        write(Mark, &oblong(7, 1, &[1, 2, 4], &[3, 5]), &[3, 1, 2], 6, Ok(&[3, 0, 4, 1, 6, 3])),
+        write(Mark, &w, &[3, 2, 1], 6, Ok(&[5, 0, 3, 2, 4, 0])),
+        read(Mark, &w, &[5, 0, 3, 2, 4, 0], &[0; 6], Ok((&[3, 2, 1], [0, 300, 0, 0, 0]))),
+        // an oblong with a cell wrong and a cell unread, at the radius
+        read(Mark, &t, &half_at_radius.0, &half_at_radius.1, Err((10, 3))),
+        measure(Mark, &t, &[3, 1, 2], &half_at_radius.0, &half_at_radius.1, [300, 0, 1, 1, 1]),
+        // strips go by the rows: R is 200 by T and 100 by W
+        measure(Strip, &t, &[3, 1], &[3, 5, 0], &[0; 3], [200, 0, 1, 0, 1]),
+        read(Strip, &w, &[4, 6], &[0, 99], Ok((&[3, 1], [99, 1, 0, 0, 0]))),
+        read(Strip, &w, &[4, 6], &[0, 100], Err((10, 2))),
+        write(Strip, &t, &[3, 1], 2, Err(6)),
         // the longest: one column, one row, 16 by 8 and 8 by 16 with d 7, where R is 1,600 for all
         read(Mark, &one_column, &[7; 16], &[0; 16], Ok((&[7], [0, 1_600, 0, 0, 0]))),
         read(Mark, &one_row, &[7; 16], &[0; 16], Ok((&[7], [0, 1_600, 0, 0, 0]))),
@@ -136,38 +179,21 @@ fn rows() -> Vec<Row> {
         read(Mark, &broad_16, &[255; 128], &[100; 128], Err((10, 36))),
         read(Mark, &tall_16, &[0; 127], &[0; 128], Err((6, 36))),
         read(Mark, &broad_16, &[251; 128], &[0; 128], Err((7, 36))),
-        // columns alone, before d and after rows; d by the smaller side
-        check(&fields(7, [3, 8, 1], &[1, 2, 4], &[0, 1, 2, 3, 4, 5, 6]), 13),
-        check(&fields(251, [16, 17, 1], &sixteen, &sixteen), 13),
-        check(&fields(7, [3, 0, 0], &[1, 2, 4], &[]), 13),
-        check(&fields(7, [3, 17, 3], &[1, 2, 4], &[1, 2, 4]), 13),
-        check(&fields(7, [0, 17, 3], &[1, 2, 4], &[1, 2, 4]), 3),
-        check(&fields(7, [8, 0, 0], &[1, 2, 4], &[]), 3),
-        check(&fields(9, [3, 17, 1], &[1, 2, 4], &[1, 2, 4]), 2),
-        check(&fields(7, [3, 2, 2], &[1, 2, 4], &[3, 5]), 4),
-        check(&fields(7, [2, 3, 2], &[3, 5], &[1, 2, 4]), 4),
-        check(&fields(7, [3, 2, 1], &[1, 2, 4], &[3, 5]), 0),
-        check(&fields(7, [2, 3, 1], &[3, 5], &[1, 2, 4]), 0),
-        // points: equal, falling, p, and unused bytes, of rows and of columns; d before them
-        check(&fields(7, [3, 2, 1], &[1, 1, 4], &[3, 5]), 5),
-        check(&fields(7, [3, 2, 1], &[1, 2, 7], &[3, 5]), 5),
-        check(&fields(7, [3, 2, 1], &[1, 2, 4, 5], &[3, 5]), 5),
-        check(&fields(7, [3, 2, 1], &[1, 2, 4], &[3, 3]), 5),
-        check(&fields(7, [3, 2, 1], &[1, 2, 4], &[5, 3]), 5),
-        check(&fields(7, [3, 2, 1], &[1, 2, 4], &[3, 7]), 5),
-        check(&fields(7, [3, 2, 1], &[1, 2, 4], &[3, 5, 6]), 5),
-        check(&fields(7, [3, 2, 2], &[1, 1, 4], &[3, 3]), 4),
+        // before columns p and rows; before points d; row points that are equal, or p
+        check(&with(&w, &[(2, 9), (4, 17)]), 2),
+        check(&with(&w, &[(3, 8), (4, 17), (5, 8)]), 3),
+        check(&with(&t, &[(5, 2), (7, 0), (23, 1)]), 4),
+        check(&with(&t, &[(7, 0)]), 5),
+        check(&with(&t, &[(8, 7)]), 5),
         // for strips the columns are checked too
-        write(Strip, &fields(7, [3, 0, 0], &[1, 2, 4], &[]), &[3], 3, Err(13)),
-        read(Strip, &fields(7, [3, 17, 1], &[1, 2, 4], &[]), &[4, 5, 0], &[0; 3], Err((13, 2))),
-        read(Strip, &fields(7, [3, 1, 1], &[1, 2, 4], &[3]), &[4, 5, 0], &[0; 3], Err((4, 2))),
-        read(Strip, &fields(7, [3, 2, 1], &[1, 2, 4], &[3, 7]), &[4, 5, 0], &[0; 3], Err((5, 2))),
-        read(Strip, &fields(7, [3, 2, 1], &[1, 2, 4], &[3, 5, 6]), &[4, 5, 0], &[0; 3], Err((5, 2))),
+        read(Strip, &with(&t, &[(4, 17)]), &[3, 5, 1], &[0; 3], Err((13, 2))),
+        read(Strip, &with(&t, &[(4, 1)]), &[3, 5, 1], &[0; 3], Err((4, 2))),
+        read(Strip, &with(&t, &[(24, 5)]), &[3, 5, 1], &[0; 3], Err((5, 2))),
         // the last two bytes, before all else
-        check(&ending(&tall, 38), 1),
-        check(&ending(&tall, 39), 1),
-        check(&ending(&fields(9, [0, 0, 9], &[], &[]), 39), 1),
-        check(&tall[..24], 1),
+        check(&with(&t, &[(38, 1)]), 1),
+        check(&with(&t, &[(39, 1)]), 1),
+        check(&with(&t, &[(2, 9), (3, 0), (4, 0), (5, 9), (39, 1)]), 1),
+        check(&t[..24], 1),
     ]
 }
 
@@ -190,16 +216,30 @@ fn plan(p: u8, n: u8, d: u8, points: &[u8]) -> Vec<u8> {
     fields(p, [n, n, d], points, points)
 }
 
-/// The plan with a 1 at that place.
-fn ending(plan: &[u8], place: usize) -> Vec<u8> {
+/// The plan with these values at these places.
+fn with(plan: &[u8], changes: &[(usize, u8)]) -> Vec<u8> {
     let mut plan = plan.to_vec();
-    plan[place] = 1;
+    changes.iter().for_each(|&(place, value)| plan[place] = value);
     plan
 }
 
+fn plan_a() -> Vec<u8> {
+    plan(7, 3, 1, &[1, 2, 4])
+}
+
+fn plan_w() -> Vec<u8> {
+    oblong(7, 1, &[1, 3], &[0, 2, 5])
+}
+
+fn plan_t() -> Vec<u8> {
+    oblong(7, 1, &[0, 2, 5], &[1, 3])
+}
+
+const SIXTEEN: [u8; 16] = [0, 1, 2, 3, 5, 8, 13, 21, 34, 55, 89, 144, 233, 240, 249, 250];
+
 /// p 251, sixteen points.
 fn plan_16(d: u8) -> Vec<u8> {
-    plan(251, 16, d, &[0, 1, 2, 3, 5, 8, 13, 21, 34, 55, 89, 144, 233, 240, 249, 250])
+    plan(251, 16, d, &SIXTEEN)
 }
 
 /// Symbols with some cells unread, and their doubts: 100 for these and 0 for the others.
