@@ -28,7 +28,7 @@ fn case(seed: u64, random: &mut Random, counts: &mut Counts) -> Result<(), Strin
                 return Err(format!("{name} {call:?} gave {outcome:?}, expected {expected:?}; {given:?}"));
             }
         }
-        counts.answer(call, Code::Mark, expected.reading);
+        counts.answer(call, &given, expected.reading);
     }
     Ok(())
 }

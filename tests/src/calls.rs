@@ -65,6 +65,6 @@ pub fn hold(call: Call, given: &Arguments, random: &mut Random, counts: &mut Cou
     if outcome != expected {
         return Err(format!("{call:?} gave {outcome:?}, expected {expected:?}; {given:?}"));
     }
-    counts.answer(call, given.code, outcome.reading);
+    counts.answer(call, given, outcome.reading);
     Ok(outcome)
 }

@@ -1,6 +1,6 @@
 //! What was seen, so that tests that test nothing show.
 
-use crate::calls::Call;
+use crate::calls::{Arguments, Call};
 use independent::{Code, Reading};
 use std::fmt;
 
@@ -8,11 +8,11 @@ use std::fmt;
 pub struct Counts {
     /// calls, each made through C and through Rust
     pub calls: u64,
-    /// marks and strips read, or refused with 10
+    /// marks read, or refused with 10, oblongs among them, and strips
     pub marks: u64,
-    pub strips: u64,
-    /// photographs of oblongs, and of marks that are others with rows and columns exchanged
     pub oblongs: u64,
+    pub strips: u64,
+    /// marks that are others with rows and columns exchanged
     pub unlike: u64,
     /// marks and strips read with changed and unread cells at once
     pub mixed_marks: u64,
@@ -34,12 +34,14 @@ pub struct Counts {
 }
 
 impl Counts {
-    pub fn answer(&mut self, call: Call, code: Code, reading: Reading) {
+    pub fn answer(&mut self, call: Call, given: &Arguments, reading: Reading) {
         self.number(reading.number);
         let mixed = u64::from(reading.changed > 0 && reading.unread > 0);
-        match (call, code, reading.number) {
+        match (call, given.code, reading.number) {
             (Call::Read, Code::Mark, 0 | 10) => {
+                let [rows, columns] = [given.plan[3], given.plan[4]];
                 self.marks += 1;
+                self.oblongs += u64::from(rows != columns);
                 self.mixed_marks += mixed;
             }
             (Call::Read, Code::Strip, 0 | 10) => {
@@ -68,8 +70,8 @@ impl Counts {
     pub fn add(&mut self, other: &Counts) {
         self.calls += other.calls;
         self.marks += other.marks;
-        self.strips += other.strips;
         self.oblongs += other.oblongs;
+        self.strips += other.strips;
         self.unlike += other.unlike;
         self.mixed_marks += other.mixed_marks;
         self.mixed_strips += other.mixed_strips;
@@ -88,8 +90,8 @@ impl Counts {
     pub fn missing(&self) -> Option<&'static str> {
         [
             (self.marks < 50_000, "fewer than 50,000 marks"),
+            (self.oblongs < 60_000, "fewer than 60,000 oblong marks"),
             (self.strips < 50_000, "fewer than 50,000 strips"),
-            (self.oblongs < 17_000, "fewer than 17,000 oblong marks"),
             (self.unlike < 1_000, "fewer than 1,000 marks that are others with rows and columns exchanged"),
             (self.mixed_marks < 10_000, "fewer than 10,000 marks read with changed and unread cells"),
             (self.mixed_strips < 5_000, "fewer than 5,000 strips read with changed and unread cells"),
@@ -111,13 +113,13 @@ impl fmt::Display for Counts {
         let list = |counts: &[u64]| counts.iter().map(u64::to_string).collect::<Vec<_>>().join(" ");
         write!(
             f,
-            "{} calls, {} marks, {} strips; oblongs: {}, others exchanged: {}; changed and unread at once: {} {}; \
+            "{} calls, {} marks, {} of them oblong, {} strips; others exchanged: {}; changed and unread at once: {} {}; \
              cost R - 1, R, R + 1: {} {} {}; both methods: {}; first of several plans: {}, unsound before sound: {}; \
              widened: {}; numbers: {}; classes: {}",
             self.calls,
             self.marks,
-            self.strips,
             self.oblongs,
+            self.strips,
             self.unlike,
             self.mixed_marks,
             self.mixed_strips,

@@ -42,7 +42,7 @@ fn alone(plan: &Plan, k: usize, j: usize, random: &mut Random, counts: &mut Coun
         [(Call::Write, &given, mark), (Call::Measure, &given, Vec::new()), (Call::Read, &to_read, record)]
     {
         let answer = outcome(call, given, random)?;
-        counts.answer(call, given.code, answer.reading);
+        counts.answer(call, given, answer.reading);
         if answer.reading.number != 0 || answer.reading.cost != 0 || answer.buffer != buffer {
             return Err(format!("{call:?} gave {answer:?}, expected {buffer:?}; {given:?}"));
         }

@@ -73,7 +73,6 @@ fn costing(
     random: &mut Random,
     counts: &mut Counts,
 ) -> Result<(), String> {
-    counts.oblongs += u64::from(code == Code::Mark && plan.rows() != plan.columns());
     let record = plans::record(code, plan, random);
     let word = code.word(plan, &record);
     let rival = rival(code, plan, &word, random);
