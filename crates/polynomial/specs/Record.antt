@@ -7,8 +7,8 @@
 --   valueX p d F x       the value of the record F in X at a point, modulo p; d bounds the degree
 --   valueXY p d F x y    the same in X and Y; d bounds the total degree
 --   gridValue p d b x y F c   the value in cell c of a grid of b columns
---   column d h t x       where h i t stands before X^i Y^t, i + t ≤ d: the coefficient of Y^t, of degree d
---                        - t in X, at the point x
+--   column d h t x       where h i t stands before X^i Y^t, i + t ≤ d: the coefficient of Y^t, of degree d - t in X, at the
+--                        point x
 --   onRow d h x          the polynomial in Y on the row x, by its coefficients
 --
 -- What this file is for: where each coefficient stands, and what the writer writes; and a mark's rows are strips in Y, the

@@ -4,8 +4,7 @@
 --   cells m n           how many cells: the product of the sides
 --   least m n           the smallest side
 --   others m n          the product of all sides but the smallest
---   distance m n d      two different polynomials of total degree d < least m n differ in so many
---                       cells or more
+--   distance m n d      two different polynomials of total degree d < least m n differ in so many cells or more
 --   two a b             the sides a and b of a grid
 --   cellPoint m n x c   the coordinates of cell c, where x i j is the j-th point of coordinate i; the last coordinate is the
 --                       fastest

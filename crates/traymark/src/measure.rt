@@ -37,8 +37,7 @@ pub extern "C" fn traymark_measure_mark(
     measuring::measure_mark(said, record, symbols, doubts)
 }
 
-// The same for a strip: `record` has d + 1 bytes, lowest power first, `symbols` and `doubts` have a byte for each
-// row.
+// The same for a strip: `record` has d + 1 bytes, lowest power first, `symbols` and `doubts` have a byte for each row.
 #[no_mangle]
 pub extern "C" fn traymark_measure_strip(
     plan: &[u8],
