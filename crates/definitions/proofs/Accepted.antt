@@ -9,16 +9,19 @@
 --   writing-accepted              a record of a sound plan is written into a buffer of its length
 --   measuring-accepted            a photograph and a record of its plan are measured
 --   plan-first                    a plan that is refused has its own number in every call
+--   written-exactly, taken-exactly   under a sound plan, 6 to 9 by what is wrong with the other arguments
 --
 -- What this file is for: the calls test in order, and each case of theirs is one law. Assumes nothing.
 use mathlib.Core.Path.{_≡_, refl, sym, _∙_}
-use mathlib.Core.Bool.{Bool, false}
+use mathlib.Core.Bool.{Bool, true, false, not}
 use mathlib.Core.List.{List, [], _∷_}
 use Prim.Native.Nat.{ℕ}
+use native.Mathlib.Omega.{arith}
+use lib.Dec.{eqb}
 use lib.ListN.{length}
 use borrow.Author.Tests.{leb-false, lt-leb, eqb-true, not-false}
 use Rattle.bounded.proofs.Any.{any-none, none-any}
-use Rattle.definitions.specs.Refusals.{_when_, first}
+use Rattle.definitions.specs.Refusals.{Refusal, _when_, first}
 use Rattle.definitions.specs.Plan.{modulus, planRows, checkNumber}
 use Rattle.definitions.specs.Code.{Code, size, cells, IsRecord}
 use Rattle.definitions.specs.Cost.{full}
@@ -27,10 +30,11 @@ use Rattle.definitions.specs.Calls.{writeTests, writeRows, writeNumber, 
 use Rattle.definitions.specs.Calls.{nearest, missing, readRows, readNumber}
 use Rattle.definitions.specs.Photograph.{Photograph}
 use Rattle.definitions.specs.Accepted.{Writing}
-use Rattle.definitions.specs.Demands.{PlanFirst}
+use Rattle.definitions.specs.Demands.{PlanFirst, LengthsFit, WrittenExactly, TakenExactly}
 use Rattle.definitions.proofs.Refusals.{testAt, first-clear, first-both, Stops, numberAt, first-at, first-refuses}
-use Rattle.definitions.proofs.Refusals.{first-passes, equal}
+use Rattle.definitions.proofs.Refusals.{first-passes, _&_, equal, holds}
 use Rattle.definitions.proofs.Sound.{sound, checked}
+use Rattle.definitions.proofs.Photograph.{symbols-fit, fit-symbols, doubts-fit}
 use Rattle.definitions.proofs.Photograph.{photo-accepted, accepted-photo, accepted-buffer}
 
 -- one row that does not apply
@@ -39,12 +43,12 @@ unfolding first
 passed k b e = rw e
 
 module _ (C : Code) (P : List ℕ) where
-  -- the record of a call that row 9 does not refuse
+  -- a record whose coefficients the test of refusal 9 passes, and that of a call that row 9 does not refuse
+  record-fits : (F : List ℕ) → length F ≡ size C P → overflowing (modulus P) F (size C P) ≡ false → IsRecord C P F
+  record-fits F e t = record { size = e; below = λ i l. leb-false _ _ (any-none _ _ t i l) }
+
   record-is : (F : List ℕ) → length F ≡ size C P → first (recordRow C P F ∷ []) ≡ 0 → IsRecord C P F
-  record-is F e h = record {
-    size = e;
-    below = λ i l. leb-false _ _ (any-none _ _ (first-clear (recordRow C P F ∷ []) tt h 0) i l);
-  }
+  record-is F e h = record-fits F e (first-clear (recordRow C P F ∷ []) tt h 0)
 
   pub accepted-measuring : (s u F : List ℕ) → measureNumber C P s u F ≡ 0 → Photograph C P s u × IsRecord C P F
   unfolding measureNumber measureRows photoRows planRows
@@ -117,6 +121,55 @@ module _ (C : Code) (P : List ℕ) where
     pub measuring-accepted : Photograph C P s u → IsRecord C P F → measureNumber C P s u F ≡ 0
     measuring-accepted h r =
         sym (measure-at 1 refl (photo-accepted C P s u F h (r .size)) refl (none-any _ _ (λ i l. lt-leb _ _ (r .below i l)), tt))
+
+module _ (C : Code) (P : List ℕ) (e : checkNumber P ≡ 0) where
+  pub written-exactly : (F B : List ℕ) → WrittenExactly C P F B
+  written-exactly F B = record {
+    six = λ n. six n (not (eqb (length F) (size C P))) refl;
+    nine = λ f b n. at-row 2 (equal _ _ f & equal _ _ b & holds _ λ t. n (record-fits C P F f t));
+  }
+    where
+      at-row : (i : ℕ) → Stops (writeTests (modulus P) F B (cells C P) (size C P)) i →
+          writeNumber C P F B ≡ numberAt (writeTests (modulus P) F B (cells C P) (size C P)) i
+      at-row i h = sym (first-at (writeTests (modulus P) F B (cells C P) (size C P)) i h ∙ write-passes C P F B e)
+
+      six : ¬ ((length F ≡ size C P) × (length B ≡ cells C P)) → (b : Bool) → not (eqb (length F) (size C P)) ≡ b →
+          writeNumber C P F B ≡ 6
+      six n true t = at-row 0 t
+      six n false t = at-row 1 (t & holds _ λ f. n (eqb-true _ _ (not-false _ t), eqb-true _ _ (not-false _ f)))
+
+  module _ (s u F : List ℕ) where
+    abbrev tests : List Refusal
+    tests = photoTests (modulus P) full s u F (cells C P) (size C P)
+
+    -- both calls stop where the tests of a photograph do
+    stopped : (i : ℕ) → Stops tests i → (numberAt tests i ≡ 0 → ⊥) →
+        (measureNumber C P s u F ≡ numberAt tests i) × (readNumber C P s u F ≡ numberAt tests i)
+    unfolding readNumber readRows photoRows planRows
+    stopped i h n =
+        let k = first-at tests i h ∙ photo-passes C P s u F e in
+        sym (measure-refused C P s u F _ k n)
+        & sym (first-refuses (photoRows C P s u F) ((10 when missing (nearest C P s u)) ∷ []) tt _ k n)
+
+    pub taken-exactly : TakenExactly C P s u F
+    taken-exactly = record {
+      six = λ n. six n (not (eqb (length s) (cells C P))) (not (eqb (length u) (cells C P))) refl refl;
+      seven = λ (a, (b, c)) n.
+          stopped 3 (equal _ _ a & equal _ _ b & equal _ _ c & holds _ λ t. n (symbols-fit C P s u t)) (λ z. omega arith);
+      eight = λ (a, (b, c)) y n. stopped 4
+          (equal _ _ a & equal _ _ b & equal _ _ c & fit-symbols C P s u y & holds _ λ t. n (doubts-fit C P s u t))
+          (λ z. omega arith);
+      nine = λ h f n.
+          sym (measure-at C P s u F 0 refl (photo-accepted C P s u F h f) refl (holds _ λ t. n (record-fits C P F f t)));
+    }
+      where
+        six : ¬ (LengthsFit C P s u F) → (a b : Bool) → not (eqb (length s) (cells C P)) ≡ a →
+            not (eqb (length u) (cells C P)) ≡ b → (measureNumber C P s u F ≡ 6) × (readNumber C P s u F ≡ 6)
+        six n true b f g = stopped 0 f (λ z. omega arith)
+        six n false true f g = stopped 1 (f & g) (λ z. omega arith)
+        six n false false f g = stopped 2
+            (f & g & holds _ λ t. n (eqb-true _ _ (not-false _ f), (eqb-true _ _ (not-false _ g), eqb-true _ _ (not-false _ t))))
+            (λ z. omega arith)
 
 pub plan-first : (P : List ℕ) → PlanFirst P
 unfolding readNumber readRows photoRows planRows

@@ -26,7 +26,7 @@ use Prim.Native.Nat.{ℕ, _+_}
 use native.Mathlib.Omega.{arith}
 use lib.IntN.{pos, negsuc}
 use lib.Dec.{leb, lit<}
-use lib.ListN.{length, replicate, take, drop, set}
+use lib.ListN.{replicate, take, drop, set}
 use Rattle.bounded.specs.Bounded.{at, tab, index}
 use Rattle.definitions.specs.Cost.{class}
 use Rattle.definitions.specs.Photograph.{sure}
@@ -118,27 +118,30 @@ abbrev reading : (season others : List ℕ) → List ℕ
 reading season others = 82 ∷ 69 ∷ 65 ∷ 68 ∷ 32 ∷ season ++ others
     ++ 10 ∷ 82 ∷ 69 ∷ 67 ∷ 79 ∷ 82 ∷ 68 ∷ 32 ∷ 51 ∷ 32 ∷ 49 ∷ 32 ∷ 50 ∷ 10 ∷ []
 
--- 2 0 1 400 200, and 0 5 0 500 100
+-- 2 0 1 400 200; 0 5 0 500 100; 0 0 0 0 300
 abbrev caseC : List ℕ
 caseC = 32 ∷ 50 ∷ 32 ∷ 48 ∷ 32 ∷ 49 ∷ 32 ∷ 52 ∷ 48 ∷ 48 ∷ 32 ∷ 50 ∷ 48 ∷ 48 ∷ []
 
 abbrev caseF : List ℕ
 caseF = 32 ∷ 48 ∷ 32 ∷ 53 ∷ 32 ∷ 48 ∷ 32 ∷ 53 ∷ 48 ∷ 48 ∷ 32 ∷ 49 ∷ 48 ∷ 48 ∷ []
 
+abbrev oblongClean : List ℕ
+oblongClean = 32 ∷ 48 ∷ 32 ∷ 48 ∷ 32 ∷ 48 ∷ 32 ∷ 48 ∷ 32 ∷ 51 ∷ 48 ∷ 48 ∷ []
+
 abbrev refusal : List ℕ → List ℕ
 refusal number = 82 ∷ 69 ∷ 70 ∷ 85 ∷ 83 ∷ 69 ∷ 68 ∷ 32 ∷ number ++ 10 ∷ []
 
 -- case c, in season 12 and in season 268; case f; case d; a byte less than case c and a byte more; a plan a byte short; no
--- columns; nothing
+-- columns; nothing; an oblong mark each way
 pub text-cases :
     map trayText (
     (planA ++ photoC ++ sure 9) ∷ (set planA 0 1 ++ photoC ++ sure 9) ∷ (planA ++ hidden 5 ++ doubts 5)
     ∷ (planA ++ photoD ++ sure 9) ∷ (planA ++ photoC ++ sure 8) ∷ (planA ++ photoC ++ sure 10) ∷ drop 1 planA
-    ∷ (set planWide 4 0 ++ markWide) ∷ [] ∷ []
+    ∷ (set planWide 4 0 ++ markWide) ∷ [] ∷ (planWide ++ markWide ++ sure 6) ∷ (planTall ++ markTall ++ sure 6) ∷ []
     )
     ≡ reading (49 ∷ 50 ∷ []) caseC ∷ reading (50 ∷ 54 ∷ 56 ∷ []) caseC ∷ reading (49 ∷ 50 ∷ []) caseF
     ∷ refusal (49 ∷ 48 ∷ []) ∷ refusal (54 ∷ []) ∷ refusal (54 ∷ []) ∷ refusal (49 ∷ [])
-    ∷ refusal (49 ∷ 51 ∷ []) ∷ refusal (49 ∷ []) ∷ []
+    ∷ refusal (49 ∷ 51 ∷ []) ∷ refusal (49 ∷ []) ∷ reading (49 ∷ 50 ∷ []) oblongClean ∷ reading (49 ∷ 50 ∷ []) oblongClean ∷ []
 unfolding effect trayReading trayRecord decimal signed spaced readLine recordLine refusedLine answerText trayText
 text-cases = refl
 
@@ -185,8 +188,8 @@ pub widening-cases :
 unfolding effect widened widenedAll widenRows widenNumber widenBuffer
 widening-cases = refl
 
--- two plans; none; a byte too many
-pub widening-texts : map widenText ((narrowA ++ narrowA) ∷ [] ∷ (narrowA ++ 0 ∷ []) ∷ [])
-    ≡ (planA ++ planA) ∷ [] ∷ refusal (49 ∷ 49 ∷ []) ∷ []
+-- three plans; none; a byte too many
+pub widening-texts : map widenText ((narrowA ++ set narrowA 2 9 ++ set narrowA 2 8) ∷ [] ∷ (narrowA ++ 0 ∷ []) ∷ [])
+    ≡ (planA ++ set planA 2 9 ++ set planA 2 8) ∷ [] ∷ refusal (49 ∷ 49 ∷ []) ∷ []
 unfolding effect decimal spaced refusedLine widened widenedAll widenText
 widening-texts = refl

@@ -28,7 +28,7 @@ use Rattle.definitions.specs.Plan.{planBytes, season}
 use Rattle.definitions.specs.Finder.{plans, planAt, ofSeason, firstPlan, findRows, findNumber, findOffset, findBytes}
 use Rattle.definitions.specs.Demands.{FoundExactly, FirstOfSeason}
 use Rattle.definitions.proofs.Refusals.{Stops, numberAt, first-at, first-clear, otherwise}
-use Rattle.definitions.proofs.Refusals.{equal, unequal, not-true, not-false}
+use Rattle.definitions.proofs.Refusals.{equal, unequal, not-true, turned-true}
 
 -- the season of plan k is in the bytes from its first on
 season-from : (file : List ℕ) (k : ℕ) → season (planAt file k) ≡ season (drop (k * planBytes) file)
@@ -58,7 +58,7 @@ module _ (file : List ℕ) (y : ℕ) where
     ));
     absent = λ e h. sym (find-at 1 (
       equal _ _ e,
-      not-false (none-any _ _ λ k l. ne-eqb _ _ λ s. h k (omega arith) (sym (season-from file k) ∙ s)),
+      turned-true (none-any _ _ λ k l. ne-eqb _ _ λ s. h k (omega arith) (sym (season-from file k) ∙ s)),
     ));
   }
 

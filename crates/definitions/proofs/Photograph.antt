@@ -1,6 +1,8 @@
 -- The plan's refusals and 6 to 8 do not apply exactly to the photographs of a sound plan with a record buffer of the right
 -- length.
 --
+--   symbols-fit, fit-symbols          refusal 7 as facts, and back
+--   doubts-fit                        refusal 8 as facts
 --   photo-accepted                    of a photograph and such a buffer the number is 0
 --   accepted-photo, accepted-buffer   where it is 0, it is a photograph, and the buffer has its length
 --
@@ -21,8 +23,39 @@ use Rattle.definitions.specs.Code.{Code, cells, size}
 use Rattle.definitions.specs.Cost.{full, unread}
 use Rattle.definitions.specs.Calls.{strange, misdoubted, photoTests, photoRows}
 use Rattle.definitions.specs.Photograph.{Photograph}
+use Rattle.definitions.specs.Demands.{SymbolsFit, DoubtsFit}
 use Rattle.definitions.proofs.Sound.{checked, sound}
 use Rattle.definitions.proofs.Refusals.{first-append, first-at, first-clear, testAt, equal, neither}
+
+both-false : (a b : Bool) → (a ≡ true → b ≡ false) → a && b ≡ false
+both-false true b h = h refl
+both-false false b h = refl
+
+not-both : (a b : Bool) → a && b ≡ false → a ≡ true → b ≡ false
+not-both true b e h = e
+not-both false b e h = absurd (true≢false (sym h))
+
+module _ (C : Code) (P s u : List ℕ) where
+  pub symbols-fit : strange (modulus P) s (cells C P) ≡ false → SymbolsFit C P s
+  symbols-fit e c m = one (leb (modulus P) (at s c)) refl (any-none _ _ e c m)
+    where
+      one : (b : Bool) → leb (modulus P) (at s c) ≡ b → b && not (eqb (at s c) unread) ≡ false →
+          (at s c < modulus P) ⊎ (at s c ≡ unread)
+      one true t h = inr (eqb-true _ _ (not-false _ h))
+      one false t h = inl (leb-false _ _ t)
+
+  pub fit-symbols : SymbolsFit C P s → strange (modulus P) s (cells C P) ≡ false
+  fit-symbols h = none-any _ _ λ c m. one c (h c m)
+    where
+      one : (c : ℕ) → (at s c < modulus P) ⊎ (at s c ≡ unread) → leb (modulus P) (at s c) && not (eqb (at s c) unread) ≡ false
+      one c (inl k) = both-false (leb (modulus P) (at s c)) (not (eqb (at s c) unread)) λ t.
+          absurd (true≢false (sym t ∙ lt-leb _ _ k))
+      one c (inr k) = both-false (leb (modulus P) (at s c)) (not (eqb (at s c) unread)) λ t. equal (at s c) unread k
+
+  pub doubts-fit : misdoubted full s u (cells C P) ≡ false → DoubtsFit C P s u
+  doubts-fit e c m =
+      let d = neither (ltb full (at u c)) (eqb (at s c) unread && not (eqb (at u c) full)) (any-none _ _ e c m) in
+      (ltb-false _ _ (d .0), λ k. eqb-true _ _ (not-false _ (not-both _ _ (d .1) (eq-eqb _ _ k))))
 
 module _ (C : Code) (P s u B : List ℕ) where
   -- the rows after the plan's
@@ -33,26 +66,10 @@ module _ (C : Code) (P s u B : List ℕ) where
   unfolding photoRows checkNumber planRows
   split = first-append (planRows P) rest tt
 
-  both-false : (a b : Bool) → (a ≡ true → b ≡ false) → a && b ≡ false
-  both-false true b h = h refl
-  both-false false b h = refl
-
-  not-both : (a b : Bool) → a && b ≡ false → a ≡ true → b ≡ false
-  not-both true b e h = e
-  not-both false b e h = absurd (true≢false (sym h))
-
   pub photo-accepted : Photograph C P s u → length B ≡ size C P → first (photoRows C P s u B) ≡ 0
   photo-accepted h l = split ∙ ap (λ k. accepted k (first rest) k) (checked P (h .sound)) ∙ sym (first-at rest 5
-      (equal _ _ (h .symbols), (equal _ _ (h .doubts), (equal _ _ l, (symbol, (doubt, tt))))))
+      (equal _ _ (h .symbols), (equal _ _ (h .doubts), (equal _ _ l, (fit-symbols C P s u (h .symbol), (doubt, tt))))))
     where
-      symbol : strange (modulus P) s (cells C P) ≡ false
-      symbol = none-any _ _ λ c m. one c (h .symbol c m)
-        where
-          one : (c : ℕ) → (at s c < modulus P) ⊎ (at s c ≡ unread) → leb (modulus P) (at s c) && not (eqb (at s c) unread) ≡ false
-          one c (inl k) = both-false (leb (modulus P) (at s c)) (not (eqb (at s c) unread)) λ t.
-              absurd (true≢false (sym t ∙ lt-leb _ _ k))
-          one c (inr k) = both-false (leb (modulus P) (at s c)) (not (eqb (at s c) unread)) λ t. equal (at s c) unread k
-
       doubt : misdoubted full s u (cells C P) ≡ false
       doubt = none-any _ _ λ c m. rw (le-ltb _ _ (h .doubt c m)) (both-false _ _ λ t. equal _ _ (h .erased c m (eqb-true _ _ t)))
 
@@ -72,19 +89,10 @@ module _ (C : Code) (P s u B : List ℕ) where
       sound = sound P passed;
       symbols = eqb-true _ _ (not-false _ (clear 0));
       doubts = eqb-true _ _ (not-false _ (clear 1));
-      symbol = λ c m. one c (leb (modulus P) (at s c)) refl (any-none _ _ (clear 3) c m);
-      doubt = λ c m. ltb-false _ _ (doubted c m .0);
-      erased = λ c m k. eqb-true _ _ (not-false _ (not-both _ _ (doubted c m .1) (eq-eqb _ _ k)));
+      symbol = symbols-fit C P s u (clear 3);
+      doubt = λ c m. doubts-fit C P s u (clear 4) c m .0;
+      erased = λ c m. doubts-fit C P s u (clear 4) c m .1;
     }
-      where
-        one : (c : ℕ) (b : Bool) → leb (modulus P) (at s c) ≡ b → b && not (eqb (at s c) unread) ≡ false →
-            (at s c < modulus P) ⊎ (at s c ≡ unread)
-        one c true t h = inr (eqb-true _ _ (not-false _ h))
-        one c false t h = inl (leb-false _ _ t)
-
-        doubted : (c : ℕ) → c < cells C P →
-            (ltb full (at u c) ≡ false) × (eqb (at s c) unread && not (eqb (at u c) full) ≡ false)
-        doubted c m = neither (ltb full (at u c)) (eqb (at s c) unread && not (eqb (at u c) full)) (any-none _ _ (clear 4) c m)
 
     pub accepted-buffer : length B ≡ size C P
     accepted-buffer = eqb-true _ _ (not-false _ (clear 2))

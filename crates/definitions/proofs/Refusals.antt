@@ -14,7 +14,8 @@
 --   otherwise                     what a refused call does: `accepted`, where the number is not 0
 --   equal, unequal                a code's test of two numbers
 --   answered, answered-not        a test that a function has answered
---   not-true, not-false           a test turned round
+--   holds                         a test that is not false is true
+--   not-true, turned-true         a test turned round
 --   neither, nor                  a test of two parts that fails
 --
 -- What this file is for: a call tests row by row and stops at the first that refuses: its number is the definition's, and of
@@ -184,11 +185,16 @@ answered e h = sym e ∙ h
 pub answered-not : {r b t : Bool} → r ≡ b → not r ≡ t → not b ≡ t
 answered-not e h = sym (ap not e) ∙ h
 
+-- a test that is not false is true
+pub holds : (b : Bool) → (b ≡ false → ⊥) → b ≡ true
+holds true h = refl
+holds false h = absurd (h refl)
+
 pub not-true : {b : Bool} → b ≡ true → not b ≡ false
 not-true e = rw e
 
-pub not-false : {b : Bool} → b ≡ false → not b ≡ true
-not-false e = rw e
+pub turned-true : {b : Bool} → b ≡ false → not b ≡ true
+turned-true e = rw e
 
 pub neither : (a b : Bool) → a || b ≡ false → (a ≡ false) × (b ≡ false)
 neither true b e = absurd (true≢false e)

@@ -22,14 +22,15 @@ use lib.ListN.{length}
 use borrow.Author.Tests.{leb-false, ltb-false, eqb-true, eqb-false, not-false, lt-leb, lt-ltb, le-ltb, le-leb, ne-eqb}
 use Rattle.bounded.specs.Bounded.{at}
 use Rattle.bounded.proofs.Any.{any-none, none-any}
-use Rattle.field.specs.Prime.{Prime, isPrime}
+use Rattle.field.specs.Prime.{isPrime}
 use Rattle.field.proofs.Prime.{is-prime, prime-is}
 use Rattle.definitions.specs.Plan.{planBytes, modulus, rows, columns, degree, filled, unfit, unrisen, wrongPoint, misplaced}
 use Rattle.definitions.specs.Plan.{planRows, checkNumber}
 use Rattle.definitions.specs.Code.{Code, strip, oblong, cells}
 use Rattle.definitions.specs.Sound.{IsSide, PointsFrom, Sound}
 use Rattle.definitions.specs.Demands.{CheckedExactly, Whole, IsModulus}
-use Rattle.definitions.proofs.Refusals.{testAt, first-clear, Stops, numberAt, first-at, _&_, equal, not-true, neither, nor}
+use Rattle.definitions.proofs.Refusals.{testAt, first-clear, Stops, numberAt, first-at, _&_}
+use Rattle.definitions.proofs.Refusals.{equal, holds, not-true, neither, nor}
 
 -- the n bytes from byte a on are 0
 zeros : (P : List ℕ) (a n : ℕ) → filled P a n ≡ false → (i : ℕ) → a ≤ i → i < a + n → at P i ≡ 0
@@ -96,11 +97,6 @@ sound P e = record {
 pub check-at : (P : List ℕ) (i : ℕ) → Stops (planRows P) i → numberAt (planRows P) i ≡ checkNumber P
 unfolding checkNumber
 check-at P i h = first-at (planRows P) i h
-
--- a test that is not false is true
-holds : (b : Bool) → (b ≡ false → ⊥) → b ≡ true
-holds true h = refl
-holds false h = absurd (h refl)
 
 module _ (P : List ℕ) where
   -- rows that do not apply, before others

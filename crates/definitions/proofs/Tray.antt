@@ -3,7 +3,7 @@
 --   tray-parts                 a plan, the symbols of its mark, and what follows are taken for plan, symbols and doubts
 --   plan-text                  the plan's own number, whatever follows
 --   count-text                 6 where another count of bytes follows a sound plan
---   tray-refused               all three, and 1 for a short input
+--   tray-refused               both, and 1 for a short input
 --   room-text                  one byte more than the longest input decides, for any input, what is printed
 --
 -- What this file is for: the program reads into a fixed room, and says of any input what the definition says. Assumes nothing.

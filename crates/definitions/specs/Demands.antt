@@ -6,6 +6,9 @@
 --   CheckedExactly P        which number checking gives: that of the first row of the table that the plan P breaks; `Whole` is
 --                           its length and its last two bytes, `IsModulus` says which p may be
 --   PlanFirst P             a plan that is refused has its own number in every call, for strips and marks, whatever else is wrong
+--   WrittenExactly C P F B  under a sound plan writing gives 6 where a length is wrong, else 9 where F is no record of the plan
+--   TakenExactly C P s u F  under a sound plan measuring and reading give 6 where a length is wrong, else 7 where a symbol is
+--                           (`SymbolsFit`), else 8 where a doubt is (`DoubtsFit`); else measuring gives 9 where F is no record
 --   Shapes P                a strip has a cell for each row point and d + 1 coefficients, and its limit is 100 (rows - d); a mark
 --                           has rows times columns cells and K = (d + 1)(d + 2)/2 coefficients, and its limit is 100 times the
 --                           larger side times (the smaller - d)
@@ -19,8 +22,9 @@
 --                           cost, and it is 10 exactly when there is none. The limit is the radius, `Shapes`
 --   UnreadCosts C P s u F   an unread cell costs 100
 --   MarkMargins             a mark's margin is from -49,600 to 25,600, and both ends are reached
---   LowestGiven             the number that is given is the first in the table's order of those that apply and concern the call;
---                           in widening 11 stands before 6: the plans are looked at before the buffer for them
+--   LowestGiven             the number that is given is the first in the table's order of the rows of the call whose test holds;
+--                           in widening 11 stands before 6: the plans are looked at before the buffer for them. What the tests
+--                           of the rows mean is in the statements that end in Exactly
 --   Measures C P s u F      measuring never gives 10: every record of a photograph's plan is measured, whatever its margin
 --   FoundExactly file y     the finder gives 11 where the file's length is no multiple of 40, else 0 where some plan of the file
 --                           has the season y, else 12
@@ -43,7 +47,7 @@
 use mathlib.Core.Path.{_≡_}
 use mathlib.Core.Bool.{true, false}
 use mathlib.Core.List.{List, [], _∷_, _++_}
-use mathlib.Core.Logic.{_≢_, _↔_}
+use mathlib.Core.Logic.{_≢_, _↔_, _⊎_}
 use Prim.Native.Nat.{ℕ, _+_, _*_, _-_, _/_, _%_, _^_, _≤_, _<_, min, max}
 use lib.IntN.{ℤ, pos, negℤ, _-ℤ_}
 use lib.Signed.{_≤ℤ_}
@@ -67,7 +71,7 @@ use Rattle.definitions.specs.Calls.{measureRows, measureNumber, measureR
 use Rattle.definitions.specs.Calls.{readRows, readNumber, readReading, readBuffer}
 use Rattle.definitions.specs.Finder.{findRows, findNumber, findOffset, findBytes}
 use Rattle.definitions.specs.Photograph.{Photograph, sure}
-use Rattle.definitions.specs.Widening.{narrowPlan, widened, widenedAll, widenRows, widenNumber, widenBuffer}
+use Rattle.definitions.specs.Widening.{widened, widenedAll, widenRows, widenNumber, widenBuffer}
 use Rattle.definitions.specs.Widening.{widenText, narrowNumber, cleared}
 use Rattle.definitions.specs.Tray.{planOf, symbolsOf, doubtsOf}
 use Rattle.definitions.specs.Printed.{refusedLine, trayText}
@@ -103,6 +107,27 @@ pub record PlanFirst (P : List ℕ) : Type 0 where
   pub write : (C : Code) (F B : List ℕ) → checkNumber P ≢ 0 → writeNumber C P F B ≡ checkNumber P
   pub measure : (C : Code) (s u F : List ℕ) → checkNumber P ≢ 0 → measureNumber C P s u F ≡ checkNumber P
   pub read : (C : Code) (s u B : List ℕ) → checkNumber P ≢ 0 → readNumber C P s u B ≡ checkNumber P
+
+abbrev pub LengthsFit : Code → (P s u F : List ℕ) → Type 0
+LengthsFit C P s u F = (length s ≡ cells C P) × ((length u ≡ cells C P) × (length F ≡ size C P))
+
+abbrev pub SymbolsFit : Code → (P s : List ℕ) → Type 0
+SymbolsFit C P s = (c : ℕ) → c < cells C P → (at s c < modulus P) ⊎ (at s c ≡ 255)
+
+abbrev pub DoubtsFit : Code → (P s u : List ℕ) → Type 0
+DoubtsFit C P s u = (c : ℕ) → c < cells C P → (at u c ≤ 100) × (at s c ≡ 255 → at u c ≡ 100)
+
+-- under a sound plan; each where no row before it is broken
+pub record WrittenExactly (C : Code) (P F B : List ℕ) : Type 0 where
+  pub six : ¬ ((length F ≡ size C P) × (length B ≡ cells C P)) → writeNumber C P F B ≡ 6
+  pub nine : length F ≡ size C P → length B ≡ cells C P → ¬ (IsRecord C P F) → writeNumber C P F B ≡ 9
+
+pub record TakenExactly (C : Code) (P s u F : List ℕ) : Type 0 where
+  pub six : ¬ (LengthsFit C P s u F) → (measureNumber C P s u F ≡ 6) × (readNumber C P s u F ≡ 6)
+  pub seven : LengthsFit C P s u F → ¬ (SymbolsFit C P s) → (measureNumber C P s u F ≡ 7) × (readNumber C P s u F ≡ 7)
+  pub eight : LengthsFit C P s u F → SymbolsFit C P s → ¬ (DoubtsFit C P s u) →
+      (measureNumber C P s u F ≡ 8) × (readNumber C P s u F ≡ 8)
+  pub nine : Photograph C P s u → length F ≡ size C P → ¬ (IsRecord C P F) → measureNumber C P s u F ≡ 9
 
 -- K, the number of a record's places
 abbrev pub places : ℕ → ℕ
@@ -263,4 +288,4 @@ pub record Widened (Q : List ℕ) : Type 0 where
 
 pub record WidenedInOrder (old : List ℕ) : Type 0 where
   pub whole : length (widenedAll old) ≡ length old / 24 * 40
-  pub each : (k : ℕ) → k < length old / 24 → take 40 (drop (k * 40) (widenedAll old)) ≡ widened (narrowPlan old k)
+  pub each : (k : ℕ) → k < length old / 24 → take 40 (drop (k * 40) (widenedAll old)) ≡ widened (take 24 (drop (k * 24) old))

@@ -78,7 +78,7 @@ fn smaller(a: u8, b: u8) -> u8
 }
 
 // Whether one of the sixteen bytes from byte a on, of which the first n are points, is wrong. Each is looked at with the one
-// after it and without a branch, so that the compiler compares all at once.
+// after it, and the loop has no way out, so that the compiler compares all at once.
 fn is_misplaced(plan: &[u8], a: usize, n: u8) -> bool
     requires { ⌜ (length (now plan) ≡ planBytes) × (a + 16 < planBytes) × (n ≤ 16) ⌝ }
     ensures { λ r. ⌜ r ≡ misplaced (now (plan .entry)) a n ⌝ }

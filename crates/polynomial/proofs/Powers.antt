@@ -11,7 +11,7 @@
 --   terms-row, term-fits        the sums are small, and one term more can be added
 --   terms-values                reduced, they are the polynomial's values
 --
--- What this file is for: values at sixteen points at once; a sum of sixteen products stays below 2^24, and is reduced once.
+-- What this file is for: values at sixteen points at once; a sum of sixteen terms stays below 2^24, and is reduced once.
 -- Assumes nothing.
 use mathlib.Core.Path.{_≡_, refl, sym, ap, _∙_}
 use mathlib.Core.List.{List, []}

@@ -47,7 +47,8 @@ pub fn add_product(sum: &mut [u32; 16], c: u16, v: &[u16; 16])
 }
 
 // The values at the points, whose powers are given, of the polynomial with the k + 1 coefficients w. The first term is its
-// coefficient. The sums of products are reduced once, at the end: sixteen products of numbers below 251 are less than 2^20.
+// coefficient. The sums are reduced once, at the end: sixteen terms, each at most a product of two numbers below 251, are less
+// than 2^20.
 pub fn values(powers: &[[u16; 16]; 16], k: usize, w: [u16; 16], p: u16, m: u16) -> [u16; 16]
     requires { ⌜ Reciprocal p m × Rows p (now powers) × Row p w × (k < 16) ⌝ }
     ensures { λ r. ⌜ Row p r

@@ -5,8 +5,8 @@ ghost use mathlib.Core.Path.{_≡_};
 ghost use Prim.Native.Nat.{_<_};
 ghost use Rattle.polynomial.specs.Fit.{Fit, gridRadius};
 
-// The full doubt times max(a, b) (min(a, b) - d), in which many cells or more two different records differ: at most one record
-// costs less.
+// The full doubt times max(a, b) (min(a, b) - d). Two different records differ in max(a, b) (min(a, b) - d) cells or more, so at
+// most one costs less.
 pub fn radius(g: Grid) -> u32
     requires { ⌜ Fit g ⌝ }
     ensures { λ r. ⌜ (r ≡ gridRadius g) × (r < 2147483648) ⌝ }

@@ -3,6 +3,7 @@
 --
 --   sound-exactly, checked-exactly       "The season plan": which plans are sound, and which number any other gets
 --   plan-first                           and gets it in every call
+--   written-exactly, taken-exactly       "What is returned": 6 to 9, by what is wrong with the other arguments
 --   shapes                               how many cells and coefficients there are, and the limits
 --   demand-1                             demand 1: what a refusal gives and leaves
 --   writes, demand-2-written, demand-2   demand 2: that every record is written, what is written, and that it is read back
@@ -38,7 +39,8 @@ use Rattle.definitions.specs.Photograph.{Photograph, sure}
 use Rattle.polynomial.specs.Record.{start}
 use Rattle.definitions.specs.Widening.{narrowBytes, widenRows, widenNumber}
 use Rattle.definitions.specs.Accepted.{Writing}
-use Rattle.definitions.specs.Demands.{RefusalsKeep, CheckedExactly, PlanFirst, Shapes, Written, RoundTrip, Weighed, Nearest}
+use Rattle.definitions.specs.Demands.{CheckedExactly, PlanFirst, WrittenExactly, TakenExactly}
+use Rattle.definitions.specs.Demands.{RefusalsKeep, Shapes, Written, RoundTrip, Weighed, Nearest}
 use Rattle.definitions.specs.Demands.{UnreadCosts, MarkMargins, LowestGiven, Measures, FoundExactly, FirstOfSeason}
 use Rattle.definitions.specs.Demands.{GroupsFill, places, TrayParts, TrayRefused, WidensExactly, PrintsExactly}
 use Rattle.definitions.specs.Demands.{Widened, WidenedInOrder}
@@ -73,6 +75,15 @@ checked-exactly = plans.checked-exactly
 -- A plan that is refused has its own number in every call, whatever else is wrong; strips look at the whole plan too.
 pub plan-first : (P : List ℕ) → PlanFirst P
 plan-first = accepted.plan-first
+
+-- Under a sound plan writing gives 6 where a length is wrong, else 9 where a coefficient is p or more.
+pub written-exactly : (C : Code) (P F B : List ℕ) → Sound P → WrittenExactly C P F B
+written-exactly C P F B S = accepted.written-exactly C P (checked P S) F B
+
+-- And measuring and reading give 6 where a length is wrong, else 7 where a symbol is, else 8 where a doubt is; then measuring 9
+-- where a coefficient is p or more. When reading gives 10 is demand 3.
+pub taken-exactly : (C : Code) (P s u F : List ℕ) → Sound P → TakenExactly C P s u F
+taken-exactly C P s u F S = accepted.taken-exactly C P (checked P S) s u F
 
 -- A strip is over the row points, with d + 1 coefficients and the limit 100 (rows - d). A mark has rows times columns cells, K
 -- coefficients and the limit 100 times the larger side times (the smaller side - d), whichever is the larger.

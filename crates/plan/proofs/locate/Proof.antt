@@ -8,7 +8,7 @@ use Rattle.bounded.specs.Bounded.{any}
 use Rattle.bounded.proofs.Any.{some-any, any-more, any-start}
 use Rattle.definitions.specs.Plan.{season}
 use Rattle.definitions.specs.Finder.{plans, planAt, ofSeason, findRows}
-use Rattle.definitions.proofs.Refusals.{equal, unequal, not-true, not-false}
+use Rattle.definitions.proofs.Refusals.{equal, unequal, not-true, turned-true}
 use Rattle.definitions.proofs.Finder.{season-at, find-at, nowhere, offset-found}
 use borrow.Author.Needs.{needs}
 use Rattle.plan.proofs.locate.Statement.{statement}
@@ -54,7 +54,7 @@ unfolding findRows
 returns-3 c =
     let l = c .before .loop in
     let n : l .k ≡ plans (c .before .before .before .before .args .file .now) = omega arith in
-    let e = find-at _ _ 1 (equal _ _ (c .before .before .if1 .left), not-false (rw n at (l .inv .1))) in
+    let e = find-at _ _ 1 (equal _ _ (c .before .before .if1 .left), turned-true (rw n at (l .inv .1))) in
     (e, l .inv .2 ∙ sym (nowhere _ _ (λ z. omega (arith, e, z)) .0))
 
 pub locate-spec : {M : Type 1} → statement M
