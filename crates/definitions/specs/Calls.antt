@@ -6,7 +6,7 @@
 --   readNumber, readReading, readBuffer   READING a photograph, the record into B
 --
 -- What this file is for: the contracts of the calls are equalities with these.
--- Checking is `checkNumber` of Plan, finding is Finder, widening is Widening.
+-- Checking is `checkNumber` of Plan, finding is Finder, widening is Widening, explaining is Explaining.
 use mathlib.Core.Bool.{Bool, true, false, not, _&&_, _||_}
 use mathlib.Core.List.{List, [], _∷_, _++_}
 use mathlib.Core.Option.{Option, some, none}

@@ -6,6 +6,7 @@ pub mod Cost
 pub mod Published
 pub mod Search
 pub mod Calls
+pub mod Explaining
 pub mod Finder
 pub mod Room
 pub mod Tray

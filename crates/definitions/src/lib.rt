@@ -1,4 +1,4 @@
-// Documents 01 and 02 as definitions: read specs/ in the order of its Lib.antt. The code here is the type that the calls answer
+// Documents 01 and 02 as definitions: read specs/ in the order of its Lib.antt. The code here is the types that the calls answer
 // with, the length of a plan, and the numbers that a photograph has for what is not known.
 
 // What measuring and reading answer. Of a refusal all but the number is 0.
@@ -16,6 +16,29 @@ pub struct Reading {
     pub unread: u32,
     // 0 to 3, by the changed count
     pub class: u32,
+}
+
+// What explaining answers: why the record that was expected did not come up, or that it did.
+pub enum Reason {
+    // the refusal of the table "What is returned": its number
+    Refused(u32),
+    // the expected record is the answer
+    Answer,
+    // another record is: the lowest place at which the two marks differ
+    Other { place: u32 },
+    // no record is within the radius: the expected one's cost less the radius
+    Nothing { excess: u32 },
+}
+
+// The same for C, which is handed no enum. What a case does not give is 0.
+#[repr(C)]
+pub struct Explanation {
+    // 0, or the refusal
+    pub number: u32,
+    // 1, 2 or 3 for the cases after the refusal, in their order
+    pub reason: u32,
+    pub place: u32,
+    pub excess: u32,
 }
 
 // The length of a plan.
