@@ -3,20 +3,28 @@
 --   accepted-measuring            measuring: a photograph of a sound plan, and a record
 --   accepted-reading              reading: a photograph
 --   accepted-writing              writing: what it asks of its arguments
+--   accepted-explaining           explaining: a photograph, a record of its plan and room for another
 --   photo-refused, photo-passes   the plan's own number; past the plan, that of the tests of a photograph
 --   write-refused, write-passes   the same of writing
 --   measure-refused, measure-at   the photograph's number; that of the test after it
+--   read-refused                  the photograph's number
+--   explain-refused               the plan's own number
+--   explain-short, explain-measured   past the plan, 6 for the buffer, else the number of measuring
+--   explain-six                   so 6 where any length is wrong
 --   writing-accepted              a record of a sound plan is written into a buffer of its length
 --   measuring-accepted            a photograph and a record of its plan are measured
+--   explaining-accepted           and explained, where there is room for another record
 --   plan-first                    a plan that is refused has its own number in every call
---   written-exactly, taken-exactly   under a sound plan, 6 to 9 by what is wrong with the other arguments
+--   written-exactly, taken-exactly, explains-exactly
+--                                 under a sound plan, 6 to 9 by what is wrong with the other arguments
 --
 -- What this file is for: the calls test in order, and each case of theirs is one law. Assumes nothing.
 use mathlib.Core.Path.{_≡_, refl, sym, _∙_}
 use mathlib.Core.Bool.{Bool, true, false, not}
-use mathlib.Core.List.{List, [], _∷_}
+use mathlib.Core.List.{List, [], _∷_, _++_}
 use Prim.Native.Nat.{ℕ}
 use native.Mathlib.Omega.{arith}
+use native.Mathlib.Decide.{ℕ-discrete}
 use lib.Dec.{eqb}
 use lib.ListN.{length}
 use borrow.Author.Tests.{leb-false, lt-leb, eqb-true, not-false}
@@ -25,14 +33,15 @@ use Rattle.definitions.specs.Refusals.{Refusal, _when_, first}
 use Rattle.definitions.specs.Plan.{modulus, planRows, checkNumber}
 use Rattle.definitions.specs.Code.{Code, size, cells, IsRecord}
 use Rattle.definitions.specs.Cost.{full}
-use Rattle.definitions.specs.Calls.{overflowing, recordRow, photoTests, photoRows}
+use Rattle.definitions.specs.Calls.{lengthRow, overflowing, recordRow, photoTests, photoRows}
 use Rattle.definitions.specs.Calls.{writeTests, writeRows, writeNumber, measureRows, measureNumber}
 use Rattle.definitions.specs.Calls.{nearest, missing, readRows, readNumber}
+use Rattle.definitions.specs.Explaining.{explainRows, explainNumber}
 use Rattle.definitions.specs.Photograph.{Photograph}
-use Rattle.definitions.specs.Accepted.{Writing}
-use Rattle.definitions.specs.Demands.{PlanFirst, LengthsFit, WrittenExactly, TakenExactly}
+use Rattle.definitions.specs.Accepted.{Writing, Expecting}
+use Rattle.definitions.specs.Demands.{PlanFirst, LengthsFit, WrittenExactly, TakenExactly, ExplainsExactly}
 use Rattle.definitions.proofs.Refusals.{testAt, first-clear, first-both, Stops, numberAt, first-at, first-refuses}
-use Rattle.definitions.proofs.Refusals.{first-passes, _&_, equal, holds}
+use Rattle.definitions.proofs.Refusals.{first-passes, _&_, equal, unequal, holds}
 use Rattle.definitions.proofs.Sound.{sound, checked}
 use Rattle.definitions.proofs.Photograph.{symbols-fit, fit-symbols, doubts-fit}
 use Rattle.definitions.proofs.Photograph.{photo-accepted, accepted-photo, accepted-buffer}
@@ -122,6 +131,10 @@ module _ (C : Code) (P : List ℕ) where
     measuring-accepted h r =
         sym (measure-at 1 refl (photo-accepted C P s u F h (r .size)) refl (none-any _ _ (λ i l. lt-leb _ _ (r .below i l)), tt))
 
+    pub read-refused : (k : ℕ) → k ≡ first (photoRows C P s u F) → (k ≡ 0 → ⊥) → k ≡ readNumber C P s u F
+    unfolding readNumber readRows photoRows planRows
+    read-refused k e n = first-refuses (photoRows C P s u F) ((10 when missing (nearest C P s u)) ∷ []) tt k e n
+
 module _ (C : Code) (P : List ℕ) (e : checkNumber P ≡ 0) where
   pub written-exactly : (F B : List ℕ) → WrittenExactly C P F B
   written-exactly F B = record {
@@ -145,11 +158,9 @@ module _ (C : Code) (P : List ℕ) (e : checkNumber P ≡ 0) where
     -- both calls stop where the tests of a photograph do
     stopped : (i : ℕ) → Stops tests i → (numberAt tests i ≡ 0 → ⊥) →
         (measureNumber C P s u F ≡ numberAt tests i) × (readNumber C P s u F ≡ numberAt tests i)
-    unfolding readNumber readRows photoRows planRows
     stopped i h n =
         let k = first-at tests i h ∙ photo-passes C P s u F e in
-        sym (measure-refused C P s u F _ k n)
-        & sym (first-refuses (photoRows C P s u F) ((10 when missing (nearest C P s u)) ∷ []) tt _ k n)
+        sym (measure-refused C P s u F _ k n) & sym (read-refused C P s u F _ k n)
 
     pub taken-exactly : TakenExactly C P s u F
     taken-exactly = record {
@@ -171,11 +182,57 @@ module _ (C : Code) (P : List ℕ) (e : checkNumber P ≡ 0) where
             (f & g & holds _ λ t. n (eqb-true _ _ (not-false _ f), (eqb-true _ _ (not-false _ g), eqb-true _ _ (not-false _ t))))
             (λ z. omega arith)
 
+module _ (C : Code) (P s u F B : List ℕ) where
+  -- the rows of measuring after the plan's, and those of explaining
+  abbrev measured : List Refusal
+  measured = photoTests (modulus P) full s u F (cells C P) (size C P) ++ recordRow C P F ∷ []
+
+  abbrev explained : List Refusal
+  explained = lengthRow B (size C P) ∷ measured
+
+  pub explain-refused : (k : ℕ) → k ≡ checkNumber P → (k ≡ 0 → ⊥) → k ≡ explainNumber C P s u F B
+  unfolding explainNumber explainRows planRows checkNumber
+  explain-refused k e h = first-refuses (planRows P) explained tt k e h
+
+  module _ (e : checkNumber P ≡ 0) where
+    passes : first explained ≡ explainNumber C P s u F B
+    unfolding explainNumber explainRows planRows checkNumber
+    passes = first-passes (planRows P) explained tt e
+
+    pub explain-short : (length B ≡ size C P → ⊥) → 6 ≡ explainNumber C P s u F B
+    explain-short h = first-at explained 0 (unequal _ _ h) ∙ passes
+
+    pub explain-measured : length B ≡ size C P → measureNumber C P s u F ≡ explainNumber C P s u F B
+    unfolding measureNumber measureRows photoRows planRows checkNumber
+    explain-measured h =
+        let fits = sym (first-at (lengthRow B (size C P) ∷ []) 1 (equal _ _ h, tt)) in
+        sym (first-passes (planRows P) measured tt e) ∙ first-passes (lengthRow B (size C P) ∷ []) measured tt fits ∙ passes
+
+    pub explains-exactly : ExplainsExactly C P s u F B
+    explains-exactly = record { six = λ n. sym (explain-short n); measured = λ h. sym (explain-measured h) }
+
+    pub explain-six : ¬ (LengthsFit C P s u F × (length B ≡ size C P)) → explainNumber C P s u F B ≡ 6
+    explain-six n = elim (ℕ-discrete (length B) (size C P)) [
+      | yes h ↦ sym (explain-measured h) ∙ taken-exactly C P e s u F .six (λ f. n (f, h)) .0
+      | no h ↦ sym (explain-short h)
+    ]
+
+  pub explaining-accepted : Expecting C P s u F B → explainNumber C P s u F B ≡ 0
+  explaining-accepted x = sym (explain-measured (checked P (x .photo .sound)) (x .room))
+      ∙ measuring-accepted C P s u F (x .photo) (x .given)
+
+  pub accepted-explaining : explainNumber C P s u F B ≡ 0 → Expecting C P s u F B
+  unfolding explainNumber explainRows planRows checkNumber
+  accepted-explaining z =
+      let b = first-both (planRows P) explained tt z in
+      let room = eqb-true _ _ (not-false _ (first-clear explained tt (b .1) 0)) in
+      let h = accepted-measuring C P s u F (explain-measured (b .0) room ∙ z) in
+      record { photo = h .0; given = h .1; room = room }
+
 pub plan-first : (P : List ℕ) → PlanFirst P
-unfolding readNumber readRows photoRows planRows
 plan-first P = record {
-  write = λ C F B n. sym (write-refused C P F B (checkNumber P) refl n);
-  measure = λ C s u F n. sym (measure-refused C P s u F (checkNumber P) (photo-refused C P s u F (checkNumber P) refl n) n);
-  read = λ C s u B n. sym (first-refuses (photoRows C P s u B) ((10 when missing (nearest C P s u)) ∷ []) tt (checkNumber P)
-      (photo-refused C P s u B (checkNumber P) refl n) n);
+  write = λ C F B n. sym (write-refused C P F B _ refl n);
+  measure = λ C s u F n. sym (measure-refused C P s u F _ (photo-refused C P s u F _ refl n) n);
+  read = λ C s u B n. sym (read-refused C P s u B _ (photo-refused C P s u B _ refl n) n);
+  explain = λ C s u F B n. sym (explain-refused C P s u F B _ refl n);
 }

@@ -15,6 +15,8 @@ pub mod Margin
 pub mod Published
 pub mod Finder
 pub mod Accepted
+pub mod Explaining
+pub mod Explained
 pub mod Printed
 pub mod Room
 pub mod Tray

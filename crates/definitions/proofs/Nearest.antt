@@ -1,19 +1,24 @@
 -- When a reading is right.
 --
 --   within-cost, cost-within   a record passes the test exactly where it costs under the radius
---   cost-without               one that does not fails it
+--   without-cost, cost-without   one that does not fails it
 --   reads-refused              a refusal of the plan, or of 6 to 8
 --   reads-none                 10, where no record is within the radius
 --   reads-the                  the record within it, where there is at most one
+--   nearest-says               what the search finds, a record within the radius or none
+--   reads-found                a reading that is not refused is of what the search finds, and one of number 10 of none
 --
--- What this file is for: a reader proves one of three cases, and has the definition's reading and buffer. Assumes nothing.
-use mathlib.Core.Path.{_≡_, refl, sym, ap₂, _∙_}
+-- What this file is for: a reader proves one of three cases, and has the definition's reading and buffer; whoever calls one has
+-- what the search finds. Assumes nothing.
+use mathlib.Core.Path.{_≡_, refl, sym, ap, ap₂, _∙_}
+use mathlib.Core.Logic.{_⊎_, inl, inr}
 use mathlib.Core.Bool.{true, false}
 use mathlib.Core.List.{List, [], _∷_}
 use mathlib.Core.Option.{Option, some, none}
-use Prim.Native.Nat.{ℕ, suc, _<_}
+use Prim.Native.Nat.{ℕ, suc, _≤_, _<_}
 use native.Mathlib.Omega.{arith}
-use borrow.Author.Tests.{ltb-true, lt-ltb, le-ltb}
+use borrow.Author.Tests.{ltb-true, ltb-false, lt-ltb, le-ltb}
+use Rattle.definitions.specs.declared.Reading.{Reading}
 use Rattle.definitions.specs.Refusals.{Refusal, _when_, first, accepted}
 use Rattle.definitions.specs.Plan.{modulus, planRows}
 use Rattle.definitions.specs.Code.{Code, size, IsRecord}
@@ -22,7 +27,7 @@ use Rattle.definitions.specs.Calls.{photoRows, refused, costOf, readingO
 use Rattle.definitions.specs.Calls.{readRows, readNumber, readReading, readBuffer}
 use Rattle.definitions.specs.Reads.{Reads}
 use Rattle.definitions.proofs.Refusals.{first-append}
-use Rattle.definitions.proofs.Search.{search-none, search-the}
+use Rattle.definitions.proofs.Search.{SearchSays, search-says, search-none, search-the}
 
 -- the test as facts
 module _ (C : Code) (P s u F : List ℕ) where
@@ -33,6 +38,10 @@ module _ (C : Code) (P s u F : List ℕ) where
   pub cost-within : costOf C P s u F < radius full C P → within C P s u F ≡ true
   unfolding within
   cost-within l = lt-ltb (costOf C P s u F) (radius full C P) l
+
+  pub without-cost : within C P s u F ≡ false → radius full C P ≤ costOf C P s u F
+  unfolding within
+  without-cost t = ltb-false (costOf C P s u F) (radius full C P) t
 
   pub cost-without : (costOf C P s u F < radius full C P → ⊥) → within C P s u F ≡ false
   unfolding within
@@ -74,3 +83,21 @@ module _ (C : Code) (P s u B : List ℕ) where
       where
         m : nearest C P s u ≡ some F
         m = search-the (modulus P) (size C P) (within C P s u) one F x t
+
+    pub reads-found : {r : Reading} {b : List ℕ} → Reads C P s u B r b →
+        ((r .number ≡ 0) × (nearest C P s u ≡ some b)) ⊎ ((r .number ≡ 10) × (nearest C P s u ≡ none) × (b ≡ B))
+    unfolding first readingOf
+    reads-found {r} {b} h = go (nearest C P s u) refl
+      where
+        go : (o : Option (List ℕ)) → nearest C P s u ≡ o →
+            ((r .number ≡ 0) × (nearest C P s u ≡ some b)) ⊎ ((r .number ≡ 10) × (nearest C P s u ≡ none) × (b ≡ B))
+        go (some F) m =
+            let t = reads (number e m) m in
+            inl (ap (λ a. a .number) (h .reading ∙ sym (t .reading)), m ∙ ap some (t .buffer ∙ sym (h .buffer)))
+        go none m =
+            let t = reads (number e m) m in
+            inr (ap (λ a. a .number) (h .reading ∙ sym (t .reading)), m, h .buffer ∙ sym (t .buffer))
+
+pub nearest-says : (C : Code) (P s u : List ℕ) → SearchSays (modulus P) (size C P) (within C P s u) (nearest C P s u)
+unfolding nearest
+nearest-says C P s u = search-says (modulus P) (size C P) (within C P s u)

@@ -5,8 +5,9 @@
 --   own-photo                 the mark is a photograph of the plan
 --   radius-positive           the radius is above 0
 --   own-read                  read back, it is the record
+--   same-record               records whose marks have the same values are one
 --
--- What this file is for: demand 2 follows from demand 3. Assumes nothing.
+-- What this file is for: demand 2 follows from demand 3, and two different records differ in some cell. Assumes nothing.
 use mathlib.Core.Path.{_≡_, refl, ap, _∙_}
 use mathlib.Core.Logic.{inl}
 use mathlib.Core.Bool.{true}
@@ -32,6 +33,8 @@ use Rattle.definitions.specs.Photograph.{Photograph, sure}
 use Rattle.definitions.specs.Demands.{Nearest, clean}
 use Rattle.definitions.proofs.Counts.{value-below, differing-split}
 use Rattle.definitions.proofs.Written.{mark-at}
+use Rattle.definitions.proofs.Nearest.{cost-within}
+use Rattle.definitions.proofs.Unique.{at-most-one}
 
 zeros-at : (n c : ℕ) → at (replicate n 0) c ≡ 0
 zeros-at zero c = refl
@@ -94,3 +97,14 @@ module _ (P : List ℕ) (S : Sound P) where
       let z : costOf C P (mark C P F) (sure (cells C P)) F < radius full C P = omega (arith, own-cost C P F, radius-positive C) in
       let t = h .returned F r z in
       (t .0 ∙ own-reading C F, t .1)
+
+  pub same-record : (C : Code) (F G : List ℕ) → IsRecord C P F → IsRecord C P G →
+      ((c : ℕ) → c < cells C P → value C P F c ≡ value C P G c) → F ≡ G
+  same-record C F G f g e =
+      let s = mark C P F in
+      let u = sure (cells C P) in
+      let none = own-cost C P F in
+      let same = sum-eq (cells C P) λ c l. ap (cell full (at s c) (at u c)) (e c l) in
+      at-most-one C P s u (own-photo C F) F G f g
+      (cost-within C P s u F (omega (arith, none, radius-positive C)))
+      (cost-within C P s u G (omega (arith, none, same, radius-positive C)))

@@ -26,6 +26,15 @@
 --                           in widening 11 stands before 6: the plans are looked at before the buffer for them. What the tests
 --                           of the rows mean is in the statements that end in Exactly
 --   Measures C P s u F      measuring never gives 10: every record of a photograph's plan is measured, whatever its margin
+--   ExplainsExactly C P s u F B
+--                           under a sound plan explaining gives 6 where the buffer for another record has not its length, else
+--                           the number of measuring the expected record F
+--   Explained C P s u F B told b
+--                           request 5: of a photograph and an expected record F, with B lent, one of three reasons is told, and b
+--                           is then in the buffer. It is 1 exactly when F costs under the limit; 2 exactly when some other
+--                           record does, and then b is that one, its mark and that of F being equal before the place and
+--                           differing at it (`Shown`); 3 exactly when no record does, and then the excess is what F costs
+--                           beyond the limit. What a case does not give is 0, and only with 2 is the buffer written
 --   FoundExactly file y     the finder gives 11 where the file's length is no multiple of 40, else 0 where some plan of the file
 --                           has the season y, else 12
 --   FirstOfSeason file y    what it finds is a whole plan of the file, with the season y, and no plan before it has that season
@@ -56,10 +65,12 @@ use Rattle.bounded.specs.Bounded.{at, sum}
 use Rattle.field.specs.Prime.{Prime}
 use Rattle.definitions.specs.Sound.{IsSide, PointsFrom}
 use Rattle.definitions.specs.declared.Reading.{Reading}
+use Rattle.definitions.specs.declared.Reason.the-variants.{Refused}
+use Rattle.definitions.specs.declared.Explanation.{Explanation}
 use Rattle.definitions.specs.Refusals.{table, Earliest}
 use Rattle.definitions.specs.Plan.{planBytes, season, modulus, rows, columns, degree, rowPoint, columnPoint}
 use Rattle.definitions.specs.Plan.{filled, planRows, checkNumber}
-use Rattle.definitions.specs.Code.{Code, strip, oblong, size, cells, value, IsRecord}
+use Rattle.definitions.specs.Code.{Code, strip, oblong, size, cells, value, mark, IsRecord}
 use Rattle.polynomial.specs.Layout.{value as valueAt}
 use Rattle.polynomial.specs.Record.{start, valueX, valueXY}
 use Rattle.definitions.specs.Cost.{full, unread, radius}
@@ -69,6 +80,7 @@ use Rattle.definitions.specs.Calls as calls
 use Rattle.definitions.specs.Calls.{costOf, readingOf, writeRows, writeNumber, writeBuffer}
 use Rattle.definitions.specs.Calls.{measureRows, measureNumber, measureReading}
 use Rattle.definitions.specs.Calls.{readRows, readNumber, readReading, readBuffer}
+use Rattle.definitions.specs.Explaining.{explainRows, explainNumber, explainReason, explainBuffer}
 use Rattle.definitions.specs.Finder.{findRows, findNumber, findOffset, findBytes}
 use Rattle.definitions.specs.Photograph.{Photograph, sure}
 use Rattle.definitions.specs.Widening.{widened, widenedAll, widenRows, widenNumber, widenBuffer}
@@ -82,6 +94,8 @@ pub record RefusalsKeep : Type 0 where
       measureReading C P s u F ≡ calls.refused (measureNumber C P s u F)
   pub read : (C : Code) (P s u B : List ℕ) → readNumber C P s u B ≢ 0 →
       (readReading C P s u B ≡ calls.refused (readNumber C P s u B)) × (readBuffer C P s u B ≡ B)
+  pub explain : (C : Code) (P s u F B : List ℕ) → explainNumber C P s u F B ≢ 0 →
+      (explainReason C P s u F B ≡ Refused (explainNumber C P s u F B)) × (explainBuffer C P s u F B ≡ B)
   pub find : (file : List ℕ) (y : ℕ) → findNumber file y ≢ 0 → (findOffset file y ≡ 0) × (findBytes file y ≡ [])
   pub widen : (old wide : List ℕ) → widenNumber old wide ≢ 0 → widenBuffer old wide ≡ wide
 
@@ -107,6 +121,7 @@ pub record PlanFirst (P : List ℕ) : Type 0 where
   pub write : (C : Code) (F B : List ℕ) → checkNumber P ≢ 0 → writeNumber C P F B ≡ checkNumber P
   pub measure : (C : Code) (s u F : List ℕ) → checkNumber P ≢ 0 → measureNumber C P s u F ≡ checkNumber P
   pub read : (C : Code) (s u B : List ℕ) → checkNumber P ≢ 0 → readNumber C P s u B ≡ checkNumber P
+  pub explain : (C : Code) (s u F B : List ℕ) → checkNumber P ≢ 0 → explainNumber C P s u F B ≡ checkNumber P
 
 abbrev pub LengthsFit : Code → (P s u F : List ℕ) → Type 0
 LengthsFit C P s u F = (length s ≡ cells C P) × ((length u ≡ cells C P) × (length F ≡ size C P))
@@ -204,12 +219,39 @@ pub record LowestGiven : Type 0 where
   pub write : (C : Code) (P F B : List ℕ) → Earliest table (writeRows C P F B) (writeNumber C P F B)
   pub measure : (C : Code) (P s u F : List ℕ) → Earliest table (measureRows C P s u F) (measureNumber C P s u F)
   pub read : (C : Code) (P s u B : List ℕ) → Earliest table (readRows C P s u B) (readNumber C P s u B)
+  pub explain : (C : Code) (P s u F B : List ℕ) → Earliest table (explainRows C P s u F B) (explainNumber C P s u F B)
   pub find : (file : List ℕ) (season : ℕ) → Earliest table (findRows file season) (findNumber file season)
   pub widen : (old wide : List ℕ) → Earliest (11 ∷ 6 ∷ []) (widenRows old wide) (widenNumber old wide)
 
 pub record Measures (C : Code) (P s u F : List ℕ) : Type 0 where
   pub never : measureNumber C P s u F ≢ 10
   pub each : Photograph C P s u → IsRecord C P F → measureNumber C P s u F ≡ 0
+
+pub record ExplainsExactly (C : Code) (P s u F B : List ℕ) : Type 0 where
+  pub six : length B ≢ size C P → explainNumber C P s u F B ≡ 6
+  pub measured : length B ≡ size C P → explainNumber C P s u F B ≡ measureNumber C P s u F
+
+-- the record b is another than F and costs under the limit; the place is the lowest at which their marks differ
+pub record Shown (C : Code) (P s u F b : List ℕ) (place : ℕ) : Type 0 where
+  pub given : IsRecord C P b
+  pub other : F ≢ b
+  pub near : costOf C P s u b < radius full C P
+  pub inside : place < cells C P
+  pub before : (c : ℕ) → c < place → at (mark C P F) c ≡ at (mark C P b) c
+  pub differs : at (mark C P F) place ≢ at (mark C P b) place
+
+pub record Explained (C : Code) (P s u F B : List ℕ) (told : Explanation) (b : List ℕ) : Type 0 where
+  pub number : told .number ≡ 0
+  pub one : (told .reason ≡ 1) ⊎ ((told .reason ≡ 2) ⊎ (told .reason ≡ 3))
+  -- it is the answer: the expected record costs under the limit
+  pub answer : (told .reason ≡ 1) ↔ (costOf C P s u F < radius full C P)
+  pub answered : told .reason ≡ 1 → (told .place ≡ 0) × (told .excess ≡ 0) × (b ≡ B)
+  -- another record is
+  pub other : (told .reason ≡ 2) ↔ ((G : List ℕ) × IsRecord C P G × (F ≢ G) × (costOf C P s u G < radius full C P))
+  pub shown : told .reason ≡ 2 → Shown C P s u F b (told .place) × (told .excess ≡ 0)
+  -- no record is
+  pub nothing : (told .reason ≡ 3) ↔ ((G : List ℕ) → IsRecord C P G → radius full C P ≤ costOf C P s u G)
+  pub beyond : told .reason ≡ 3 → (costOf C P s u F ≡ radius full C P + told .excess) × (told .place ≡ 0) × (b ≡ B)
 
 -- a plan of the file begins at k * 40, and its season is in the first two bytes there
 pub record FoundExactly (file : List ℕ) (y : ℕ) : Type 0 where

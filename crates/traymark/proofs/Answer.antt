@@ -8,6 +8,7 @@
 --                                      photograph is taken
 --   read-unsound                       so where the plan itself is refused
 --   read-keeps, read-gives             a refused reading is zeros and leaves the buffer; an accepted one is of the record in it
+--   explain-keeps                      a refused explaining is the refusal and leaves the buffer
 --
 -- What this file is for: the calls test a number, the definitions choose by it. Assumes nothing.
 use mathlib.Core.Path.{_≡_, refl, sym, ap, _∙_}
@@ -18,10 +19,13 @@ use Rattle.definitions.specs.Plan.{checkNumber}
 use Rattle.definitions.specs.Code.{Code, mark}
 use Rattle.definitions.specs.Calls.{refused, readingOf, photoRows, writeNumber, writeBuffer, measureNumber, measureReading}
 use Rattle.definitions.specs.Calls.{readNumber, readReading, readBuffer}
+use Rattle.definitions.specs.declared.Reason.the-variants.{Refused}
+use Rattle.definitions.specs.Explaining.{explainNumber, explainReason, explainBuffer}
 use Rattle.definitions.specs.Reads.{Reads}
 use Rattle.definitions.proofs.Refusals.{otherwise}
 use Rattle.definitions.proofs.Nearest.{reads-refused}
 use Rattle.definitions.proofs.Accepted.{photo-refused, write-refused, measure-refused}
+use Rattle.definitions.proofs.Explaining.{explains-refused}
 use Rattle.reading.specs.Loading.{Taken}
 use Rattle.reading.proofs.Loading.{taken}
 
@@ -77,3 +81,7 @@ pub read-gives : (C : Code) (P s u B : List ℕ) → readNumber C P s u B ≡ 0 
     readReading C P s u B ≡ readingOf C P s u (readBuffer C P s u B)
 unfolding readReading readBuffer
 read-gives C P s u B e = rw e
+
+pub explain-keeps : (C : Code) (P s u F B : List ℕ) → (explainNumber C P s u F B ≡ 0 → ⊥) →
+    (explainReason C P s u F B ≡ Refused (explainNumber C P s u F B)) × (explainBuffer C P s u F B ≡ B)
+explain-keeps C P s u F B n = let h = explains-refused C P s u F B _ refl n in (sym (h .reason), sym (h .buffer))

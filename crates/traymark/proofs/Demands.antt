@@ -11,6 +11,8 @@
 --   demand-3                             demand 3
 --   unread-costs, mark-margins           "Photographed mark and cost"
 --   lowest-given, measures               "What is returned"
+--   explains, explains-exactly           document 02, request 5: when a record is explained, and what refuses it
+--   explained                            and that the reason given is the true one
 --   found-exactly, first-found           document 02, request 2: when a plan of a season is found, and which
 --   groups-fill                          document 02, request 4: where the coefficients of a record stand
 --   tray-parts, tray-refused             what `trayread` takes of its input, and when it refuses it
@@ -33,13 +35,14 @@ use Rattle.definitions.specs.Code.{Code, size, cells, value, mark}
 use Rattle.definitions.specs.Cost.{full}
 use Rattle.definitions.specs.Calls.{photoRows, writeRows, writeNumber, writeBuffer}
 use Rattle.definitions.specs.Calls.{measureRows, measureNumber, measureReading, readRows, readNumber, readReading, readBuffer}
+use Rattle.definitions.specs.Explaining.{explainRows, explainNumber, explainReason, explainBuffer, valuesOf}
 use Rattle.definitions.specs.Finder.{findRows, findNumber}
 use Rattle.definitions.specs.Sound.{Sound}
 use Rattle.definitions.specs.Photograph.{Photograph, sure}
 use Rattle.polynomial.specs.Record.{start}
 use Rattle.definitions.specs.Widening.{narrowBytes, widenRows, widenNumber}
-use Rattle.definitions.specs.Accepted.{Writing}
-use Rattle.definitions.specs.Demands.{CheckedExactly, PlanFirst, WrittenExactly, TakenExactly}
+use Rattle.definitions.specs.Accepted.{Writing, Expecting}
+use Rattle.definitions.specs.Demands.{CheckedExactly, PlanFirst, WrittenExactly, TakenExactly, ExplainsExactly, Explained}
 use Rattle.definitions.specs.Demands.{RefusalsKeep, Shapes, Written, RoundTrip, Weighed, Nearest}
 use Rattle.definitions.specs.Demands.{UnreadCosts, MarkMargins, LowestGiven, Measures, FoundExactly, FirstOfSeason}
 use Rattle.definitions.specs.Demands.{GroupsFill, places, TrayParts, TrayRefused, WidensExactly, PrintsExactly}
@@ -54,7 +57,9 @@ use Rattle.definitions.proofs.Accepted as accepted
 use Rattle.definitions.proofs.Plan.{strip-size, mark-size}
 use Rattle.definitions.proofs.Sound.{sound, checked}
 use Rattle.definitions.proofs.Demands.{nearest-one}
-use Rattle.definitions.proofs.Accepted.{accepted-writing, accepted-measuring, accepted-reading, measuring-accepted}
+use Rattle.definitions.proofs.Accepted.{accepted-writing, accepted-measuring, accepted-reading, accepted-explaining}
+use Rattle.definitions.proofs.Accepted.{measuring-accepted}
+use Rattle.definitions.proofs.Explained as reasons
 use Rattle.definitions.proofs.Written.{mark-written}
 use Rattle.definitions.proofs.Own.{own-photo, own-reading, own-read}
 use Rattle.definitions.proofs.Published.{photo-weighed}
@@ -63,6 +68,7 @@ use Rattle.distance.proofs.Cost.{cell-full}
 use Rattle.polynomial.proofs.Record.{value-places, start-next, start-below, start-apart, placed}
 use Rattle.polynomial.proofs.Known.{value-mark-is}
 use Rattle.traymark.proofs.Answer.{write-keeps, write-fills, measure-refuses, measure-gives, read-keeps, read-gives}
+use Rattle.traymark.proofs.Answer.{explain-keeps}
 
 -- A plan is sound, all its bytes as in the table, exactly when checking it gives 0.
 pub sound-exactly : (P : List ℕ) → Sound P ↔ (checkNumber P ≡ 0)
@@ -104,6 +110,7 @@ demand-1 = record {
   write = λ C P F B n. sym (write-keeps C P F B refl n);
   measure = λ C P s u F n. sym (measure-refuses C P s u F refl n);
   read = read-keeps;
+  explain = explain-keeps;
   find = finder.nowhere;
   widen = widening.widen-refused;
 }
@@ -160,13 +167,14 @@ mark-margins = record { measured = measured-range; read = read-range; lowest = l
 -- The number that a call gives is the first in the table's order of those that apply and concern the call, 13 standing between 3
 -- and 4. In widening 11 comes before 6.
 pub lowest-given : LowestGiven
-unfolding checkNumber writeNumber measureNumber readNumber findNumber widenNumber
-    planRows photoRows writeRows measureRows readRows findRows widenRows index
+unfolding checkNumber writeNumber measureNumber readNumber explainNumber findNumber widenNumber
+    planRows photoRows writeRows measureRows readRows explainRows findRows widenRows index
 lowest-given = record {
   check = λ P. first-earliest table (planRows P) tt refl;
   write = λ C P F B. first-earliest table (writeRows C P F B) tt refl;
   measure = λ C P s u F. first-earliest table (measureRows C P s u F) tt refl;
   read = λ C P s u B. first-earliest table (readRows C P s u B) tt refl;
+  explain = λ C P s u F B. first-earliest table (explainRows C P s u F B) tt refl;
   find = λ file y. first-earliest table (findRows file y) tt refl;
   widen = λ old wide. first-earliest (11 ∷ 6 ∷ []) (widenRows old wide) tt refl;
 }
@@ -178,6 +186,23 @@ measures C P s u F = record {
   never = first-absent 10 (measureRows C P s u F) (λ e. omega arith) refl;
   each = measuring-accepted C P s u F;
 }
+
+-- Explaining is accepted for every photograph and every record of its plan that may be expected, with room for another.
+pub explains : (C : Code) (P s u F B : List ℕ) → Expecting C P s u F B → explainNumber C P s u F B ≡ 0
+explains = accepted.explaining-accepted
+
+-- Under a sound plan it gives 6 where the buffer for another record has not its length, else what measuring the expected record
+-- gives: 6 to 9, by `taken-exactly`.
+pub explains-exactly : (C : Code) (P s u F B : List ℕ) → Sound P → ExplainsExactly C P s u F B
+explains-exactly C P s u F B S = accepted.explains-exactly C P s u F B (checked P S)
+
+-- The reason given is the true one. Of every accepted call exactly one of the three is told: 1 exactly when the expected record
+-- costs under the limit; 2 exactly when some other record does, and then the buffer holds that one, and its mark and the expected
+-- one's are equal before the place and differ at it; 3 exactly when no record does, and then the excess is what the expected
+-- record costs beyond the limit.
+pub explained : (C : Code) (P s u F B : List ℕ) → explainNumber C P s u F B ≡ 0 →
+    Explained C P s u F B (valuesOf (explainReason C P s u F B)) (explainBuffer C P s u F B)
+explained C P s u F B e = reasons.explained C P s u F B (accepted-explaining C P s u F B e)
 
 -- The finder gives 11 where the length of the file is no multiple of 40, else 0 where some plan of the file has the season, sound
 -- or not, else 12.
