@@ -4,15 +4,16 @@
 --   index-holds    it passes itself, where it is below the bound
 --   index-within   it is below the bound where any number there passes
 --   index-is       a number that passes, none before it doing so, is the first
+--   index-none     it is the bound where none passes
 --
 -- What this file is for: a loop that stops at the first true answer has found the definition's place. Assumes nothing.
-use mathlib.Core.Path.{_≡_, refl, sym, _∙_}
+use mathlib.Core.Path.{_≡_, refl, sym, ap, _∙_}
 use mathlib.Core.Bool.{Bool, true, false, cond, false≢true}
 use Prim.Native.Nat.{ℕ, zero, suc, _<_}
 use native.Mathlib.Omega.{arith}
 use native.Mathlib.Decide.{decLt}
 use Rattle.bounded.specs.Bounded.{any, index}
-use Rattle.bounded.proofs.Any.{any-none, any-some}
+use Rattle.bounded.proofs.Any.{any-none, none-any, any-some}
 
 pub index-before : (n : ℕ) (f : ℕ → Bool) (i : ℕ) → i < index n f → f i ≡ false
 unfolding index
@@ -50,3 +51,10 @@ index-is n f k l e t =
         | no g ↦ omega arith
       ]
     ]
+
+pub index-none : (n : ℕ) (f : ℕ → Bool) → any n f ≡ false → index n f ≡ n
+unfolding index
+index-none zero f e = refl
+index-none (suc n) f e =
+    let rest = none-any n (λ i. f (suc i)) λ i l. any-none (suc n) f e (suc i) (omega arith) in
+    rw (any-none (suc n) f e 0 (omega arith)) (ap suc (index-none n (λ i. f (suc i)) rest))

@@ -4,7 +4,7 @@
 --   explained      every reason that is given is the true one, with all that is told beside it
 --
 -- What this file is for: document 02's request 5 in the staff's words. Assumes nothing.
-use mathlib.Core.Path.{_≡_, refl, ap}
+use mathlib.Core.Path.{_≡_, refl, sym, ap, _∙_}
 use mathlib.Core.Logic.{_≢_, inl, inr}
 use mathlib.Core.List.{List}
 use mathlib.Core.Option as option
@@ -35,16 +35,15 @@ module _ (C : Code) (P s u F : List ℕ) (S : Sound P) (f : IsRecord C P F) wher
   pub lowest-place : (G : List ℕ) → IsRecord C P G → F ≢ G → costOf C P s u G < radius full C P →
       Shown C P s u F G (differingPlace C P F G)
   lowest-place G g n l =
-      let some = holds _ λ t. n (same-record P S C F G f g λ c k. eqb-true _ _ (not-false _ (any-none _ _ t c k))) in
-      let inside : differingPlace C P F G < cells C P = index-within _ _ some in
+      let inside : differingPlace C P F G < cells C P = index-within _ _ (holds _ λ t. n (same-record P S C F G f g λ c k.
+      sym (mark-at C P F c k) ∙ eqb-true _ _ (not-false _ (any-none _ _ t c k)) ∙ mark-at C P G c k)) in
       record {
         given = g;
         other = n;
         near = l;
         inside = inside;
-        before = λ c k. rw (mark-at C P F c (omega arith), mark-at C P G c (omega arith))
-            (eqb-true _ _ (not-false _ (index-before _ _ c k)));
-        differs = rw (mark-at C P F _ inside, mark-at C P G _ inside) (eqb-false _ _ (not-true _ (index-holds _ _ inside)));
+        before = λ c k. eqb-true _ _ (not-false _ (index-before _ _ c k));
+        differs = eqb-false _ _ (not-true _ (index-holds _ _ inside));
       }
 
 module _ (C : Code) (P s u F B : List ℕ) (x : Expecting C P s u F B) where

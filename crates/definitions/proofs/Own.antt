@@ -21,7 +21,6 @@ use lib.ListN.{length, replicate}
 use borrow.Author.Tests.{eq-eqb}
 use Rattle.bounded.specs.Bounded.{at, sum}
 use Rattle.bounded.proofs.Sum.{sum-eq, sum-const}
-use Rattle.bounded.proofs.Tab.{length-tab}
 use Rattle.polynomial.specs.Sides.{least, others}
 use Rattle.definitions.specs.Plan.{side, degree}
 use Rattle.definitions.specs.Code.{Code, strip, oblong, cells, value, mark, IsRecord}
@@ -32,7 +31,7 @@ use Rattle.definitions.specs.Sound.{Sound}
 use Rattle.definitions.specs.Photograph.{Photograph, sure}
 use Rattle.definitions.specs.Demands.{Nearest, clean}
 use Rattle.definitions.proofs.Counts.{value-below, differing-split}
-use Rattle.definitions.proofs.Written.{mark-at}
+use Rattle.definitions.proofs.Written.{mark-length, mark-at}
 use Rattle.definitions.proofs.Nearest.{cost-within}
 use Rattle.definitions.proofs.Unique.{at-most-one}
 
@@ -63,10 +62,9 @@ module _ (C : Code) (P F : List ℕ) where
 
 module _ (P : List ℕ) (S : Sound P) where
   pub own-photo : (C : Code) (F : List ℕ) → Photograph C P (mark C P F) (sure (cells C P))
-  unfolding mark
   own-photo C F = record {
     sound = S;
-    symbols = length-tab (cells C P) (value C P F);
+    symbols = mark-length C P F;
     doubts = zeros-length (cells C P);
     symbol = λ c l. inl (rw (mark-at C P F c l) (value-below S C F c));
     doubt = λ c l. omega (arith, zeros-at (cells C P) c);

@@ -3,6 +3,7 @@
 -- `polynomial` (specs/Layout.antt), the cells of a mark and their points `cells` and `cellPoint` (specs/Sides.antt).
 --
 --   strip, oblong    the two codes: of polynomials in X (Reed-Solomon), and in X and Y (Reed-Muller) on rows and columns
+--   codeOf b         the code that a `mark: bool` of the programs stands for
 --   more             how many coordinates a code has after X
 --   size, cells      how many coefficients a record has, and how many cells its mark
 --   value C P F c    the value of the record F in cell c
@@ -10,6 +11,7 @@
 --   IsRecord C P F   F is a record of the plan P
 --
 -- What this file is for: what the writer writes, and "every record of the plan".
+use mathlib.Core.Bool.{Bool, true, false}
 use mathlib.Core.List.{List}
 use Prim.Native.Nat.{ℕ, _+_}
 use Rattle.bounded.specs.Bounded.{tab}
@@ -20,6 +22,10 @@ use Rattle.definitions.specs.Plan.{modulus, degree, side, point}
 
 pub data Code : Type 0 where
   strip oblong : Code
+
+abbrev pub codeOf : Bool → Code
+codeOf true = oblong
+codeOf false = strip
 
 abbrev pub more : Code → ℕ
 more strip = 0

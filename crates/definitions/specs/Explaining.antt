@@ -21,7 +21,7 @@ use Rattle.definitions.specs.declared.Reason.the-variants.{Refused, Answ
 use Rattle.definitions.specs.declared.Explanation.{Explanation}
 use Rattle.definitions.specs.Refusals.{Refusal, first, accepted}
 use Rattle.definitions.specs.Plan.{modulus, planRows}
-use Rattle.definitions.specs.Code.{Code, size, cells, value}
+use Rattle.definitions.specs.Code.{Code, size, cells, mark}
 use Rattle.definitions.specs.Cost.{full, radius}
 use Rattle.definitions.specs.Calls.{lengthRow, recordRow, photoTests, costOf, nearest, the}
 
@@ -36,7 +36,7 @@ abbrev pub different : Code → (P F G : List ℕ) → Bool
 different C P F G = any (size C P) λ k. not (eqb (at F k) (at G k))
 
 abbrev pub differingPlace : Code → (P F G : List ℕ) → ℕ
-differingPlace C P F G = index (cells C P) λ c. not (eqb (value C P F c) (value C P G c))
+differingPlace C P F G = index (cells C P) λ c. not (eqb (at (mark C P F) c) (at (mark C P G) c))
 
 abbrev pub reasonFor : Code → (P s u F : List ℕ) → Option (List ℕ) → Reason
 reasonFor C P s u F (some G) = cond (different C P F G) (Other (differingPlace C P F G)) Answer

@@ -11,7 +11,7 @@ use Prim.Native.Nat.{ℕ}
 use lib.ListN.{length}
 use Rattle.field.specs.Word.{reached}
 use Rattle.definitions.specs.Refusals.{first}
-use Rattle.definitions.specs.Code.{size, cells}
+use Rattle.definitions.specs.Code.{codeOf, size, cells}
 use Rattle.definitions.specs.Calls.{overflowing, photoTests, photoRows, writeTests, writeNumber}
 use Rattle.definitions.proofs.Refusals.{Stops, numberAt, first-at, answered}
 use Rattle.definitions.proofs.Sound.{checked}
@@ -19,7 +19,7 @@ use Rattle.definitions.proofs.Plan.{strip-size, mark-size}
 use Rattle.definitions.proofs.Accepted.{photo-passes, write-passes}
 use Rattle.plan.specs.declared.Plan.{Plan}
 use Rattle.plan.specs.Says.{Says}
-use Rattle.traymark.specs.Kind.{codeOf, sizeOf, cellsOf}
+use Rattle.traymark.specs.Kind.{sizeOf, cellsOf}
 
 -- what the struct says of cells and records is what the plan does
 cells-said : (mark : Bool) {P : List ℕ} {plan : Plan} → Says P plan → cellsOf mark (plan .grid) ≡ cells (codeOf mark) P

@@ -1,6 +1,5 @@
 -- Marks and strips, as the checks that they share name them.
 --
---   codeOf b                  the code that a `mark: bool` of the code stands for
 --   sizeOf b g, cellsOf b g   how many numbers a record on the grid g has, and how many cells its mark
 --
 -- What this file is for: the contracts of the checks, which name the kind by the code's own bool.
@@ -8,11 +7,6 @@ use mathlib.Core.Bool.{Bool, true, false}
 use Prim.Native.Nat.{ℕ, _+_, _*_}
 use Rattle.polynomial.specs.Record.{start}
 use Rattle.polynomial.specs.declared.Grid.{Grid}
-use Rattle.definitions.specs.Code.{Code, strip, oblong}
-
-abbrev pub codeOf : Bool → Code
-codeOf true = oblong
-codeOf false = strip
 
 unfoldable pub sizeOf : Bool → Grid → ℕ
 sizeOf true g = start (g .d + 1)

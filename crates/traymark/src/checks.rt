@@ -14,10 +14,11 @@ ghost use lib.Dec.{eqb, ltb, leb};
 ghost use lib.ListN.{length};
 ghost use Rattle.polynomial.specs.Fit.{Fit};
 ghost use Rattle.definitions.specs.Refusals.{first};
+ghost use Rattle.definitions.specs.Code.{codeOf};
 ghost use Rattle.definitions.specs.Cost.{unread};
 ghost use Rattle.definitions.specs.Calls.{strange, misdoubted, photoRows, writeNumber, measureNumber};
 ghost use Rattle.plan.specs.Says.{Says, Ready};
-ghost use Rattle.traymark.specs.Kind.{codeOf, sizeOf, cellsOf};
+ghost use Rattle.traymark.specs.Kind.{sizeOf, cellsOf};
 
 // Refusals 6 and 9, those of writing: the number of the first that applies, else 0. Of the buffer only the length counts.
 pub(crate) fn write_refusal(mark: bool, plan: Plan, record: &[u8], buffer: &[u8]) -> u32
