@@ -1,10 +1,13 @@
-// What calls answer of a record: how many cells are unread, the class of a changed count, the margin, and the readings that they
-// return.
+// What calls answer of a record: how many cells are unread, the class of a changed count, the margin, the readings that they
+// return, and what C is handed of a reason.
+use definitions::Explanation;
+use definitions::Reason;
 use definitions::UNREAD;
 ghost use mathlib.Core.Path.{_≡_};
 ghost use Prim.Native.Nat.{_≤_, _<_};
 ghost use lib.ListN.{length};
 ghost use Rattle.definitions.specs.Calls.{refused as refusedWith};
+ghost use Rattle.definitions.specs.Explaining.{valuesOf};
 ghost use Rattle.definitions.specs.Cost.{unreadCell, margin as marginOf, class};
 ghost use Rattle.answers.specs.Summary.{unreadIn, summary};
 
@@ -80,5 +83,37 @@ pub fn refused(number: u32) -> definitions::Reading
         changed: 0,
         unread: 0,
         class: 0,
+    }
+}
+
+// The number, reason, place and excess of each case.
+pub fn values(reason: Reason) -> Explanation
+    ensures { λ r. ⌜ r ≡ valuesOf reason ⌝ }
+{
+    match reason {
+        Reason::Refused(number) => Explanation {
+            number,
+            reason: 0,
+            place: 0,
+            excess: 0,
+        },
+        Reason::Answer => Explanation {
+            number: 0,
+            reason: 1,
+            place: 0,
+            excess: 0,
+        },
+        Reason::Other { place } => Explanation {
+            number: 0,
+            reason: 2,
+            place,
+            excess: 0,
+        },
+        Reason::Nothing { excess } => Explanation {
+            number: 0,
+            reason: 3,
+            place: 0,
+            excess,
+        },
     }
 }

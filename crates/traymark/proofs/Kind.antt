@@ -1,5 +1,6 @@
 -- Marks and strips, and the checks that they share.
 --
+--   size-said            what the struct says of records is what the plan does
 --   photo-at, write-at   under a sound plan, the number of the test at which a check stops is the call's
 --   record-reached       what `field::bytes::reaches` answered of a record is the answer to its test
 --
@@ -27,7 +28,7 @@ unfolding cellsOf
 cells-said true says = rw (says .fields) refl
 cells-said false says = rw (says .fields) refl
 
-size-said : (mark : Bool) {P : List ℕ} {plan : Plan} → Says P plan → sizeOf mark (plan .grid) ≡ size (codeOf mark) P
+pub size-said : (mark : Bool) {P : List ℕ} {plan : Plan} → Says P plan → sizeOf mark (plan .grid) ≡ size (codeOf mark) P
 unfolding sizeOf
 size-said true {P} says = rw (says .fields) (sym (mark-size P))
 size-said false {P} says = rw (says .fields) (sym (strip-size P))

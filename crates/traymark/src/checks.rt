@@ -1,6 +1,6 @@
-// The refusals of writing, measuring and reading under a sound plan, for marks (`mark`) and for strips: one test for each row
-// of document 01's table "What is returned", in its order. Records and buffers may be any bytes of any length. A loop over cells
-// looks at all of them, with no way out, so that it is vectorised.
+// The refusals of writing, measuring, reading and explaining under a sound plan, for marks (`mark`) and for strips: one test for
+// each row of document 01's table "What is returned", in its order. Records and buffers may be any bytes of any length. A loop
+// over cells looks at all of them, with no way out, so that it is vectorised.
 use definitions::UNREAD;
 use field::bytes;
 use plan::Plan;
@@ -17,6 +17,7 @@ ghost use Rattle.definitions.specs.Refusals.{first};
 ghost use Rattle.definitions.specs.Code.{codeOf};
 ghost use Rattle.definitions.specs.Cost.{unread};
 ghost use Rattle.definitions.specs.Calls.{strange, misdoubted, photoRows, writeNumber, measureNumber};
+ghost use Rattle.definitions.specs.Explaining.{explainNumber};
 ghost use Rattle.plan.specs.Says.{Says, Ready};
 ghost use Rattle.traymark.specs.Kind.{sizeOf, cellsOf};
 
@@ -91,6 +92,25 @@ pub(crate) fn measure_refusal(
         return 9;
     }
     0
+}
+
+// Refusals 6 to 9, those of explaining: of measuring the expected record, with room for another. Of that only the length counts.
+pub(crate) fn explain_refusal(
+    mark: bool,
+    plan: Plan,
+    symbols: &[u8],
+    doubts: &[u8],
+    record: &[u8],
+    other: &[u8],
+) -> u32
+    requires { ⌜ Ready plan ⌝ }
+    ensures { λ r. ⌜ ((P : List ℕ) → Says P plan → r ≡ explainNumber (codeOf mark) P (now (symbols .entry))
+        (now (doubts .entry)) (now («record» .entry)) (now (other .entry))) ⌝ }
+{
+    if other.len() != record_size(mark, plan.grid) {
+        return 6;
+    }
+    measure_refusal(mark, plan, symbols, doubts, record)
 }
 
 // How many coefficients a record on the grid has.
