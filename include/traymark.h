@@ -1,7 +1,7 @@
 /*
  * traymark: square and oblong marks on fruit trays, written and read.
  *
- * Nine calls over plain bytes. Each is proved to give what its comment says, for any bytes and any lengths.
+ * Eleven calls over plain bytes. Each is proved to give what its comment says, for any bytes and any lengths.
  * `make lib` writes the library, and `cc -Iinclude program.c target/staticlib/libtraymark.a` links a program with it.
  *
  * Words
@@ -39,7 +39,7 @@
  *    4  d is not below the smaller side
  *    5  a row point, or then a column point, is p or more or not above the one before it, or an unused point byte of
  *       either set is not 0
- *    6  a lent buffer (symbols, doubts, record, mark, strip or widened plans) has not its exact length
+ *    6  a lent buffer (symbols, doubts, record, another record, mark, strip or widened plans) has not its exact length
  *    7  a symbol is p or more and not 255
  *    8  a doubt is above 100, or that of an unread cell is not 100
  *    9  a coefficient of a given record is p or more
@@ -66,6 +66,14 @@ typedef struct {
     uint32_t unread;  /* cells that were not read, their symbol being 255; none of them is counted in changed */
     uint32_t class_;  /* by changed alone: 0 is class 0, 1 to 3 class 1, 4 to 15 class 2, 16 and more class 3 */
 } traymark_reading;
+
+/* What explaining answers. The answer is the record that costs under R. Of a refusal everything but the number is 0. */
+typedef struct {
+    uint32_t number; /* 0, or the refusal */
+    uint32_t reason; /* 1 the expected record is the answer, 2 another record is, 3 there is none */
+    uint32_t place;  /* of reason 2 the lowest place at which the marks, or strips, of the two records differ; else 0 */
+    uint32_t excess; /* of reason 3 the expected record's cost less R, 0 or more; else 0 */
+} traymark_reason;
 
 /*
  * Checks a plan.
@@ -142,7 +150,26 @@ traymark_reading traymark_read_mark(const uint8_t *plan, size_t plan_len,
                                     uint8_t *record, size_t record_len);
 
 /*
- * The same three for a strip, a cell for each row point: its record has d + 1 bytes and its radius is 100 * (rows - d).
+ * Explains why the record that was expected of a photographed mark did not come up: exactly one of three reasons holds.
+ * A station calls it with the record of the tray that its staff expected. By reason 1 that tray did come up. By reason 2 it
+ * shows the tray that is there, and the first cell to look at, where the mark of the expected one has another value. By
+ * reason 3 the mark is to be photographed again or marked anew, and the excess says how far it is from being read.
+ *
+ *   plan     read
+ *   record   read; K bytes, the expected record
+ *   symbols  read; rows * columns bytes
+ *   doubts   read; rows * columns bytes
+ *   other    written whole where the reason is 2, with the record that is the answer; else unchanged; K bytes
+ *   result   the reason, with its place or excess; refusals 1 2 3 13 4 5 6 7 8 9
+ */
+traymark_reason traymark_explain_mark(const uint8_t *plan, size_t plan_len,
+                                      const uint8_t *record, size_t record_len,
+                                      const uint8_t *symbols, size_t symbols_len,
+                                      const uint8_t *doubts, size_t doubts_len,
+                                      uint8_t *other, size_t other_len);
+
+/*
+ * The same four for a strip, a cell for each row point: its record has d + 1 bytes and its radius is 100 * (rows - d).
  *
  * Writes the strip of a record.
  *
@@ -182,6 +209,22 @@ traymark_reading traymark_read_strip(const uint8_t *plan, size_t plan_len,
                                      const uint8_t *symbols, size_t symbols_len,
                                      const uint8_t *doubts, size_t doubts_len,
                                      uint8_t *record, size_t record_len);
+
+/*
+ * Explains why the record that was expected of a photographed strip did not come up.
+ *
+ *   plan     read
+ *   record   read; d + 1 bytes, the expected record
+ *   symbols  read; rows bytes
+ *   doubts   read; rows bytes
+ *   other    written whole where the reason is 2, with the record that is the answer; else unchanged; d + 1 bytes
+ *   result   the reason, with its place or excess; refusals 1 2 3 13 4 5 6 7 8 9
+ */
+traymark_reason traymark_explain_strip(const uint8_t *plan, size_t plan_len,
+                                       const uint8_t *record, size_t record_len,
+                                       const uint8_t *symbols, size_t symbols_len,
+                                       const uint8_t *doubts, size_t doubts_len,
+                                       uint8_t *other, size_t other_len);
 
 #ifdef __cplusplus
 }

@@ -15,6 +15,16 @@ pub struct RawReading {
     pub class: u32,
 }
 
+/// What explaining answers. Of a refusal everything but the number is 0.
+#[repr(C)]
+#[derive(Clone, Copy, Debug, PartialEq, Eq)]
+pub struct RawReason {
+    pub number: u32,
+    pub reason: u32,
+    pub place: u32,
+    pub excess: u32,
+}
+
 extern "C" {
     pub fn traymark_check_plan(plan: *const u8, plan_len: usize) -> u32;
 
@@ -53,6 +63,19 @@ extern "C" {
         record_len: usize,
     ) -> RawReading;
 
+    pub fn traymark_explain_mark(
+        plan: *const u8,
+        plan_len: usize,
+        record: *const u8,
+        record_len: usize,
+        symbols: *const u8,
+        symbols_len: usize,
+        doubts: *const u8,
+        doubts_len: usize,
+        other: *mut u8,
+        other_len: usize,
+    ) -> RawReason;
+
     pub fn traymark_write_strip(
         plan: *const u8,
         plan_len: usize,
@@ -83,6 +106,19 @@ extern "C" {
         record: *mut u8,
         record_len: usize,
     ) -> RawReading;
+
+    pub fn traymark_explain_strip(
+        plan: *const u8,
+        plan_len: usize,
+        record: *const u8,
+        record_len: usize,
+        symbols: *const u8,
+        symbols_len: usize,
+        doubts: *const u8,
+        doubts_len: usize,
+        other: *mut u8,
+        other_len: usize,
+    ) -> RawReason;
 }
 
 /// Writing a mark or a strip: plan, record, mark.
@@ -95,3 +131,17 @@ pub type Measure =
 /// Reading: plan, symbols, doubts, record.
 pub type Read =
     unsafe extern "C" fn(*const u8, usize, *const u8, usize, *const u8, usize, *mut u8, usize) -> RawReading;
+
+/// Explaining: plan, expected record, symbols, doubts, another record.
+pub type Explain = unsafe extern "C" fn(
+    *const u8,
+    usize,
+    *const u8,
+    usize,
+    *const u8,
+    usize,
+    *const u8,
+    usize,
+    *mut u8,
+    usize,
+) -> RawReason;

@@ -56,6 +56,23 @@ pub struct Reading {
     pub class: u32,
 }
 
+/// Why a record that was expected of a photograph did not come up. The answer is the record within the radius.
+#[derive(Clone, Copy, Debug, PartialEq, Eq)]
+pub enum Reason {
+    /// The expected record is the answer.
+    Answer,
+    /// Another record is the answer.
+    Other {
+        /// The lowest place at which the marks, or strips, of the two records differ.
+        place: usize,
+    },
+    /// No record is within the radius.
+    Nothing {
+        /// The expected record's cost less the radius, 0 or more.
+        excess: u32,
+    },
+}
+
 /// Checks a plan. Refusals 1 2 3 13 4 5.
 pub fn check_plan(plan: &[u8]) -> Result<(), Refusal> {
     accepted(unsafe { ffi::traymark_check_plan(plan.as_ptr(), plan.len()) })
@@ -102,6 +119,40 @@ pub fn read_mark(plan: &[u8], symbols: &[u8], doubts: &[u8], record: &mut [u8]) 
     read_by(ffi::traymark_read_mark, plan, symbols, doubts, record)
 }
 
+/// Explains why the expected `record` of a photographed mark did not come up. Where another record is the answer it goes into
+/// `other`, which has as many bytes as `record`; else `other` is left as it is. Refusals 1 2 3 13 4 5 6 7 8 9.
+///
+/// ```
+/// # use traymark::Reason;
+/// # let mut plan = [0; traymark::PLAN_LENGTH];
+/// # plan[..9].copy_from_slice(&[0, 12, 7, 3, 3, 1, 1, 2, 4]);
+/// # plan[22..25].copy_from_slice(&[1, 2, 4]);
+/// // the mark 6 1 5 0 2 6 2 4 1 of 3 + X + 2Y, its first and its last cell misread
+/// let symbols = [0, 1, 5, 0, 2, 6, 2, 4, 0];
+/// let mut other = [0; 3];
+/// assert_eq!(traymark::explain_mark(&plan, &[3, 1, 2], &symbols, &[0; 9], &mut other)?, Reason::Answer);
+///
+/// // the mark of 2 + 2X + 2Y has the same first row
+/// let reason = traymark::explain_mark(&plan, &[2, 2, 2], &symbols, &[0; 9], &mut other)?;
+/// assert_eq!(reason, Reason::Other { place: 3 });
+/// assert_eq!(other, [3, 1, 2]);
+///
+/// // a third cell misread: the record costs 600, which is the radius
+/// let symbols = [0, 1, 5, 0, 2, 6, 2, 0, 0];
+/// let reason = traymark::explain_mark(&plan, &[3, 1, 2], &symbols, &[0; 9], &mut other)?;
+/// assert_eq!(reason, Reason::Nothing { excess: 0 });
+/// # Ok::<(), traymark::Refusal>(())
+/// ```
+pub fn explain_mark(
+    plan: &[u8],
+    record: &[u8],
+    symbols: &[u8],
+    doubts: &[u8],
+    other: &mut [u8],
+) -> Result<Reason, Refusal> {
+    explain_by(ffi::traymark_explain_mark, plan, record, symbols, doubts, other)
+}
+
 /// Writes the strip of a record: `record` has d + 1 bytes, `strip` as many as there are rows. Refusals 1 2 3 13 4 5 6 9.
 pub fn write_strip(plan: &[u8], record: &[u8], strip: &mut [u8]) -> Result<(), Refusal> {
     write_by(ffi::traymark_write_strip, plan, record, strip)
@@ -116,6 +167,18 @@ pub fn measure_strip(plan: &[u8], record: &[u8], symbols: &[u8], doubts: &[u8]) 
 /// and 10 exactly where no record is within the radius.
 pub fn read_strip(plan: &[u8], symbols: &[u8], doubts: &[u8], record: &mut [u8]) -> Result<Reading, Refusal> {
     read_by(ffi::traymark_read_strip, plan, symbols, doubts, record)
+}
+
+/// Explains why the expected `record` of a photographed strip did not come up. Where another record is the answer it goes
+/// into `other`, which has as many bytes as `record`; else `other` is left as it is. Refusals 1 2 3 13 4 5 6 7 8 9.
+pub fn explain_strip(
+    plan: &[u8],
+    record: &[u8],
+    symbols: &[u8],
+    doubts: &[u8],
+    other: &mut [u8],
+) -> Result<Reason, Refusal> {
+    explain_by(ffi::traymark_explain_strip, plan, record, symbols, doubts, other)
 }
 
 // Safety of the calls below: every pointer and its length come from one slice, and a `&mut` slice overlaps no other.
@@ -160,6 +223,30 @@ fn read_by(call: ffi::Read, plan: &[u8], symbols: &[u8], doubts: &[u8], record: 
     })
 }
 
+fn explain_by(
+    call: ffi::Explain,
+    plan: &[u8],
+    record: &[u8],
+    symbols: &[u8],
+    doubts: &[u8],
+    other: &mut [u8],
+) -> Result<Reason, Refusal> {
+    reason(unsafe {
+        call(
+            plan.as_ptr(),
+            plan.len(),
+            record.as_ptr(),
+            record.len(),
+            symbols.as_ptr(),
+            symbols.len(),
+            doubts.as_ptr(),
+            doubts.len(),
+            other.as_mut_ptr(),
+            other.len(),
+        )
+    })
+}
+
 fn accepted(number: u32) -> Result<(), Refusal> {
     match number {
         0 => Ok(()),
@@ -171,4 +258,14 @@ fn reading(raw: ffi::RawReading) -> Result<Reading, Refusal> {
     accepted(raw.number)?;
     let ffi::RawReading { cost, margin, changed, unread, class, .. } = raw;
     Ok(Reading { cost, margin, changed, unread, class })
+}
+
+fn reason(raw: ffi::RawReason) -> Result<Reason, Refusal> {
+    accepted(raw.number)?;
+    match raw.reason {
+        1 => Ok(Reason::Answer),
+        2 => Ok(Reason::Other { place: raw.place as usize }),
+        3 => Ok(Reason::Nothing { excess: raw.excess }),
+        _ => unreachable!("the library gives only these reasons"),
+    }
 }

@@ -1,7 +1,8 @@
-//! Each call through the wrapper: cases a, c and f of document 01, wrong and unread cells at once, strips, oblong marks, and a
-//! refusal of each call. Buffers that are to be written hold 9s before, so that it is seen when a refusal changes one.
+//! Each call through the wrapper: cases a, c and f of document 01, wrong and unread cells at once, strips, oblong marks, the
+//! three reasons, and a refusal of each call. Buffers that are to be written hold 9s before, so that it is seen when a refusal
+//! changes one.
 
-use traymark::{Reading, Refusal, OLD_PLAN_LENGTH, PLAN_LENGTH};
+use traymark::{Reading, Reason, Refusal, OLD_PLAN_LENGTH, PLAN_LENGTH};
 
 /// Plan A: season 12, p 7, 3 rows, 3 columns, d 1, points 1 2 4 each way.
 const PLAN: [u8; PLAN_LENGTH] = plan([0, 12, 7, 3, 3, 1], [1, 2, 4], [1, 2, 4]);
@@ -218,4 +219,56 @@ fn read_strip() {
     let mut record = [9];
     assert_eq!(traymark::read_strip(&STRIP_PLAN, &STRIP.0, &STRIP.1, &mut record), Ok(STRIP_READING));
     assert_eq!(record, [5]);
+}
+
+#[test]
+fn explain_mark() {
+    let explain = |record: [u8; 3], symbols: &[u8], doubts: &[u8]| {
+        let mut other = [9; 3];
+        (traymark::explain_mark(&PLAN, &record, symbols, doubts, &mut other), other)
+    };
+    for (symbols, doubts, _) in PHOTOS {
+        assert_eq!(explain(RECORD, &symbols, &doubts), (Ok(Reason::Answer), [9; 3]));
+        // the same first row, the same first column, another first cell
+        assert_eq!(explain([2, 2, 2], &symbols, &doubts), (Ok(Reason::Other { place: 3 }), RECORD));
+        assert_eq!(explain([1, 1, 4], &symbols, &doubts), (Ok(Reason::Other { place: 1 }), RECORD));
+        assert_eq!(explain([0, 0, 0], &symbols, &doubts), (Ok(Reason::Other { place: 0 }), RECORD));
+    }
+    assert_eq!(explain(RECORD, &CASE_D, &SURE), (Ok(Reason::Nothing { excess: 0 }), [9; 3]));
+    assert_eq!(explain([1, 0, 0], &CASE_D, &SURE), (Ok(Reason::Nothing { excess: 1_000 }), [9; 3]));
+    assert_eq!(explain(RECORD, &CASE_D[..8], &SURE), (Err(Refusal::BufferLength), [9; 3]));
+    assert_eq!(explain(RECORD, &[7; 9], &SURE), (Err(Refusal::Symbol), [9; 3]));
+    assert_eq!(explain(RECORD, &CASE_F, &SURE), (Err(Refusal::Doubt), [9; 3]));
+    assert_eq!(explain([3, 1, 7], &CASE_C, &SURE), (Err(Refusal::Coefficient), [9; 3]));
+    let mut longer = [9; 4];
+    assert_eq!(traymark::explain_mark(&PLAN, &RECORD, &CASE_C, &SURE, &mut longer), Err(Refusal::BufferLength));
+    assert_eq!(traymark::explain_mark(&[], &RECORD, &CASE_C, &SURE, &mut longer), Err(Refusal::PlanForm));
+}
+
+#[test]
+fn explain_strip() {
+    let explain = |plan: &[u8], record: &[u8], symbols: &[u8], doubts: &[u8]| {
+        let mut other = vec![9; record.len()];
+        (traymark::explain_strip(plan, record, symbols, doubts, &mut other), other)
+    };
+    assert_eq!(explain(&PLAN, &[3, 1], &[4, 5, 0], &[0; 3]), (Ok(Reason::Answer), vec![9; 2]));
+    // the same first cell, another first cell
+    assert_eq!(explain(&PLAN, &[2, 2], &[4, 5, 0], &[0; 3]), (Ok(Reason::Other { place: 1 }), vec![3, 1]));
+    assert_eq!(explain(&PLAN, &[0, 0], &[4, 5, 0], &[0; 3]), (Ok(Reason::Other { place: 0 }), vec![3, 1]));
+    assert_eq!(explain(&PLAN, &[3, 1], &[4, 5, 1], &[0; 3]), (Ok(Reason::Nothing { excess: 0 }), vec![9; 2]));
+    assert_eq!(explain(&PLAN, &[0, 0], &[4, 5, 1], &[0; 3]), (Ok(Reason::Nothing { excess: 400 }), vec![9; 2]));
+    assert_eq!(explain(&PLAN, &[3, 1, 2], &[4, 5, 1], &[0; 3]), (Err(Refusal::BufferLength), vec![9; 3]));
+    assert_eq!(explain(&PLAN, &[3, 7], &[4, 5, 1], &[0; 3]), (Err(Refusal::Coefficient), vec![9; 2]));
+    assert_eq!(explain(&STRIP_PLAN, &[5], &STRIP.0, &STRIP.1), (Ok(Reason::Answer), vec![9]));
+    assert_eq!(explain(&STRIP_PLAN, &[4], &STRIP.0, &STRIP.1), (Ok(Reason::Other { place: 0 }), vec![5]));
+}
+
+/// The marks have the first row of the answer's.
+#[test]
+fn explain_oblong_marks() {
+    for (Oblong { plan, mark, .. }, (record, place)) in OBLONGS.into_iter().zip([([2, 2, 2], 3), ([3, 2, 2], 2)]) {
+        let mut other = [9; 3];
+        let reason = traymark::explain_mark(&plan, &record, &mark, &[0; 6], &mut other);
+        assert_eq!((reason, other), (Ok(Reason::Other { place }), RECORD));
+    }
 }
