@@ -26,6 +26,34 @@ impl Reading {
     }
 }
 
+/// What explaining answers. Of a refusal everything but the number is 0.
+#[derive(Clone, Copy, Debug, Default, PartialEq, Eq)]
+pub struct Reason {
+    pub number: u32,
+    /// 1 the expected record is the answer, 2 another record is, 3 there is none
+    pub reason: u32,
+    pub place: u32,
+    pub excess: u32,
+}
+
+impl Reason {
+    pub fn refused(number: u32) -> Reason {
+        Reason { number, ..Reason::default() }
+    }
+
+    pub fn answer() -> Reason {
+        Reason { reason: 1, ..Reason::default() }
+    }
+
+    pub fn other(place: usize) -> Reason {
+        Reason { reason: 2, place: place as u32, ..Reason::default() }
+    }
+
+    pub fn nothing(excess: u32) -> Reason {
+        Reason { reason: 3, excess, ..Reason::default() }
+    }
+}
+
 /// Plans with at most as many records are read by going through all of them.
 pub const SEARCHED: u64 = 4096;
 
@@ -97,12 +125,51 @@ fn found(code: Code, plan: &[u8], symbols: &[u8], doubts: &[u8], room: usize) ->
     let plan = Plan::parse(plan)?;
     check_photograph(code, &plan, symbols, doubts, room)?;
     let (symbols, doubts) = (numbers(symbols), numbers(doubts));
-    let found = match exhaustive::records(code, &plan, SEARCHED) {
-        Some(_) => by_search(code, &plan, &symbols, &doubts),
-        None => by_equations(code, &plan, &symbols, &doubts),
-    };
-    let record = found.ok_or(10u32)?.record;
+    let record = nearest(code, &plan, &symbols, &doubts).ok_or(10u32)?.record;
     Ok((reading(code, &plan, &record, &symbols, &doubts), bytes(&record)))
+}
+
+pub fn explain(code: Code, plan: &[u8], record: &[u8], symbols: &[u8], doubts: &[u8], other: &mut [u8]) -> Reason {
+    match explained(code, plan, record, symbols, doubts, other.len()) {
+        Ok((reason, answer)) => {
+            if reason.reason == 2 {
+                other.copy_from_slice(&answer);
+            }
+            reason
+        }
+        Err(number) => Reason::refused(number),
+    }
+}
+
+/// The reason, and the record that is the answer where there is one.
+fn explained(
+    code: Code,
+    plan: &[u8],
+    record: &[u8],
+    symbols: &[u8],
+    doubts: &[u8],
+    room: usize,
+) -> Result<(Reason, Vec<u8>), u32> {
+    let plan = Plan::parse(plan)?;
+    check_lengths(&[(room, code.size(&plan))])?;
+    check_photograph(code, &plan, symbols, doubts, record.len())?;
+    check_record(&plan, record)?;
+    let [record, symbols, doubts] = [record, symbols, doubts].map(numbers);
+    let Some(answer) = nearest(code, &plan, &symbols, &doubts).map(|found| found.record) else {
+        let cost = reading(code, &plan, &record, &symbols, &doubts).cost;
+        return Ok((Reason::nothing(cost - code.radius(&plan)), Vec::new()));
+    };
+    let [word, expected] = [&answer, &record].map(|record| code.word(&plan, record));
+    let reason = (0..word.len()).find(|&cell| word[cell] != expected[cell]).map_or(Reason::answer(), Reason::other);
+    Ok((reason, bytes(&answer)))
+}
+
+/// The record within the radius.
+fn nearest(code: Code, plan: &Plan, symbols: &[u32], doubts: &[u32]) -> Option<Found> {
+    match exhaustive::records(code, plan, SEARCHED) {
+        Some(_) => by_search(code, plan, symbols, doubts),
+        None => by_equations(code, plan, symbols, doubts),
+    }
 }
 
 /// The record within the radius, by the method for small plans.
@@ -168,4 +235,36 @@ pub fn numbers(bytes: &[u8]) -> Vec<u32> {
 
 pub fn bytes(numbers: &[u32]) -> Vec<u8> {
     numbers.iter().map(|&number| number as u8).collect()
+}
+
+#[cfg(test)]
+mod tests {
+    use super::*;
+
+    /// p 7, d 1, points 1 2 4 each way.
+    const PLAN_A: [u8; PLAN] = {
+        let mut plan = [0; PLAN];
+        [plan[2], plan[3], plan[4], plan[5]] = [7, 3, 3, 1];
+        [plan[6], plan[7], plan[8]] = [1, 2, 4];
+        [plan[22], plan[23], plan[24]] = [1, 2, 4];
+        plan
+    };
+
+    /// The reason that is given for a record of a mark whose doubts are all 0, and what is left of a buffer of 9s.
+    fn explained(record: [u8; 3], symbols: [u8; 9]) -> (Reason, [u8; 3]) {
+        let mut other = [9; 3];
+        (explain(Code::Mark, &PLAN_A, &record, &symbols, &[0; 9], &mut other), other)
+    }
+
+    #[test]
+    fn a_record_is_the_answer_or_another_is_or_none() {
+        // the mark 6 1 5 0 2 6 2 4 1 of 3 + X + 2Y with two cells misread, and with three, which is the radius
+        let (two, three) = ([0, 1, 5, 0, 2, 6, 2, 4, 0], [0, 0, 0, 0, 2, 6, 2, 4, 1]);
+        assert_eq!(explained([3, 1, 2], two), (Reason::answer(), [9; 3]));
+        assert_eq!(explained([2, 2, 2], two), (Reason::other(3), [3, 1, 2]));
+        assert_eq!(explained([0, 0, 0], two), (Reason::other(0), [3, 1, 2]));
+        assert_eq!(explained([3, 1, 2], three), (Reason::nothing(0), [9; 3]));
+        assert_eq!(explained([1, 0, 0], three), (Reason::nothing(1_000), [9; 3]));
+        assert_eq!(explained([3, 1, 7], three), (Reason::refused(9), [9; 3]));
+    }
 }

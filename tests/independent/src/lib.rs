@@ -14,7 +14,7 @@ pub mod mark;
 pub mod plan;
 pub mod strip;
 
-pub use calls::{check_plan, find_plan, measure, read, widen_plans, write, Reading};
+pub use calls::{check_plan, explain, find_plan, measure, read, widen_plans, write, Reading, Reason};
 pub use code::Code;
 pub use plan::{Plan, OLD_PLAN, PLAN};
 
