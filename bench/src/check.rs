@@ -37,8 +37,8 @@ fn case(seed: u64, random: &mut Random, counts: &mut Counts) -> Result<(), Strin
 fn arguments(plan: &Plan, random: &mut Random) -> Arguments {
     let code = Code::Mark;
     let record = plans::record(code, plan, random);
-    let word = code.word(plan, &record);
-    let rival = rival(code, plan, &word, random);
+    let rival = rival(code, plan, &record, random);
+    let [word, rival] = [&record, &rival].map(|record| code.word(plan, record));
     let radius = code.radius(plan);
     let target = match random.below(4) {
         0 => 0,

@@ -56,8 +56,8 @@ pub fn marks(shape: Shape, kind: Kind, number: usize) -> Vec<Mark> {
     let radius = Code::Mark.radius(&plan);
     let mut mark = || {
         let record = plans::record(Code::Mark, &plan, random);
-        let word = Code::Mark.word(&plan, &record);
-        let rival = rival(Code::Mark, &plan, &word, random);
+        let rival = rival(Code::Mark, &plan, &record, random);
+        let [word, rival] = [&record, &rival].map(|record| Code::Mark.word(&plan, record));
         let mut photo = |cost: u32, place: Place, harm: Harm| {
             let damage = Damage { place, harm, towards_rival: matches!(kind, Kind::Rivals) };
             damaged(&plan, &word, &rival, cost, damage, random)

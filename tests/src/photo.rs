@@ -99,9 +99,9 @@ pub fn unread(code: Code, plan: &Plan) -> Photo {
     Photo { symbols: vec![UNREAD; cells], doubts: vec![FULL_DOUBT; cells] }
 }
 
-/// Another mark, or strip, at a small distance: the word plus a multiple of a product of d factors (X - x) and (Y - y).
-/// With factors along the smaller side alone it differs in as few cells as two marks can.
-pub fn rival(code: Code, plan: &Plan, word: &[u32], random: &mut Random) -> Vec<u32> {
+/// Another record whose mark, or strip, is at a small distance: a multiple of a product of d factors (X - x) and (Y - y) more.
+/// With factors along the smaller side alone the marks differ in as few cells as two can.
+pub fn rival(code: Code, plan: &Plan, record: &[u32], random: &mut Random) -> Vec<u32> {
     let d = plan.degree;
     let some = random.below(d + 1);
     let in_y = match code {
@@ -109,20 +109,32 @@ pub fn rival(code: Code, plan: &Plan, word: &[u32], random: &mut Random) -> Vec<
         Code::Mark if plan.rows() <= plan.columns() => random.pick(&[0, 0, d, some]),
         Code::Mark => random.pick(&[d, d, 0, some]),
     };
-    let x = product(plan.p, &plan.row_points, d - in_y, random);
-    let y = product(plan.p, &plan.column_points, in_y, random);
-    let factor = random.between(1, plan.p - 1);
-    let width = word.len() / plan.rows();
-    let value = |cell: usize| (word[cell] + factor * x[cell / width] % plan.p * y[cell % width]) % plan.p;
-    (0..word.len()).map(value).collect()
+    let [mut rows, mut columns] = [&plan.row_points, &plan.column_points].map(Vec::clone);
+    random.shuffle(&mut rows);
+    random.shuffle(&mut columns);
+    agreeing(code, plan, record, [&rows[..d - in_y], &columns[..in_y]], random)
 }
 
-/// The values at the points of a product of so many factors, each 0 at another of them.
-fn product(p: u32, points: &[u32], factors: usize, random: &mut Random) -> Vec<u32> {
-    let mut zeros = points.to_vec();
-    random.shuffle(&mut zeros);
-    let value = |point: &u32| zeros[..factors].iter().fold(1, |product, zero| product * (point + p - zero) % p);
-    points.iter().map(value).collect()
+/// Another record whose mark has the same values in these rows and columns, d at most, which are named by their points, and
+/// outside of them no value that is the same.
+pub fn agreeing(code: Code, plan: &Plan, record: &[u32], zeros: [&[u32]; 2], random: &mut Random) -> Vec<u32> {
+    let [x, y] = zeros.map(|zeros| product(plan, zeros));
+    let factor = random.between(1, plan.p - 1);
+    let coefficient = |factors: &[u32], power: usize| factors.get(power).copied().unwrap_or(0);
+    let more = |(i, j): (usize, usize)| factor * coefficient(&x, i) % plan.p * coefficient(&y, j) % plan.p;
+    let terms = code.monomials(plan).into_iter().zip(record);
+    terms.map(|(powers, c)| (c + more(powers)) % plan.p).collect()
+}
+
+/// The coefficients, lowest power first, of the product of the factors that are 0 at these points.
+fn product(plan: &Plan, zeros: &[u32]) -> Vec<u32> {
+    let mut product = vec![1];
+    for zero in zeros {
+        let shifted = [&[0], &product[..]].concat();
+        product.push(0);
+        product = shifted.iter().zip(&product).map(|(up, c)| (up + (plan.p - zero) * c) % plan.p).collect();
+    }
+    product
 }
 
 /// The cells in the order of damage. A strip is one column.

@@ -238,8 +238,9 @@ fn photographs() -> Vec<Input> {
 }
 
 fn photographed(plan: &Plan, cost: u32, random: &mut Random) -> Vec<u8> {
-    let word = Code::Mark.word(plan, &plans::record(Code::Mark, plan, random));
-    let rival = rival(Code::Mark, plan, &word, random);
+    let record = plans::record(Code::Mark, plan, random);
+    let rival = rival(Code::Mark, plan, &record, random);
+    let [word, rival] = [&record, &rival].map(|record| Code::Mark.word(plan, record));
     let photo = photograph(plan, &word, &rival, cost, random);
     joined(&[&plan.bytes(), &bytes(&photo.symbols), &bytes(&photo.doubts)])
 }

@@ -74,8 +74,8 @@ fn costing(
     counts: &mut Counts,
 ) -> Result<(), String> {
     let record = plans::record(code, plan, random);
-    let word = code.word(plan, &record);
-    let rival = rival(code, plan, &word, random);
+    let rival = rival(code, plan, &record, random);
+    let [word, rival] = [&record, &rival].map(|record| code.word(plan, record));
     let photo = match target {
         None => noise(code, plan, random),
         Some(cost) => photograph(plan, &word, &rival, cost, random),

@@ -133,8 +133,8 @@ fn arguments(code: Code, plan: &Plan, random: &mut Random) -> Arguments {
 /// A record, and a photograph of it that costs so much.
 fn photographed(given: &mut Arguments, plan: &Plan, cost: u32, random: &mut Random) {
     let record = plans::record(given.code, plan, random);
-    let word = given.code.word(plan, &record);
-    let rival = rival(given.code, plan, &word, random);
+    let rival = rival(given.code, plan, &record, random);
+    let [word, rival] = [&record, &rival].map(|record| given.code.word(plan, record));
     let photo = photograph(plan, &word, &rival, cost, random);
     given.record = bytes(&record);
     given.symbols = bytes(&photo.symbols);

@@ -13,16 +13,17 @@ pub fn case(_: u64, random: &mut Random, counts: &mut Counts) -> Result<(), Stri
     let plan = plans::plan(random.pick(plans::shapes()), random);
     let record = plans::record(Code::Mark, &plan, random);
     let word = Code::Mark.word(&plan, &record);
-    alike(&plan, &word, random, counts)?;
+    alike(&plan, &record, random, counts)?;
     unlike(&plan, &record, &word, random, counts)
 }
 
 /// A photograph of any cost up to beyond the radius, and the same with rows and columns exchanged.
-fn alike(plan: &Plan, word: &[u32], random: &mut Random, counts: &mut Counts) -> Result<(), String> {
-    let rival = rival(Code::Mark, plan, word, random);
+fn alike(plan: &Plan, record: &[u32], random: &mut Random, counts: &mut Counts) -> Result<(), String> {
+    let rival = rival(Code::Mark, plan, record, random);
+    let [word, rival] = [record, &rival].map(|record| Code::Mark.word(plan, record));
     let radius = Code::Mark.radius(plan);
     let cost = random.pick(&[0, radius / 2, radius - 1, radius, radius + 1]);
-    let photo = photograph(plan, word, &rival, cost, random);
+    let photo = photograph(plan, &word, &rival, cost, random);
     let given = arguments(plan, &photo.symbols, &photo.doubts, random);
     let [symbols, doubts] = [&photo.symbols, &photo.doubts].map(|cells| exchanged(plan, cells));
     let mirrored = arguments(&plan.swapped(), &symbols, &doubts, random);
