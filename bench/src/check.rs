@@ -28,7 +28,7 @@ fn case(seed: u64, random: &mut Random, counts: &mut Counts) -> Result<(), Strin
                 return Err(format!("{name} {call:?} gave {outcome:?}, expected {expected:?}; {given:?}"));
             }
         }
-        counts.answer(call, &given, expected.reading);
+        counts.answer(call, &given, &expected);
     }
     Ok(())
 }
@@ -57,6 +57,7 @@ fn arguments(plan: &Plan, random: &mut Random) -> Arguments {
         symbols: bytes(&photo.symbols),
         doubts: bytes(&photo.doubts),
         mark: random.bytes(word.len()),
+        other: random.bytes(record.len()),
     }
 }
 
@@ -83,18 +84,14 @@ fn outcome<R: Reduction>(call: Call, given: &Arguments) -> Outcome {
         Call::Write => {
             let mut buffer = mark.clone();
             let number = port::write_mark::<R>(plan, record, &mut buffer).map_or_else(Refusal::number, |()| 0);
-            Outcome { reading: Reading::refused(number), buffer }
+            Outcome::numbered(number, buffer)
         }
-        Call::Measure => {
-            let reading = reading(port::measure_mark::<R>(plan, record, symbols, doubts));
-            Outcome { reading, buffer: Vec::new() }
-        }
+        Call::Measure => Outcome::read(reading(port::measure_mark::<R>(plan, record, symbols, doubts)), Vec::new()),
         Call::Read => {
             let mut buffer = record.clone();
-            let reading = reading(port::read_mark::<R>(plan, symbols, doubts, &mut buffer));
-            Outcome { reading, buffer }
+            Outcome::read(reading(port::read_mark::<R>(plan, symbols, doubts, &mut buffer)), buffer)
         }
-        Call::Check => unreachable!("the ports have no such call"),
+        Call::Check | Call::Explain => unreachable!("the ports have no such call"),
     }
 }
 

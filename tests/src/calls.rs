@@ -3,9 +3,10 @@
 use crate::counts::Counts;
 use crate::library;
 use crate::random::Random;
-use independent::{Code, Reading};
+use independent::{Code, Reading, Reason};
 
-/// All that a call on a plan can be given. `record` is the given record, or for reading the buffer for one.
+/// All that a call on a plan can be given. `record` is the given record, or for reading the buffer for one; `other` is the
+/// buffer for another record that explaining takes.
 #[derive(Clone, Debug)]
 pub struct Arguments {
     pub code: Code,
@@ -14,6 +15,7 @@ pub struct Arguments {
     pub symbols: Vec<u8>,
     pub doubts: Vec<u8>,
     pub mark: Vec<u8>,
+    pub other: Vec<u8>,
 }
 
 /// The calls on a plan.
@@ -23,37 +25,56 @@ pub enum Call {
     Write,
     Measure,
     Read,
+    Explain,
 }
 
 impl Call {
-    pub const ALL: [Call; 4] = [Call::Check, Call::Write, Call::Measure, Call::Read];
+    pub const ALL: [Call; 5] = [Call::Check, Call::Write, Call::Measure, Call::Read, Call::Explain];
 }
 
-/// What a call answers, and what the buffer that it writes holds afterwards.
+/// What a call answers, and what the buffer that it writes holds afterwards. The number is in the reading, whatever the call;
+/// the reason is what explaining answers.
 #[derive(Clone, Debug, PartialEq, Eq)]
 pub struct Outcome {
     pub reading: Reading,
+    pub reason: Reason,
     pub buffer: Vec<u8>,
+}
+
+impl Outcome {
+    /// Of a call that answers with a number.
+    pub fn numbered(number: u32, buffer: Vec<u8>) -> Outcome {
+        Outcome::read(Reading::refused(number), buffer)
+    }
+
+    /// Of measuring or reading.
+    pub fn read(reading: Reading, buffer: Vec<u8>) -> Outcome {
+        Outcome { reading, reason: Reason::default(), buffer }
+    }
+
+    /// Of explaining.
+    pub fn explained(reason: Reason, buffer: Vec<u8>) -> Outcome {
+        Outcome { reading: Reading::refused(reason.number), reason, buffer }
+    }
 }
 
 /// What document 01 says, by the independent decoder.
 pub fn expected(call: Call, given: &Arguments) -> Outcome {
-    let Arguments { code, plan, record, symbols, doubts, mark } = given;
+    let Arguments { code, plan, record, symbols, doubts, mark, other } = given;
     match call {
-        Call::Check => Outcome { reading: Reading::refused(independent::check_plan(plan)), buffer: Vec::new() },
+        Call::Check => Outcome::numbered(independent::check_plan(plan), Vec::new()),
         Call::Write => {
             let mut buffer = mark.clone();
-            let number = independent::write(*code, plan, record, &mut buffer);
-            Outcome { reading: Reading::refused(number), buffer }
+            Outcome::numbered(independent::write(*code, plan, record, &mut buffer), buffer)
         }
-        Call::Measure => {
-            let reading = independent::measure(*code, plan, record, symbols, doubts);
-            Outcome { reading, buffer: Vec::new() }
-        }
+        Call::Measure => Outcome::read(independent::measure(*code, plan, record, symbols, doubts), Vec::new()),
         Call::Read => {
             let mut buffer = record.clone();
-            let reading = independent::read(*code, plan, symbols, doubts, &mut buffer);
-            Outcome { reading, buffer }
+            Outcome::read(independent::read(*code, plan, symbols, doubts, &mut buffer), buffer)
+        }
+        Call::Explain => {
+            let mut buffer = other.clone();
+            Outcome::explained(independent::explain(*code, plan, record, symbols, doubts, &mut buffer), buffer)
         }
     }
 }
@@ -65,6 +86,6 @@ pub fn hold(call: Call, given: &Arguments, random: &mut Random, counts: &mut Cou
     if outcome != expected {
         return Err(format!("{call:?} gave {outcome:?}, expected {expected:?}; {given:?}"));
     }
-    counts.answer(call, given, outcome.reading);
+    counts.answer(call, given, &outcome);
     Ok(outcome)
 }

@@ -1,7 +1,9 @@
 //! What was seen, so that tests that test nothing show.
 
-use crate::calls::{Arguments, Call};
-use independent::{Code, Reading};
+use crate::calls::{Arguments, Call, Outcome};
+use independent::plan::is_prime;
+use independent::{Code, Reason};
+use std::collections::BTreeMap;
 use std::fmt;
 
 #[derive(Clone, Debug, Default)]
@@ -28,13 +30,23 @@ pub struct Counts {
     pub unsound_first: u64,
     /// plans widened
     pub widened: u64,
+    /// explanations by p and reason
+    pub reasons: BTreeMap<(u8, u32), u64>,
+    /// of those with another answer these whose marks differ at the first cell, at the last, and as late as two marks can
+    pub at_first: u64,
+    pub at_last: u64,
+    pub at_latest: u64,
+    /// of those without an answer these whose record costs R, and R + 1
+    pub excess_0: u64,
+    pub excess_1: u64,
     /// answers by number, and accepted readings and measurements by class
     pub numbers: [u64; 14],
     pub classes: [u64; 4],
 }
 
 impl Counts {
-    pub fn answer(&mut self, call: Call, given: &Arguments, reading: Reading) {
+    pub fn answer(&mut self, call: Call, given: &Arguments, outcome: &Outcome) {
+        let reading = outcome.reading;
         self.number(reading.number);
         let mixed = u64::from(reading.changed > 0 && reading.unread > 0);
         match (call, given.code, reading.number) {
@@ -48,11 +60,27 @@ impl Counts {
                 self.strips += 1;
                 self.mixed_strips += mixed;
             }
+            (Call::Explain, _, 0) => self.reason(given, outcome.reason),
             _ => (),
         }
         if matches!(call, Call::Measure | Call::Read) && reading.number == 0 {
             self.classes[reading.class as usize] += 1;
         }
+    }
+
+    fn reason(&mut self, given: &Arguments, Reason { reason, place, excess, .. }: Reason) {
+        let [p, rows, columns, d] = [given.plan[2], given.plan[3], given.plan[4], given.plan[5]];
+        let row = match given.code {
+            Code::Strip => 1,
+            Code::Mark => u32::from(columns),
+        };
+        *self.reasons.entry((p, reason)).or_default() += 1;
+        let with_other = |at: u32| u64::from(reason == 2 && place == at);
+        self.at_first += with_other(0);
+        self.at_last += with_other(u32::from(rows) * row - 1);
+        self.at_latest += with_other(u32::from(d) * row);
+        self.excess_0 += u64::from(reason == 3 && excess == 0);
+        self.excess_1 += u64::from(reason == 3 && excess == 1);
     }
 
     /// What a photograph costs against the mark that it is of.
@@ -82,6 +110,14 @@ impl Counts {
         self.first_of_several += other.first_of_several;
         self.unsound_first += other.unsound_first;
         self.widened += other.widened;
+        for (&key, n) in &other.reasons {
+            *self.reasons.entry(key).or_default() += n;
+        }
+        self.at_first += other.at_first;
+        self.at_last += other.at_last;
+        self.at_latest += other.at_latest;
+        self.excess_0 += other.excess_0;
+        self.excess_1 += other.excess_1;
         self.numbers.iter_mut().zip(other.numbers).for_each(|(sum, n)| *sum += n);
         self.classes.iter_mut().zip(other.classes).for_each(|(sum, n)| *sum += n);
     }
@@ -100,11 +136,33 @@ impl Counts {
             (self.first_of_several < 1_500, "fewer than 1,500 plans found before others of their season"),
             (self.unsound_first < 40, "fewer than 40 unsound plans found before sound ones of their season"),
             (self.widened < 50_000, "fewer than 50,000 plans widened"),
+            (self.reasons_unseen() > 0, "a prime without one of the three reasons"),
+            (
+                self.explained().into_iter().any(|n| n < 100_000),
+                "fewer than 100,000 explanations with one of the reasons",
+            ),
+            (self.at_first < 100_000, "fewer than 100,000 answers that differ at the first cell"),
+            (self.at_last < 5_000, "fewer than 5,000 answers that differ at the last cell alone"),
+            (self.at_latest < 50_000, "fewer than 50,000 answers that differ as late as two marks can"),
+            (self.excess_0 < 50_000, "fewer than 50,000 expected records at the radius"),
+            (self.excess_1 < 25_000, "fewer than 25,000 expected records one above the radius"),
             (self.numbers.contains(&0), "a number that was never answered"),
             (self.classes.contains(&0), "a class that was never answered"),
         ]
         .into_iter()
         .find_map(|(missing, what)| missing.then_some(what))
+    }
+
+    /// Explanations by reason.
+    fn explained(&self) -> [u64; 3] {
+        let number = |k| self.reasons.iter().filter(|((_, reason), _)| *reason == k).map(|(_, n)| n).sum();
+        [1, 2, 3].map(number)
+    }
+
+    /// How many reasons were never given, of all primes.
+    fn reasons_unseen(&self) -> usize {
+        let primes = (2..=251).filter(|&p| is_prime(p));
+        primes.flat_map(|p| [1, 2, 3].map(|k| (p, k))).filter(|key| !self.reasons.contains_key(key)).count()
     }
 }
 
@@ -115,7 +173,8 @@ impl fmt::Display for Counts {
             f,
             "{} calls, {} marks, {} of them oblong, {} strips; others exchanged: {}; changed and unread at once: {} {}; \
              cost R - 1, R, R + 1: {} {} {}; both methods: {}; first of several plans: {}, unsound before sound: {}; \
-             widened: {}; numbers: {}; classes: {}",
+             widened: {}; reasons: {}; other at the first, the last, the latest cell: {} {} {}; excess 0, 1: {} {}; \
+             numbers: {}; classes: {}",
             self.calls,
             self.marks,
             self.oblongs,
@@ -130,6 +189,12 @@ impl fmt::Display for Counts {
             self.first_of_several,
             self.unsound_first,
             self.widened,
+            list(&self.explained()),
+            self.at_first,
+            self.at_last,
+            self.at_latest,
+            self.excess_0,
+            self.excess_1,
             list(&self.numbers),
             list(&self.classes)
         )

@@ -4,8 +4,9 @@
 use crate::calls::{Arguments, Call, Outcome};
 use crate::lent::Lent;
 use crate::random::Random;
-use independent::{Code, Reading};
-use traymark::ffi::{self, Measure, RawReading, Read, Write};
+use independent::{Code, Reading, Reason};
+use std::fmt::Debug;
+use traymark::ffi::{self, Explain, Measure, RawReading, RawReason, Read, Write};
 use traymark::Refusal;
 
 /// What the library answers and leaves.
@@ -15,6 +16,7 @@ pub fn outcome(call: Call, given: &Arguments, random: &mut Random) -> Result<Out
         Call::Write => write(given, random),
         Call::Measure => measure(given, random),
         Call::Read => read(given, random),
+        Call::Explain => explain(given, random),
     }
 }
 
@@ -22,9 +24,9 @@ fn check(given: &Arguments, random: &mut Random) -> Result<Outcome, String> {
     let plan = Lent::new(&given.plan, random);
     let raw = unsafe { ffi::traymark_check_plan(plan.bytes().as_ptr(), plan.bytes().len()) };
     untouched(&[&plan])?;
-    alike(Reading::refused(raw), || refused(traymark::check_plan(plan.bytes())))?;
+    alike(raw, raw, || refused(traymark::check_plan(plan.bytes())))?;
     untouched(&[&plan])?;
-    Ok(Outcome { reading: Reading::refused(raw), buffer: Vec::new() })
+    Ok(Outcome::numbered(raw, Vec::new()))
 }
 
 fn write(given: &Arguments, random: &mut Random) -> Result<Outcome, String> {
@@ -38,11 +40,11 @@ fn write(given: &Arguments, random: &mut Random) -> Result<Outcome, String> {
         let (plan, record, mark) = (plan.bytes(), record.bytes(), mark.bytes_mut());
         unsafe { by_c(plan.as_ptr(), plan.len(), record.as_ptr(), record.len(), mark.as_mut_ptr(), mark.len()) }
     };
-    let outcome = Outcome { reading: Reading::refused(number), buffer: mark.bytes().to_vec() };
+    let outcome = Outcome::numbered(number, mark.bytes().to_vec());
     guarded(&mark)?;
     untouched(&[&plan, &record])?;
     mark.restore();
-    alike(outcome.reading, || refused(by_rust(plan.bytes(), record.bytes(), mark.bytes_mut())))?;
+    alike(number, number, || refused(by_rust(plan.bytes(), record.bytes(), mark.bytes_mut())))?;
     guarded(&mark)?;
     untouched(&[&plan, &record])?;
     same_buffer(&outcome, &mark)?;
@@ -69,9 +71,9 @@ fn measure(given: &Arguments, random: &mut Random) -> Result<Outcome, String> {
         )
     };
     untouched(&lent.each_ref())?;
-    alike(reading(raw), || answered(by_rust(plan, record, symbols, doubts)))?;
+    alike(raw.number, reading(raw), || answered(by_rust(plan, record, symbols, doubts)))?;
     untouched(&lent.each_ref())?;
-    Ok(Outcome { reading: reading(raw), buffer: Vec::new() })
+    Ok(Outcome::read(reading(raw), Vec::new()))
 }
 
 fn read(given: &Arguments, random: &mut Random) -> Result<Outcome, String> {
@@ -95,14 +97,48 @@ fn read(given: &Arguments, random: &mut Random) -> Result<Outcome, String> {
             buffer.len(),
         )
     };
-    let outcome = Outcome { reading: reading(raw), buffer: buffer.to_vec() };
+    let outcome = Outcome::read(reading(raw), buffer.to_vec());
     guarded(&record)?;
     untouched(&lent.each_ref())?;
     record.restore();
-    alike(outcome.reading, || answered(by_rust(plan, symbols, doubts, record.bytes_mut())))?;
+    alike(raw.number, outcome.reading, || answered(by_rust(plan, symbols, doubts, record.bytes_mut())))?;
     guarded(&record)?;
     untouched(&lent.each_ref())?;
     same_buffer(&outcome, &record)?;
+    Ok(outcome)
+}
+
+fn explain(given: &Arguments, random: &mut Random) -> Result<Outcome, String> {
+    let lent = [&given.plan, &given.record, &given.symbols, &given.doubts].map(|bytes| Lent::new(bytes, random));
+    let [plan, record, symbols, doubts] = [0, 1, 2, 3].map(|k| lent[k].bytes());
+    let mut other = Lent::new(&given.other, random);
+    let (by_c, by_rust): (Explain, ExplainSafe) = match given.code {
+        Code::Strip => (ffi::traymark_explain_strip, traymark::explain_strip),
+        Code::Mark => (ffi::traymark_explain_mark, traymark::explain_mark),
+    };
+    let buffer = other.bytes_mut();
+    let raw = unsafe {
+        by_c(
+            plan.as_ptr(),
+            plan.len(),
+            record.as_ptr(),
+            record.len(),
+            symbols.as_ptr(),
+            symbols.len(),
+            doubts.as_ptr(),
+            doubts.len(),
+            buffer.as_mut_ptr(),
+            buffer.len(),
+        )
+    };
+    let outcome = Outcome::explained(reason(raw)?, buffer.to_vec());
+    guarded(&other)?;
+    untouched(&lent.each_ref())?;
+    other.restore();
+    alike(raw.number, outcome.reason, || told(by_rust(plan, record, symbols, doubts, other.bytes_mut())))?;
+    guarded(&other)?;
+    untouched(&lent.each_ref())?;
+    same_buffer(&outcome, &other)?;
     Ok(outcome)
 }
 
@@ -117,7 +153,7 @@ pub fn find(file: &[u8], season: u16, random: &mut Random) -> Result<(u32, usize
         return Err(format!("found a plan at {offset}, beyond the file"));
     }
     let mut part: &[u8] = &[];
-    alike(Reading::refused(number), || refused(traymark::find_plan(bytes, season).map(|found| part = found)))?;
+    alike(number, number, || refused(traymark::find_plan(bytes, season).map(|found| part = found)))?;
     if number == 0 && part.as_ptr_range() != bytes[offset..offset + traymark::PLAN_LENGTH].as_ptr_range() {
         return Err("the wrapper's part is not that part of the file".into());
     }
@@ -132,11 +168,11 @@ pub fn widen(old: &[u8], wide: &[u8], random: &mut Random) -> Result<(u32, Vec<u
         let (old, wide) = (old.bytes(), wide.bytes_mut());
         unsafe { ffi::traymark_widen_plans(old.as_ptr(), old.len(), wide.as_mut_ptr(), wide.len()) }
     };
-    let outcome = Outcome { reading: Reading::refused(number), buffer: wide.bytes().to_vec() };
+    let outcome = Outcome::numbered(number, wide.bytes().to_vec());
     guarded(&wide)?;
     untouched(&[&old])?;
     wide.restore();
-    alike(outcome.reading, || refused(traymark::widen_plans(old.bytes(), wide.bytes_mut())))?;
+    alike(number, number, || refused(traymark::widen_plans(old.bytes(), wide.bytes_mut())))?;
     guarded(&wide)?;
     untouched(&[&old])?;
     same_buffer(&outcome, &wide)?;
@@ -146,14 +182,24 @@ pub fn widen(old: &[u8], wide: &[u8], random: &mut Random) -> Result<(u32, Vec<u
 type WriteSafe = fn(&[u8], &[u8], &mut [u8]) -> Result<(), Refusal>;
 type MeasureSafe = fn(&[u8], &[u8], &[u8], &[u8]) -> Result<traymark::Reading, Refusal>;
 type ReadSafe = fn(&[u8], &[u8], &[u8], &mut [u8]) -> Result<traymark::Reading, Refusal>;
+type ExplainSafe = fn(&[u8], &[u8], &[u8], &[u8], &mut [u8]) -> Result<traymark::Reason, Refusal>;
 
 fn reading(raw: RawReading) -> Reading {
     let RawReading { number, cost, margin, changed, unread, class } = raw;
     Reading { number, cost, margin, changed, unread, class }
 }
 
-fn refused(answer: Result<(), Refusal>) -> Reading {
-    Reading::refused(answer.err().map_or(0, Refusal::number))
+/// The wrapper knows three reasons.
+fn reason(raw: RawReason) -> Result<Reason, String> {
+    let RawReason { number, reason, place, excess } = raw;
+    if number == 0 && !(1..=3).contains(&reason) {
+        return Err(format!("gave the reason {reason}"));
+    }
+    Ok(Reason { number, reason, place, excess })
+}
+
+fn refused(answer: Result<(), Refusal>) -> u32 {
+    answer.err().map_or(0, Refusal::number)
 }
 
 fn answered(answer: Result<traymark::Reading, Refusal>) -> Reading {
@@ -165,10 +211,19 @@ fn answered(answer: Result<traymark::Reading, Refusal>) -> Reading {
     }
 }
 
+fn told(answer: Result<traymark::Reason, Refusal>) -> Reason {
+    match answer {
+        Ok(traymark::Reason::Answer) => Reason::answer(),
+        Ok(traymark::Reason::Other { place }) => Reason::other(place),
+        Ok(traymark::Reason::Nothing { excess }) => Reason::nothing(excess),
+        Err(refusal) => Reason::refused(refusal.number()),
+    }
+}
+
 /// The wrapper's answer is the call's. It is asked only where the number is one that it knows.
-fn alike(raw: Reading, wrapped: impl FnOnce() -> Reading) -> Result<(), String> {
-    if raw.number != 0 && Refusal::from_number(raw.number).is_none() {
-        return Err(format!("gave the number {}", raw.number));
+fn alike<A: PartialEq + Debug>(number: u32, raw: A, wrapped: impl FnOnce() -> A) -> Result<(), String> {
+    if number != 0 && Refusal::from_number(number).is_none() {
+        return Err(format!("gave the number {number}"));
     }
     let wrapped = wrapped();
     if wrapped != raw {

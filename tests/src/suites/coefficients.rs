@@ -36,13 +36,14 @@ fn alone(plan: &Plan, k: usize, j: usize, random: &mut Random, counts: &mut Coun
         symbols: mark.clone(),
         doubts: vec![0; mark.len()],
         mark: random.bytes(mark.len()),
+        other: random.bytes(record.len()),
     };
     let to_read = Arguments { record: random.bytes(record.len()), ..given.clone() };
     for (call, given, buffer) in
         [(Call::Write, &given, mark), (Call::Measure, &given, Vec::new()), (Call::Read, &to_read, record)]
     {
         let answer = outcome(call, given, random)?;
-        counts.answer(call, given, answer.reading);
+        counts.answer(call, given, &answer);
         if answer.reading.number != 0 || answer.reading.cost != 0 || answer.buffer != buffer {
             return Err(format!("{call:?} gave {answer:?}, expected {buffer:?}; {given:?}"));
         }

@@ -1,13 +1,14 @@
-//! Photographs of planted records: each is written, measured and read. Whatever costs under the radius must come
+//! Photographs of planted records: each is written, measured, read and explained. Whatever costs under the radius must come
 //! back, and where something costs exactly the radius nothing may: two records cost twice the radius together at
 //! least.
 
 use independent::calls::{by_equations, bytes, numbers, SEARCHED};
 use independent::cost::cost;
 use independent::plan::is_prime;
-use independent::{exhaustive, Code, Plan, FULL_DOUBT};
+use independent::{exhaustive, Code, Plan, Reason, FULL_DOUBT};
 use traymark_tests::calls::{hold, Arguments, Call, Outcome};
 use traymark_tests::counts::Counts;
+use traymark_tests::library::outcome;
 use traymark_tests::photo::{noise, photograph, rival, Photo};
 use traymark_tests::plans::{self, Shape, LARGE_OBLONGS, LARGE_SQUARES};
 use traymark_tests::random::Random;
@@ -74,8 +75,8 @@ fn costing(
     counts: &mut Counts,
 ) -> Result<(), String> {
     let record = plans::record(code, plan, random);
-    let rival = rival(code, plan, &record, random);
-    let [word, rival] = [&record, &rival].map(|record| code.word(plan, record));
+    let rival_record = rival(code, plan, &record, random);
+    let [word, rival] = [&record, &rival_record].map(|record| code.word(plan, record));
     let photo = match target {
         None => noise(code, plan, random),
         Some(cost) => photograph(plan, &word, &rival, cost, random),
@@ -87,14 +88,19 @@ fn costing(
         symbols: bytes(&photo.symbols),
         doubts: bytes(&photo.doubts),
         mark: random.bytes(code.cells(plan)),
+        other: random.bytes(code.size(plan)),
     };
     hold(Call::Write, &given, random, counts)?;
-    hold(Call::Measure, &given, random, counts)?;
-    let other = Arguments { record: bytes(&plans::record(code, plan, random)), ..given.clone() };
-    hold(Call::Measure, &other, random, counts)?;
+    let expected = [record, rival_record, plans::record(code, plan, random)];
     let given = Arguments { record: random.bytes(code.size(plan)), ..given };
     let outcome = hold(Call::Read, &given, random, counts)?;
     both_methods(code, plan, &photo, &outcome, counts)?;
+    for record in &expected {
+        let given = Arguments { record: bytes(record), ..given.clone() };
+        explained(&given, plan, &outcome, random, counts)?;
+    }
+    let given = Arguments { record: bytes(&expected[random.below(3)]), ..given };
+    hold(Call::Explain, &given, random, counts)?;
     theory(code, plan, &photo, &[&word, &rival], &outcome).map_err(|what| format!("{what}; {given:?}"))
 }
 
@@ -128,6 +134,36 @@ fn both_methods(code: Code, plan: &Plan, photo: &Photo, outcome: &Outcome, count
         return Err(format!("the independent methods give {searched:?} and {solved:?}; {plan:?} {photo:?}"));
     }
     Ok(())
+}
+
+/// Measuring a record, and explaining it, which says what follows from that and from what was read.
+fn explained(
+    given: &Arguments,
+    plan: &Plan,
+    read: &Outcome,
+    random: &mut Random,
+    counts: &mut Counts,
+) -> Result<(), String> {
+    let measured = hold(Call::Measure, given, random, counts)?.reading;
+    let outcome = outcome(Call::Explain, given, random)?;
+    counts.answer(Call::Explain, given, &outcome);
+    let follows = match read.reading.number {
+        0 if measured.margin > 0 => Outcome::explained(Reason::answer(), given.other.clone()),
+        0 => Outcome::explained(Reason::other(first_difference(given, plan, read)?), read.buffer.clone()),
+        _ => Outcome::explained(Reason::nothing(-measured.margin as u32), given.other.clone()),
+    };
+    let is_read = read.reading.number == 0 && read.buffer == given.record;
+    if outcome != follows || is_read != (measured.margin > 0) {
+        return Err(format!("explained {outcome:?}, measured {measured:?} and read {read:?}; {given:?}"));
+    }
+    Ok(())
+}
+
+/// The lowest place at which the marks of the given record and of the one that was read differ.
+fn first_difference(given: &Arguments, plan: &Plan, read: &Outcome) -> Result<usize, String> {
+    let [expected, answer] = [&given.record, &read.buffer].map(|record| given.code.word(plan, &numbers(record)));
+    let place = expected.iter().zip(&answer).position(|(value, other)| value != other);
+    place.ok_or_else(|| format!("the record that was read has the mark of another; {given:?}"))
 }
 
 /// What must be answered by the theory alone, where one of these words costs the radius or less.

@@ -1,15 +1,16 @@
 //! Cases a to l of document 01, with unread cells counted apart from changed ones, the table of oblong marks, and some more
-//! whose answers were worked out by hand.
+//! whose answers were worked out by hand, explanations among them.
 
 use independent::Code::{self, Mark, Strip};
-use independent::{Reading, PLAN};
+use independent::{Reading, Reason, PLAN};
 use std::array::from_fn;
 use std::ops::Range;
 use traymark_tests::calls::{hold, Arguments, Call, Outcome};
 use traymark_tests::counts::Counts;
 use traymark_tests::random::Random;
+use Why::{Answer, Nothing, Other, Refused};
 
-pub const CASES: u64 = 100;
+pub const CASES: u64 = 140;
 
 /// A call and its outcome as the document says it.
 struct Row {
@@ -35,6 +36,7 @@ fn rows() -> Vec<Row> {
     let mut rows = lettered();
     rows.extend(oblongs());
     rows.extend(more());
+    rows.extend(explanations());
     rows
 }
 
@@ -197,6 +199,74 @@ fn more() -> Vec<Row> {
     ]
 }
 
+/// Explanations worked out by hand.
+#[rustfmt::skip]
+fn explanations() -> Vec<Row> {
+    let (a, w, t) = (plan_a(), plan_w(), plan_t());
+    let (plan_h, plan_j) = (plan(2, 1, 0, &[0]), plan(2, 2, 1, &[0, 1]));
+    let plan_d2 = plan(7, 3, 2, &[1, 2, 4]);
+    let case_c = [0, 1, 5, 0, 2, 6, 2, 4, 0];
+    let case_d = [0, 0, 0, 0, 2, 6, 2, 4, 1];
+    let case_e = [1, 1, 1, 0, 0, 0, 0, 0, 0];
+    let (unread_5, unread_6) = (unread(MARK, 0..5), unread(MARK, 0..6));
+    let halves = from_fn::<u8, 256, _>(|cell| if cell < 128 { 8 } else { 7 });
+    let eight_8s = from_fn::<u8, 256, _>(|cell| if cell < 8 { 8 } else { 7 });
+    vec![
+        // case c: the answer; the same first row, the same first column, another first cell
+        explain(Mark, &a, &[3, 1, 2], &case_c, &SURE, Answer),
+        explain(Mark, &a, &[2, 2, 2], &case_c, &SURE, Other(&[3, 1, 2], 3)),
+        explain(Mark, &a, &[1, 1, 4], &case_c, &SURE, Other(&[3, 1, 2], 1)),
+        explain(Mark, &a, &[0, 0, 0], &case_c, &SURE, Other(&[3, 1, 2], 0)),
+        // the first coefficient is the answer's, or the last two are
+        explain(Mark, &a, &[3, 0, 0], &case_c, &SURE, Other(&[3, 1, 2], 0)),
+        explain(Mark, &a, &[4, 1, 2], &case_c, &SURE, Other(&[3, 1, 2], 0)),
+        // case d costs the radius, case e three less
+        explain(Mark, &a, &[3, 1, 2], &case_d, &SURE, Nothing(0)),
+        explain(Mark, &a, &[0, 0, 0], &case_d, &SURE, Nothing(400)),
+        explain(Mark, &a, &[1, 0, 0], &case_d, &SURE, Nothing(1_000)),
+        explain(Mark, &a, &[3, 1, 2], &case_d, &case_e, Answer),
+        explain(Mark, &a, &[0, 0, 0], &case_d, &case_e, Other(&[3, 1, 2], 0)),
+        // cases f and g: five cells unread, and six
+        explain(Mark, &a, &[3, 1, 2], &unread_5.0, &unread_5.1, Answer),
+        explain(Mark, &a, &[2, 2, 2], &unread_5.0, &unread_5.1, Other(&[3, 1, 2], 3)),
+        explain(Mark, &a, &[3, 1, 2], &unread_6.0, &unread_6.1, Nothing(0)),
+        // cases h, i and j: the first cell is the last; at the radius nothing is the answer
+        explain(Mark, &plan_h, &[1], &[1], &[99], Answer),
+        explain(Mark, &plan_h, &[0], &[1], &[99], Other(&[1], 0)),
+        explain(Mark, &plan_h, &[0], &[1], &[100], Nothing(0)),
+        explain(Mark, &plan_j, &[1, 1, 0], &[1, 0, 0, 0], &[0; 4], Nothing(0)),
+        explain(Mark, &plan_j, &[1, 0, 0], &[1, 0, 0, 0], &[0; 4], Nothing(400)),
+        // one beyond the radius
+        explain(Mark, &w, &[3, 1, 2], &[4, 1, 0, 6, 3, 4], &[100, 1, 0, 0, 0, 0], Nothing(1)),
+        // the same first row, of three cells and of two
+        explain(Mark, &w, &[2, 2, 2], &[4, 1, 0, 6, 3, 2], &[0; 6], Other(&[3, 1, 2], 3)),
+        explain(Mark, &t, &[3, 2, 2], &[5, 2, 0, 4, 3, 0], &[0; 6], Other(&[3, 1, 2], 2)),
+        // the largest: half the cells wrong, all of them, the largest excess, another value everywhere
+        explain(Mark, &plan_16(0), &[7], &halves, &[0; 256], Nothing(0)),
+        explain(Mark, &plan_16(0), &[0], &halves, &[0; 256], Nothing(25_600)),
+        explain(Mark, &plan_16(15), &[0; 136], &eight_8s, &[0; 256], Nothing(49_600)),
+        explain(Mark, &plan_16(0), &[0], &[7; 256], &[0; 256], Other(&[7], 0)),
+        // strips of 3 + X: the answer, the same first cell, another first cell; at the radius and beyond
+        explain(Strip, &a, &[3, 1], &[4, 5, 255], &[0, 0, 100], Answer),
+        explain(Strip, &a, &[2, 2], &[4, 5, 255], &[0, 0, 100], Other(&[3, 1], 1)),
+        explain(Strip, &a, &[0, 0], &[4, 5, 255], &[0, 0, 100], Other(&[3, 1], 0)),
+        explain(Strip, &a, &[3, 1], &[4, 5, 1], &[0, 0, 0], Nothing(0)),
+        explain(Strip, &a, &[0, 0], &[4, 5, 1], &[0, 0, 0], Nothing(400)),
+        explain(Strip, &plan_16(15), &[0; 16], &[255; 16], &[100; 16], Nothing(1_500)),
+        // (X - 1)(X - 2) is 0 at all row points but the last
+        explain(Strip, &plan_d2, &[2, 4, 1], &[0, 0, 0], &[0, 0, 0], Other(&[0, 0, 0], 2)),
+        // an oblong's strip goes by the rows
+        explain(Strip, &t, &[3, 1], &[3, 5, 1], &[0, 0, 99], Answer),
+        explain(Strip, &w, &[3, 1], &[4, 6], &[0, 100], Nothing(0)),
+        // refusals: 6 before 7, then 7, 8 and 9; never 10
+        explain(Mark, &a, &[3, 1], &[7; 9], &SURE, Refused(6)),
+        explain(Mark, &a, &[3, 1, 7], &[7; 9], &[101; 9], Refused(7)),
+        explain(Mark, &a, &[3, 1, 7], &case_d, &[101; 9], Refused(8)),
+        explain(Mark, &a, &[3, 1, 7], &case_d, &SURE, Refused(9)),
+        explain(Strip, &with(&t, &[(4, 17)]), &[3, 1], &[3, 5, 1], &[0; 3], Refused(13)),
+    ]
+}
+
 /// A plan of season 12 with these rows, columns and d.
 fn fields(p: u8, [rows, columns, d]: [u8; 3], row_points: &[u8], column_points: &[u8]) -> Vec<u8> {
     let mut plan = vec![0; PLAN];
@@ -256,8 +326,8 @@ fn nines(length: usize) -> Vec<u8> {
 }
 
 fn given(code: Code, plan: &[u8]) -> Arguments {
-    let empty = Vec::new;
-    Arguments { code, plan: plan.to_vec(), record: empty(), symbols: empty(), doubts: empty(), mark: empty() }
+    let [record, symbols, doubts, mark, other] = [const { Vec::new() }; 5];
+    Arguments { code, plan: plan.to_vec(), record, symbols, doubts, mark, other }
 }
 
 fn said([cost, margin, changed, unread, class]: [i32; 5]) -> Reading {
@@ -266,14 +336,14 @@ fn said([cost, margin, changed, unread, class]: [i32; 5]) -> Reading {
 }
 
 fn check(plan: &[u8], number: u32) -> Row {
-    let outcome = Outcome { reading: Reading::refused(number), buffer: Vec::new() };
+    let outcome = Outcome::numbered(number, Vec::new());
     Row { call: Call::Check, given: given(Code::Mark, plan), outcome }
 }
 
 fn write(code: Code, plan: &[u8], record: &[u8], room: usize, result: Result<&[u8], u32>) -> Row {
     let outcome = match result {
-        Ok(mark) => Outcome { reading: Reading::refused(0), buffer: mark.to_vec() },
-        Err(number) => Outcome { reading: Reading::refused(number), buffer: nines(room) },
+        Ok(mark) => Outcome::numbered(0, mark.to_vec()),
+        Err(number) => Outcome::numbered(number, nines(room)),
     };
     let given = Arguments { record: record.to_vec(), mark: nines(room), ..given(code, plan) };
     Row { call: Call::Write, given, outcome }
@@ -281,7 +351,7 @@ fn write(code: Code, plan: &[u8], record: &[u8], room: usize, result: Result<&[u
 
 /// The answer is D, margin, changed, unread and class.
 fn measure(code: Code, plan: &[u8], record: &[u8], symbols: &[u8], doubts: &[u8], answer: [i32; 5]) -> Row {
-    let outcome = Outcome { reading: said(answer), buffer: Vec::new() };
+    let outcome = Outcome::read(said(answer), Vec::new());
     let [record, symbols, doubts] = [record, symbols, doubts].map(<[u8]>::to_vec);
     Row { call: Call::Measure, given: Arguments { record, symbols, doubts, ..given(code, plan) }, outcome }
 }
@@ -291,10 +361,30 @@ type Said<'a> = Result<(&'a [u8], [i32; 5]), (u32, usize)>;
 
 fn read(code: Code, plan: &[u8], symbols: &[u8], doubts: &[u8], result: Said) -> Row {
     let outcome = match result {
-        Ok((record, answer)) => Outcome { reading: said(answer), buffer: record.to_vec() },
-        Err((number, room)) => Outcome { reading: Reading::refused(number), buffer: nines(room) },
+        Ok((record, answer)) => Outcome::read(said(answer), record.to_vec()),
+        Err((number, room)) => Outcome::numbered(number, nines(room)),
     };
     let [symbols, doubts] = [symbols, doubts].map(<[u8]>::to_vec);
     let record = nines(outcome.buffer.len());
     Row { call: Call::Read, given: Arguments { record, symbols, doubts, ..given(code, plan) }, outcome }
+}
+
+/// What explaining says: of another answer its record and the place, of none the excess.
+enum Why<'a> {
+    Answer,
+    Other(&'a [u8], usize),
+    Nothing(u32),
+    Refused(u32),
+}
+
+fn explain(code: Code, plan: &[u8], record: &[u8], symbols: &[u8], doubts: &[u8], why: Why) -> Row {
+    let other = nines(record.len());
+    let outcome = match why {
+        Answer => Outcome::explained(Reason::answer(), other.clone()),
+        Other(record, place) => Outcome::explained(Reason::other(place), record.to_vec()),
+        Nothing(excess) => Outcome::explained(Reason::nothing(excess), other.clone()),
+        Refused(number) => Outcome::explained(Reason::refused(number), other.clone()),
+    };
+    let [record, symbols, doubts] = [record, symbols, doubts].map(<[u8]>::to_vec);
+    Row { call: Call::Explain, given: Arguments { record, symbols, doubts, other, ..given(code, plan) }, outcome }
 }

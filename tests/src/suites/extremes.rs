@@ -2,7 +2,7 @@
 //! every square and some oblongs of p 251 with every d.
 
 use independent::calls::bytes;
-use independent::{Code, Plan, Reading, FULL_DOUBT, UNREAD};
+use independent::{Code, Plan, Reading, Reason, FULL_DOUBT, UNREAD};
 use traymark_tests::calls::{hold, Arguments, Call, Outcome};
 use traymark_tests::counts::Counts;
 use traymark_tests::plans::{self, Shape};
@@ -56,6 +56,7 @@ fn damaged(
         symbols: bytes(&symbols),
         doubts: bytes(&doubts),
         mark: Vec::new(),
+        other: random.bytes(record.len()),
     };
     let reading = hold(Call::Measure, &given, random, counts)?.reading;
     let cost = 200 * changed as u32 + 100 * unread as u32;
@@ -69,9 +70,13 @@ fn damaged(
     if reading != (Reading { number: 0, cost, margin, changed: changed as u32, unread: unread as u32, class }) {
         return Err(format!("{changed} cells changed and {unread} unread, measured {reading:?}; {given:?}"));
     }
+    let explained = hold(Call::Explain, &given, random, counts)?;
+    if (explained.reason == Reason::answer()) != (margin > 0) {
+        return Err(format!("{changed} cells changed and {unread} unread, explained {explained:?}; {given:?}"));
+    }
     let given = Arguments { record: random.bytes(record.len()), ..given };
     let outcome = hold(Call::Read, &given, random, counts)?;
-    if cost < code.radius(plan) && outcome != (Outcome { reading, buffer: bytes(&record) }) {
+    if cost < code.radius(plan) && outcome != Outcome::read(reading, bytes(&record)) {
         return Err(format!("{changed} cells changed and {unread} unread, read {outcome:?}; {given:?}"));
     }
     Ok(())

@@ -124,28 +124,30 @@ fn arguments(code: Code, plan: &Plan, random: &mut Random) -> Arguments {
         symbols: Vec::new(),
         doubts: Vec::new(),
         mark: random.bytes(code.cells(plan)),
+        other: random.bytes(code.size(plan)),
     };
     let cost = random.between(0, code.radius(plan) - 1);
     photographed(&mut given, plan, cost, random);
     given
 }
 
-/// A record, and a photograph of it that costs so much.
+/// A photograph that costs so much against its record; what is given is that record or a rival.
 fn photographed(given: &mut Arguments, plan: &Plan, cost: u32, random: &mut Random) {
     let record = plans::record(given.code, plan, random);
-    let rival = rival(given.code, plan, &record, random);
-    let [word, rival] = [&record, &rival].map(|record| given.code.word(plan, record));
+    let records = [rival(given.code, plan, &record, random), record];
+    let [rival, word] = records.each_ref().map(|record| given.code.word(plan, record));
     let photo = photograph(plan, &word, &rival, cost, random);
-    given.record = bytes(&record);
+    given.record = bytes(&records[random.below(2)]);
     given.symbols = bytes(&photo.symbols);
     given.doubts = bytes(&photo.doubts);
 }
 
-const ON_PLAN: &[Call] = &[Call::Check, Call::Write, Call::Measure, Call::Read];
-const ON_RECORD: &[Call] = &[Call::Write, Call::Measure, Call::Read];
-const ON_PHOTO: &[Call] = &[Call::Measure, Call::Read];
+const ON_PLAN: &[Call] = &Call::ALL;
+const ON_RECORD: &[Call] = &[Call::Write, Call::Measure, Call::Read, Call::Explain];
+const ON_PHOTO: &[Call] = &[Call::Measure, Call::Read, Call::Explain];
 const ON_MARK: &[Call] = &[Call::Write];
-const GIVEN_RECORD: &[Call] = &[Call::Write, Call::Measure];
+const ON_OTHER: &[Call] = &[Call::Explain];
+const GIVEN_RECORD: &[Call] = &[Call::Write, Call::Measure, Call::Explain];
 const READING: &[Call] = &[Call::Read];
 
 macro_rules! fault {
@@ -201,6 +203,9 @@ const FAULTS: &[&Fault] = &[
     fault!("no mark", "mark length", 6, ON_MARK, |g, _, _| g.mark.clear()),
     fault!("mark one short", "mark length", 6, ON_MARK, |g, _, _| shorten(&mut g.mark)),
     fault!("mark one long", "mark length", 6, ON_MARK, |g, _, _| g.mark.push(0)),
+    fault!("no other", "other length", 6, ON_OTHER, |g, _, _| g.other.clear()),
+    fault!("other one short", "other length", 6, ON_OTHER, |g, _, _| shorten(&mut g.other)),
+    fault!("other one long", "other length", 6, ON_OTHER, |g, _, _| g.other.push(0)),
     fault!("symbol p", "a symbol", 7, ON_PHOTO, |g, plan, r| *any(&mut g.symbols, r) = plan.p as u8),
     fault!("first symbol p", "a symbol", 7, ON_PHOTO, |g, plan, _| g.symbols[0] = plan.p as u8),
     fault!("last symbol p", "a symbol", 7, ON_PHOTO, |g, plan, _| *last(&mut g.symbols) = plan.p as u8),

@@ -15,10 +15,10 @@ pub fn case(seed: u64, random: &mut Random, counts: &mut Counts) -> Result<(), S
     for length in 0..=80 {
         resized(&given, plan, length, random, counts)?;
     }
-    for choose in [record, symbols, doubts, mark] {
+    for choose in [record, symbols, doubts, mark, other] {
         let length = choose(&mut given.clone()).len();
-        for other in [0, 1, length - 1, length, length + 1, 2 * length, 1000] {
-            resized(&given, choose, other, random, counts)?;
+        for wrong in [0, 1, length - 1, length, length + 1, 2 * length, 1000] {
+            resized(&given, choose, wrong, random, counts)?;
         }
     }
     Ok(())
@@ -62,4 +62,8 @@ fn doubts(given: &mut Arguments) -> &mut Vec<u8> {
 
 fn mark(given: &mut Arguments) -> &mut Vec<u8> {
     &mut given.mark
+}
+
+fn other(given: &mut Arguments) -> &mut Vec<u8> {
+    &mut given.other
 }

@@ -3,6 +3,7 @@
 mod coefficients;
 mod decoding;
 mod documented;
+mod explaining;
 mod extremes;
 mod faults;
 mod files;
@@ -21,6 +22,8 @@ pub fn all() -> Vec<Suite> {
         Suite { name: "documented", cases: documented::CASES, case: documented::case },
         Suite { name: "extremes", cases: extremes::shapes().len() as u64, case: extremes::case },
         Suite { name: "coefficients", cases: shapes_of(251).count() as u64, case: coefficients::case },
+        Suite { name: "explaining", cases: shapes, case: explaining::case },
+        Suite { name: "explaining-large", cases: explaining::LARGE, case: explaining::large },
         Suite { name: "large-marks", cases: 3_000, case: decoding::large_mark },
         Suite { name: "marks", cases: 36_000, case: decoding::mark },
         Suite { name: "oblongs", cases: decoding::COSTS * shapes, case: decoding::oblong },

@@ -52,6 +52,6 @@ pub fn bytes(seed: u64, random: &mut Random, counts: &mut Counts) -> Result<(), 
 }
 
 fn given(plan: Vec<u8>) -> Arguments {
-    let empty = Vec::new;
-    Arguments { code: Code::Mark, plan, record: empty(), symbols: empty(), doubts: empty(), mark: empty() }
+    let [record, symbols, doubts, mark, other] = [const { Vec::new() }; 5];
+    Arguments { code: Code::Mark, plan, record, symbols, doubts, mark, other }
 }

@@ -31,11 +31,11 @@ fn of_any_length(code: Code, random: &mut Random) -> Arguments {
     let any = random.below(300);
     let plan_length = random.pick(&[PLAN, PLAN, PLAN - 1, PLAN + 1, any]);
     let plan = random.bytes(plan_length);
-    let [record, symbols, doubts, mark] = [300; 4].map(|bound| {
+    let [record, symbols, doubts, mark, other] = [300; 5].map(|bound| {
         let length = random.below(bound);
         random.bytes(length)
     });
-    Arguments { code, plan, record, symbols, doubts, mark }
+    Arguments { code, plan, record, symbols, doubts, mark, other }
 }
 
 /// Bytes near the bounds of p and of the doubts are frequent.
@@ -50,6 +50,6 @@ fn of_right_length(code: Code, sound: &Plan, plan: Vec<u8>, random: &mut Random)
         (0..length).map(byte).collect()
     };
     let (cells, size) = (code.cells(sound), code.size(sound));
-    let [record, symbols, doubts, mark] = [size, cells, cells, cells].map(&mut any);
-    Arguments { code, plan, record, symbols, doubts, mark }
+    let [record, symbols, doubts, mark, other] = [size, cells, cells, cells, size].map(&mut any);
+    Arguments { code, plan, record, symbols, doubts, mark, other }
 }

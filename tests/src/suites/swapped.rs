@@ -17,23 +17,31 @@ pub fn case(_: u64, random: &mut Random, counts: &mut Counts) -> Result<(), Stri
     unlike(&plan, &record, &word, random, counts)
 }
 
-/// A photograph of any cost up to beyond the radius, and the same with rows and columns exchanged.
+/// A photograph of any cost up to beyond the radius, and the same with rows and columns exchanged, are read alike; and
+/// explained alike, a rival being expected, but for the place.
 fn alike(plan: &Plan, record: &[u32], random: &mut Random, counts: &mut Counts) -> Result<(), String> {
-    let rival = rival(Code::Mark, plan, record, random);
-    let [word, rival] = [record, &rival].map(|record| Code::Mark.word(plan, record));
+    let expected = rival(Code::Mark, plan, record, random);
+    let [word, rival] = [record, &expected].map(|record| Code::Mark.word(plan, record));
     let radius = Code::Mark.radius(plan);
     let cost = random.pick(&[0, radius / 2, radius - 1, radius, radius + 1]);
     let photo = photograph(plan, &word, &rival, cost, random);
-    let given = arguments(plan, &photo.symbols, &photo.doubts, random);
+    let given = Arguments { record: bytes(&expected), ..arguments(plan, &photo.symbols, &photo.doubts, random) };
     let [symbols, doubts] = [&photo.symbols, &photo.doubts].map(|cells| exchanged(plan, cells));
-    let mirrored = arguments(&plan.swapped(), &symbols, &doubts, random);
-    let there = hold(Call::Read, &given, random, counts)?;
-    let mut back = hold(Call::Read, &mirrored, random, counts)?;
-    if back.reading.number == 0 {
+    let mut mirrored = Arguments { record: bytes(&expected), ..arguments(&plan.swapped(), &symbols, &doubts, random) };
+    reverse_groups(plan.degree, &mut mirrored.record);
+    for call in [Call::Read, Call::Explain] {
+        let there = hold(call, &given, random, counts)?;
+        let mut back = hold(call, &mirrored, random, counts)?;
+        back.reason.place = there.reason.place;
         reverse_groups(plan.degree, &mut back.buffer);
-    }
-    if there.reading != back.reading || there.reading.number == 0 && there.buffer != back.buffer {
-        return Err(format!("read {there:?}, and exchanged {back:?}; {given:?}"));
+        let is_written = match call {
+            Call::Read => there.reading.number == 0,
+            _ => there.reason.reason == 2,
+        };
+        let same = (there.reading, there.reason) == (back.reading, back.reason);
+        if !same || is_written && there.buffer != back.buffer {
+            return Err(format!("{call:?} gave {there:?}, and exchanged {back:?}; {given:?}"));
+        }
     }
     Ok(())
 }
@@ -62,6 +70,7 @@ fn arguments(plan: &Plan, symbols: &[u32], doubts: &[u32], random: &mut Random) 
         symbols: bytes(symbols),
         doubts: bytes(doubts),
         mark: Vec::new(),
+        other: random.bytes(Code::Mark.size(plan)),
     }
 }
 
