@@ -1,5 +1,5 @@
-/* The nine calls from C: the layout of the answer, the cases of document 01, wrong and unread cells at once, oblong
-   marks and strips beside them, plans widened, and the refusals at empty buffers. */
+/* The eleven calls from C: the layout of the answers, the cases of document 01, wrong and unread cells at once, oblong
+   marks and strips beside them, plans widened, the three reasons, and the refusals at empty buffers. */
 #include <stdio.h>
 #include <stdlib.h>
 #include <string.h>
@@ -14,6 +14,12 @@ _Static_assert(offsetof(traymark_reading, changed) == 12, "changed");
 _Static_assert(offsetof(traymark_reading, unread) == 16, "unread");
 _Static_assert(offsetof(traymark_reading, class_) == 20, "class_");
 
+_Static_assert(sizeof(traymark_reason) == 16, "four numbers of four bytes");
+_Static_assert(offsetof(traymark_reason, number) == 0, "number");
+_Static_assert(offsetof(traymark_reason, reason) == 4, "reason");
+_Static_assert(offsetof(traymark_reason, place) == 8, "place");
+_Static_assert(offsetof(traymark_reason, excess) == 12, "excess");
+
 /* The calls once more, by their types: a header that declares another one doesn't compile. */
 typedef const uint8_t *in;
 uint32_t traymark_check_plan(in, size_t);
@@ -25,6 +31,8 @@ traymark_reading traymark_measure_mark(in, size_t, in, size_t, in, size_t, in, s
 traymark_reading traymark_measure_strip(in, size_t, in, size_t, in, size_t, in, size_t);
 traymark_reading traymark_read_mark(in, size_t, in, size_t, in, size_t, uint8_t *, size_t);
 traymark_reading traymark_read_strip(in, size_t, in, size_t, in, size_t, uint8_t *, size_t);
+traymark_reason traymark_explain_mark(in, size_t, in, size_t, in, size_t, in, size_t, uint8_t *, size_t);
+traymark_reason traymark_explain_strip(in, size_t, in, size_t, in, size_t, in, size_t, uint8_t *, size_t);
 
 static int tests;
 
@@ -231,6 +239,118 @@ static void read_strips(void)
     EXPECT(record[0] == 5 && record[1] == 1);
 }
 
+/* whether these are the numbers of a reason; of a refusal all but the first are 0 */
+static int gives(traymark_reason r, uint32_t number, uint32_t reason, uint32_t place, uint32_t excess)
+{
+    return r.number == number && r.reason == reason && r.place == place && r.excess == excess;
+}
+
+/* explains a record of a photograph under plan A to a buffer of 9s, and says whether it holds the answer 3 1 2 of reason 2,
+   or still the 9s */
+static traymark_reason explain_a(const uint8_t record[3], const uint8_t symbols[9], const uint8_t doubts[9])
+{
+    uint8_t other[4] = {9, 9, 9, 9};
+    traymark_reason r = traymark_explain_mark(ALL(plan_a), record, 3, symbols, 9, doubts, 9, other, 3);
+    EXPECT(memcmp(other, r.reason == 2 ? (const uint8_t[4]){3, 1, 2, 9} : (const uint8_t[4]){9, 9, 9, 9}, 4) == 0);
+    return r;
+}
+
+/* the same of a strip, whose answer is 3 1 */
+static traymark_reason explain_strip_a(const uint8_t record[2], const uint8_t symbols[3], const uint8_t doubts[3])
+{
+    uint8_t other[3] = {9, 9, 9};
+    traymark_reason r = traymark_explain_strip(ALL(plan_a), record, 2, symbols, 3, doubts, 3, other, 2);
+    EXPECT(memcmp(other, r.reason == 2 ? (const uint8_t[3]){3, 1, 9} : (const uint8_t[3]){9, 9, 9}, 3) == 0);
+    return r;
+}
+
+static void explain_marks(void)
+{
+    /* the first has the answer's first row, the second its first column, the others another first cell */
+    const uint8_t same_row[3] = {2, 2, 2}, same_column[3] = {1, 1, 4}, zero[3] = {0}, one[3] = {1, 0, 0}, far[3] = {3, 1, 7};
+    const uint8_t last_7[9] = {0, 0, 0, 0, 2, 6, 2, 4, 7}, first_99[9] = {99}, first_101[9] = {101};
+    uint8_t other[2] = {9, 9};
+    EXPECT(gives(explain_a(record_a, case_c, sure), 0, 1, 0, 0));
+    EXPECT(gives(explain_a(same_row, case_c, sure), 0, 2, 3, 0));
+    EXPECT(gives(explain_a(same_column, case_c, sure), 0, 2, 1, 0));
+    EXPECT(gives(explain_a(zero, case_c, sure), 0, 2, 0, 0));
+    EXPECT(gives(explain_a(record_a, case_d, sure), 0, 3, 0, 0)); /* at the radius */
+    EXPECT(gives(explain_a(zero, case_d, sure), 0, 3, 0, 400));
+    EXPECT(gives(explain_a(one, case_d, sure), 0, 3, 0, 1000));
+    EXPECT(gives(explain_a(record_a, case_d, first_99), 0, 1, 0, 0));
+    EXPECT(gives(explain_a(record_a, mixed, mixed_doubts), 0, 1, 0, 0));
+    EXPECT(gives(explain_a(same_row, mixed, mixed_doubts), 0, 2, 3, 0));
+    EXPECT(gives(explain_a(far, last_7, first_101), 7, 0, 0, 0));
+    EXPECT(gives(explain_a(far, case_c, first_101), 8, 0, 0, 0));
+    EXPECT(gives(explain_a(far, case_c, sure), 9, 0, 0, 0));
+    EXPECT(gives(explain_a(far, case_d, sure), 9, 0, 0, 0));
+
+    /* one cell: the first place is the last; in doubt 100 each record costs the radius */
+    const uint8_t doubt[2] = {99, 100};
+    EXPECT(gives(traymark_explain_mark(ALL(plan_h), zero, 1, one, 1, doubt + 1, 1, other, 1), 0, 3, 0, 0) && other[0] == 9);
+    EXPECT(gives(traymark_explain_mark(ALL(plan_h), zero, 1, one, 1, doubt, 1, other, 1), 0, 2, 0, 0));
+    EXPECT(other[0] == 1 && other[1] == 9);
+}
+
+static void explain_strips(void)
+{
+    const uint8_t symbols[3] = {4, 5, 255}, doubts[3] = {0, 0, 100}, wrong[3] = {4, 5, 1};
+    const uint8_t same_cell[2] = {2, 2}, zero[3] = {0}, far[2] = {3, 7}, last_7[3] = {4, 5, 7}, first_101[3] = {101, 0, 100};
+    EXPECT(gives(explain_strip_a(record_a, symbols, doubts), 0, 1, 0, 0));
+    EXPECT(gives(explain_strip_a(same_cell, symbols, doubts), 0, 2, 1, 0));
+    EXPECT(gives(explain_strip_a(zero, symbols, doubts), 0, 2, 0, 0));
+    EXPECT(gives(explain_strip_a(record_a, wrong, sure), 0, 3, 0, 0)); /* at the radius */
+    EXPECT(gives(explain_strip_a(zero, wrong, sure), 0, 3, 0, 400));
+    EXPECT(gives(explain_strip_a(far, last_7, first_101), 7, 0, 0, 0));
+    EXPECT(gives(explain_strip_a(far, symbols, first_101), 8, 0, 0, 0));
+    EXPECT(gives(explain_strip_a(far, symbols, doubts), 9, 0, 0, 0));
+
+    /* under plan A with degree 2, (X - 1)(X - 2) is 0 at all row points but the last */
+    const uint8_t plan[40] = {0, 12, 7, 3, 3, 2, 1, 2, 4, [22] = 1, 2, 4}, product[3] = {2, 4, 1};
+    uint8_t other[4] = {9, 9, 9, 9};
+    EXPECT(gives(traymark_explain_strip(ALL(plan), ALL(product), zero, 3, sure, 3, other, 3), 0, 2, 2, 0));
+    EXPECT(memcmp(other, (const uint8_t[4]){0, 0, 0, 9}, 4) == 0);
+}
+
+/* refusals of the plan, in order, and 6 for each buffer; a symbol, a doubt and a coefficient are wrong all the while */
+static void explain_refused(void)
+{
+    const uint8_t sevens[9] = {7, 7, 7, 7, 7, 7, 7, 7, 7}, doubts[9] = {101};
+    uint8_t plan[40], other[4] = {9, 9, 9, 9};
+    memcpy(plan, plan_a, 40);
+    plan[2] = 9, plan[3] = 0, plan[4] = 0, plan[5] = 16, plan[6] = 7, plan[39] = 1;
+    const struct { size_t place; uint8_t repaired; uint32_t before; } repairs[] = {
+        {39, 0, 1}, {2, 7, 2}, {3, 3, 3}, {4, 3, 13}, {5, 1, 4}, {6, 1, 5}};
+    for (size_t k = 0; k < 6; k++) {
+        EXPECT(gives(traymark_explain_mark(ALL(plan), sevens, 2, sevens, 8, doubts, 8, ALL(other)), repairs[k].before, 0, 0, 0));
+        EXPECT(gives(traymark_explain_strip(ALL(plan), sevens, 1, sevens, 2, doubts, 2, ALL(other)), repairs[k].before, 0, 0, 0));
+        plan[repairs[k].place] = repairs[k].repaired;
+    }
+    EXPECT(gives(traymark_explain_mark(plan, 39, sevens, 3, ALL(sevens), ALL(doubts), other, 3), 1, 0, 0, 0));
+    const size_t of_marks[6][4] = {{2, 9, 9, 3}, {3, 8, 9, 3}, {3, 9, 8, 3}, {3, 9, 9, 2}, {3, 9, 9, 4}, {0, 0, 0, 0}};
+    const size_t of_strips[6][4] = {{1, 3, 3, 2}, {2, 2, 3, 2}, {2, 3, 2, 2}, {2, 3, 3, 1}, {2, 3, 3, 3}, {0, 0, 0, 0}};
+    for (size_t k = 0; k < 6; k++) {
+        const size_t *m = of_marks[k], *s = of_strips[k];
+        EXPECT(gives(traymark_explain_mark(ALL(plan), sevens, m[0], sevens, m[1], doubts, m[2], other, m[3]), 6, 0, 0, 0));
+        EXPECT(gives(traymark_explain_strip(ALL(plan), sevens, s[0], sevens, s[1], doubts, s[2], other, s[3]), 6, 0, 0, 0));
+    }
+    EXPECT(gives(traymark_explain_mark(ALL(plan), sevens, 3, ALL(sevens), ALL(doubts), other, 3), 7, 0, 0, 0));
+    EXPECT(gives(traymark_explain_strip(ALL(plan), sevens, 2, sevens, 3, doubts, 3, other, 2), 7, 0, 0, 0));
+    EXPECT(memcmp(other, (const uint8_t[4]){9, 9, 9, 9}, 4) == 0);
+}
+
+/* of marks with one first row, by plans with more columns than rows and with more rows */
+static void explain_oblongs(void)
+{
+    const uint8_t row_w[3] = {2, 2, 2}, row_t[3] = {3, 2, 2}, zeros[6] = {0};
+    uint8_t other[3] = {9, 9, 9};
+    EXPECT(gives(traymark_explain_mark(ALL(plan_w), ALL(row_w), ALL(mark_w), ALL(zeros), ALL(other)), 0, 2, 3, 0));
+    EXPECT(memcmp(other, record_a, 3) == 0);
+    memset(other, 9, 3);
+    EXPECT(gives(traymark_explain_mark(ALL(plan_t), ALL(row_t), ALL(mark_t), ALL(zeros), ALL(other)), 0, 2, 2, 0));
+    EXPECT(memcmp(other, record_a, 3) == 0);
+}
+
 /* a mark of radius 300, its last cell misread as 4 and its first in doubt; a strip of as many cells as rows, its last cell in
    doubt 99 */
 static void oblong(const uint8_t plan[40], const uint8_t mark[6], const uint8_t *strip, size_t rows, int32_t strip_margin)
@@ -261,6 +381,10 @@ int main(void)
     read_strips();
     oblong(plan_w, mark_w, ALL(strip_w), 1);   /* the strip's radius is 100 */
     oblong(plan_t, mark_t, ALL(strip_t), 101); /* and here 200 */
+    explain_marks();
+    explain_strips();
+    explain_refused();
+    explain_oblongs();
     printf("calls.c: ok: %d tests\n", tests);
     return 0;
 }
