@@ -266,13 +266,15 @@ static traymark_reason explain_strip_a(const uint8_t record[2], const uint8_t sy
 
 static void explain_marks(void)
 {
-    /* the first has the answer's first row, the second its first column, the others another first cell */
-    const uint8_t same_row[3] = {2, 2, 2}, same_column[3] = {1, 1, 4}, zero[3] = {0}, one[3] = {1, 0, 0}, far[3] = {3, 1, 7};
+    /* the first three have the answer's first row, first column and diagonal, the others another first cell */
+    const uint8_t same_row[3] = {2, 2, 2}, same_column[3] = {1, 1, 4}, diagonal[3] = {3, 2, 1};
+    const uint8_t zero[3] = {0}, one[3] = {1, 0, 0}, far[3] = {3, 1, 7};
     const uint8_t last_7[9] = {0, 0, 0, 0, 2, 6, 2, 4, 7}, first_99[9] = {99}, first_101[9] = {101};
     uint8_t other[2] = {9, 9};
     EXPECT(gives(explain_a(record_a, case_c, sure), 0, 1, 0, 0));
     EXPECT(gives(explain_a(same_row, case_c, sure), 0, 2, 3, 0));
     EXPECT(gives(explain_a(same_column, case_c, sure), 0, 2, 1, 0));
+    EXPECT(gives(explain_a(diagonal, case_c, sure), 0, 2, 1, 0));
     EXPECT(gives(explain_a(zero, case_c, sure), 0, 2, 0, 0));
     EXPECT(gives(explain_a(record_a, case_d, sure), 0, 3, 0, 0)); /* at the radius */
     EXPECT(gives(explain_a(zero, case_d, sure), 0, 3, 0, 400));

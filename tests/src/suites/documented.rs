@@ -10,7 +10,7 @@ use traymark_tests::counts::Counts;
 use traymark_tests::random::Random;
 use Why::{Answer, Nothing, Other, Refused};
 
-pub const CASES: u64 = 140;
+pub const CASES: u64 = 142;
 
 /// A call and its outcome as the document says it.
 struct Row {
@@ -212,10 +212,11 @@ fn explanations() -> Vec<Row> {
     let halves = from_fn::<u8, 256, _>(|cell| if cell < 128 { 8 } else { 7 });
     let eight_8s = from_fn::<u8, 256, _>(|cell| if cell < 8 { 8 } else { 7 });
     vec![
-        // case c: the answer; the same first row, the same first column, another first cell
+        // case c: the answer; the same first row, the same first column, the same diagonal, another first cell
         explain(Mark, &a, &[3, 1, 2], &case_c, &SURE, Answer),
         explain(Mark, &a, &[2, 2, 2], &case_c, &SURE, Other(&[3, 1, 2], 3)),
         explain(Mark, &a, &[1, 1, 4], &case_c, &SURE, Other(&[3, 1, 2], 1)),
+        explain(Mark, &a, &[3, 2, 1], &case_c, &SURE, Other(&[3, 1, 2], 1)),
         explain(Mark, &a, &[0, 0, 0], &case_c, &SURE, Other(&[3, 1, 2], 0)),
         // the first coefficient is the answer's, or the last two are
         explain(Mark, &a, &[3, 0, 0], &case_c, &SURE, Other(&[3, 1, 2], 0)),
@@ -229,6 +230,7 @@ fn explanations() -> Vec<Row> {
         // cases f and g: five cells unread, and six
         explain(Mark, &a, &[3, 1, 2], &unread_5.0, &unread_5.1, Answer),
         explain(Mark, &a, &[2, 2, 2], &unread_5.0, &unread_5.1, Other(&[3, 1, 2], 3)),
+        explain(Mark, &a, &[0, 0, 0], &unread_5.0, &unread_5.1, Other(&[3, 1, 2], 0)),
         explain(Mark, &a, &[3, 1, 2], &unread_6.0, &unread_6.1, Nothing(0)),
         // cases h, i and j: the first cell is the last; at the radius nothing is the answer
         explain(Mark, &plan_h, &[1], &[1], &[99], Answer),

@@ -47,18 +47,34 @@ fn is_of(code: Code, (_, columns): Agreement) -> bool {
     code == Code::Mark || columns == 0
 }
 
+/// Another record whose mark first differs behind so many rows and columns. In the rows below, the values that differ mostly
+/// don't stand in rows and columns of their own, so that it shows in which order places are counted.
+fn later(code: Code, plan: &Plan, record: &[u32], (rows, columns): Agreement, random: &mut Random) -> Vec<u32> {
+    let Plan { row_points, column_points, degree, .. } = plan;
+    let rival = agreeing(code, plan, record, [&row_points[..rows], &column_points[..columns]], random);
+    if rows == *degree || random.one_in(3) {
+        return rival;
+    }
+    let mut column_points = column_points.clone();
+    random.shuffle(&mut column_points);
+    let columns = match code {
+        Code::Strip => 0,
+        Code::Mark => random.below(degree - rows),
+    };
+    agreeing(code, plan, &rival, [&row_points[..=rows], &column_points[..columns]], random)
+}
+
 fn expected_in_turn(
     code: Code,
     plan: &Plan,
-    (rows, columns): Agreement,
+    agreement: Agreement,
     random: &mut Random,
     counts: &mut Counts,
 ) -> Result<(), String> {
     let record = plans::record(code, plan, random);
-    let zeros = [&plan.row_points[..rows], &plan.column_points[..columns]];
-    let rival = agreeing(code, plan, &record, zeros, random);
+    let rival = later(code, plan, &record, agreement, random);
     let words = [&record, &rival].map(|record| code.word(plan, record));
-    let place = rows * words[0].len() / plan.rows() + columns;
+    let place = agreement.0 * words[0].len() / plan.rows() + agreement.1;
     let radius = code.radius(plan);
     for target in [random.below(radius as usize) as u32, radius - 1, radius, radius + 1] {
         let photo = photograph(plan, &words[0], &words[1], target, random);
