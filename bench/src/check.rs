@@ -2,10 +2,11 @@
 
 use crate::port::{self, Plain, Reduction, Tuned};
 use independent::calls::bytes;
-use independent::{Code, Plan, Reading};
+use independent::{Code, Plan};
 use traymark::Refusal;
 use traymark_tests::calls::{expected, Arguments, Call, Outcome};
 use traymark_tests::counts::Counts;
+use traymark_tests::library::{answered, told};
 use traymark_tests::photo::{noise, photograph, rival, unread};
 use traymark_tests::plans;
 use traymark_tests::random::Random;
@@ -21,7 +22,7 @@ fn case(seed: u64, random: &mut Random, counts: &mut Counts) -> Result<(), Strin
     if random.one_in(4) {
         spoil(&mut given, random);
     }
-    for call in [Call::Write, Call::Measure, Call::Read] {
+    for call in [Call::Write, Call::Measure, Call::Read, Call::Explain] {
         let expected = expected(call, &given);
         for (name, outcome) in [("plain", outcome::<Plain>(call, &given)), ("tuned", outcome::<Tuned>(call, &given))] {
             if outcome != expected {
@@ -33,12 +34,12 @@ fn case(seed: u64, random: &mut Random, counts: &mut Counts) -> Result<(), Strin
     Ok(())
 }
 
-/// A record, its mark and a photograph that costs about the radius, or one of nothing, or one with all cells unread.
+/// A record, or a rival of it, and a photograph that costs about the radius, or one of nothing, or one with all cells unread.
 fn arguments(plan: &Plan, random: &mut Random) -> Arguments {
     let code = Code::Mark;
     let record = plans::record(code, plan, random);
-    let rival = rival(code, plan, &record, random);
-    let [word, rival] = [&record, &rival].map(|record| code.word(plan, record));
+    let records = [rival(code, plan, &record, random), record];
+    let [rival, word] = records.each_ref().map(|record| code.word(plan, record));
     let radius = code.radius(plan);
     let target = match random.below(4) {
         0 => 0,
@@ -53,18 +54,18 @@ fn arguments(plan: &Plan, random: &mut Random) -> Arguments {
     Arguments {
         code,
         plan: plan.bytes().to_vec(),
-        record: bytes(&record),
+        record: bytes(&records[random.below(2)]),
         symbols: bytes(&photo.symbols),
         doubts: bytes(&photo.doubts),
         mark: random.bytes(word.len()),
-        other: random.bytes(record.len()),
+        other: random.bytes(code.size(plan)),
     }
 }
 
 /// Changes a byte or the length of some of what is lent.
 fn spoil(given: &mut Arguments, random: &mut Random) {
-    let Arguments { plan, record, symbols, doubts, mark, .. } = given;
-    for lent in [plan, record, symbols, doubts, mark] {
+    let Arguments { plan, record, symbols, doubts, mark, other, .. } = given;
+    for lent in [plan, record, symbols, doubts, mark, other] {
         match random.below(6) {
             0 => lent.push(random.byte()),
             1 => lent.truncate(random.below(lent.len())),
@@ -79,27 +80,22 @@ fn spoil(given: &mut Arguments, random: &mut Random) {
 
 /// What a port answers, and what the buffer that it writes holds afterwards.
 fn outcome<R: Reduction>(call: Call, given: &Arguments) -> Outcome {
-    let Arguments { plan, record, symbols, doubts, mark, .. } = given;
+    let Arguments { plan, record, symbols, doubts, mark, other, .. } = given;
     match call {
         Call::Write => {
             let mut buffer = mark.clone();
             let number = port::write_mark::<R>(plan, record, &mut buffer).map_or_else(Refusal::number, |()| 0);
             Outcome::numbered(number, buffer)
         }
-        Call::Measure => Outcome::read(reading(port::measure_mark::<R>(plan, record, symbols, doubts)), Vec::new()),
+        Call::Measure => Outcome::read(answered(port::measure_mark::<R>(plan, record, symbols, doubts)), Vec::new()),
         Call::Read => {
             let mut buffer = record.clone();
-            Outcome::read(reading(port::read_mark::<R>(plan, symbols, doubts, &mut buffer)), buffer)
+            Outcome::read(answered(port::read_mark::<R>(plan, symbols, doubts, &mut buffer)), buffer)
         }
-        Call::Check | Call::Explain => unreachable!("the ports have no such call"),
-    }
-}
-
-fn reading(answer: Result<traymark::Reading, Refusal>) -> Reading {
-    match answer {
-        Ok(traymark::Reading { cost, margin, changed, unread, class }) => {
-            Reading { number: 0, cost, margin, changed, unread, class }
+        Call::Explain => {
+            let mut buffer = other.clone();
+            Outcome::explained(told(port::explain_mark::<R>(plan, record, symbols, doubts, &mut buffer)), buffer)
         }
-        Err(refusal) => Reading::refused(refusal.number()),
+        Call::Check => unreachable!("the ports have no such call"),
     }
 }

@@ -4,7 +4,7 @@
 //! - `bench [N]` prints the table and whether the targets are met; of each stream it takes at most N marks.
 //! - `bench check` holds the ports in Rust against the tests' decoder.
 //! - `bench profile P ROWS COLUMNS D KIND COUNT` runs the library alone, on COUNT marks of one line, for a profiler. KIND is
-//!   clean, errors, doubts, rivals or noise for reading such marks, or write or measure.
+//!   clean, errors, doubts, rivals or noise for reading such marks, or write, measure or explain.
 //!
 //! Each line of the table is a plan and a stream: the microseconds of the median mark, each mark by its least time of
 //! several rounds, by the library, by the port with division (`plain`), by the port with the reciprocal (`tuned`) and by
@@ -38,7 +38,7 @@ const PLANS: [Shape; 7] = [
 ];
 
 /// The lines of a plan. Reading clean marks comes first: the slowest marks of the others are compared with it.
-const CALLS: [(Call, Kind); 7] = [
+const CALLS: [(Call, Kind); 8] = [
     (Call::Read, Kind::Clean),
     (Call::Read, Kind::Errors),
     (Call::Read, Kind::Doubts),
@@ -46,6 +46,7 @@ const CALLS: [(Call, Kind); 7] = [
     (Call::Read, Kind::Noise),
     (Call::Write, Kind::Clean),
     (Call::Measure, Kind::Doubts),
+    (Call::Explain, Kind::Doubts),
 ];
 
 const USAGE: &str = "usage: bench [N] | bench check | bench profile P ROWS COLUMNS D KIND COUNT";
@@ -111,6 +112,9 @@ fn check() -> Result<(), String> {
     if counts.numbers[..=10].contains(&0) || counts.numbers[13] == 0 {
         return Err(format!("a number that was never answered: {:?}", counts.numbers));
     }
+    if counts.explained().into_iter().any(|n| n < 500) {
+        return Err(format!("fewer than 500 explanations with one of the reasons: {:?}", counts.explained()));
+    }
     if counts.mixed_marks < 500 {
         return Err(format!("fewer than 500 marks read with changed and unread cells: {}", counts.mixed_marks));
     }
@@ -128,6 +132,7 @@ fn profile([p, rows, columns, d]: [&str; 4], word: &str, count: &str) -> Result<
         Call::Read => kind.name() == word,
         Call::Write => word == "write",
         Call::Measure => word == "measure",
+        Call::Explain => word == "explain",
     };
     let (call, kind) = CALLS.into_iter().find(named).ok_or(USAGE)?;
     for mark in stream::marks(shape, kind, number(count)?) {

@@ -10,6 +10,8 @@ use traymark_tests::random::Random;
 pub struct Mark {
     pub plan: [u8; PLAN],
     pub record: Vec<u8>,
+    /// a rival of the record
+    pub rival: Vec<u8>,
     pub symbols: Vec<u8>,
     pub doubts: Vec<u8>,
 }
@@ -57,10 +59,10 @@ pub fn marks(shape: Shape, kind: Kind, number: usize) -> Vec<Mark> {
     let mut mark = || {
         let record = plans::record(Code::Mark, &plan, random);
         let rival = rival(Code::Mark, &plan, &record, random);
-        let [word, rival] = [&record, &rival].map(|record| Code::Mark.word(&plan, record));
+        let [word, rival_word] = [&record, &rival].map(|record| Code::Mark.word(&plan, record));
         let mut photo = |cost: u32, place: Place, harm: Harm| {
             let damage = Damage { place, harm, towards_rival: matches!(kind, Kind::Rivals) };
-            damaged(&plan, &word, &rival, cost, damage, random)
+            damaged(&plan, &word, &rival_word, cost, damage, random)
         };
         let photo = match kind {
             Kind::Clean => photo(0, Place::Anywhere, Harm::Error),
@@ -72,6 +74,7 @@ pub fn marks(shape: Shape, kind: Kind, number: usize) -> Vec<Mark> {
         Mark {
             plan: plan.bytes(),
             record: bytes(&record),
+            rival: bytes(&rival),
             symbols: bytes(&photo.symbols),
             doubts: bytes(&photo.doubts),
         }

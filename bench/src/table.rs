@@ -60,6 +60,7 @@ impl Line {
             Call::Read => format!("read {}", self.kind.described()),
             Call::Write => "write".into(),
             Call::Measure => "measure".into(),
+            Call::Explain => "explain".into(),
         }
     }
 

@@ -154,7 +154,7 @@ impl Counts {
     }
 
     /// Explanations by reason.
-    fn explained(&self) -> [u64; 3] {
+    pub fn explained(&self) -> [u64; 3] {
         let number = |k| self.reasons.iter().filter(|((_, reason), _)| *reason == k).map(|(_, n)| n).sum();
         [1, 2, 3].map(number)
     }

@@ -202,7 +202,8 @@ fn refused(answer: Result<(), Refusal>) -> u32 {
     answer.err().map_or(0, Refusal::number)
 }
 
-fn answered(answer: Result<traymark::Reading, Refusal>) -> Reading {
+/// What the wrapper says of measuring and reading.
+pub fn answered(answer: Result<traymark::Reading, Refusal>) -> Reading {
     match answer {
         Ok(traymark::Reading { cost, margin, changed, unread, class }) => {
             Reading { number: 0, cost, margin, changed, unread, class }
@@ -211,7 +212,8 @@ fn answered(answer: Result<traymark::Reading, Refusal>) -> Reading {
     }
 }
 
-fn told(answer: Result<traymark::Reason, Refusal>) -> Reason {
+/// What it says of explaining.
+pub fn told(answer: Result<traymark::Reason, Refusal>) -> Reason {
     match answer {
         Ok(traymark::Reason::Answer) => Reason::answer(),
         Ok(traymark::Reason::Other { place }) => Reason::other(place),

@@ -1,6 +1,6 @@
 //! The library's method once more, in plain Rust and unproved: what its times are held against.
 //!
-//! The three calls take the same bytes as those of `traymark`, make the same checks and give the same answers. Below
+//! The four calls take the same bytes as those of `traymark`, make the same checks and give the same answers. Below
 //! them the layers are those of the library: numbers modulo p (`field`), polynomials (`polynomial`), the strip decoder
 //! (`order`, `newton`, `interpolation`, `strip`), the mark decoder (`draft`, `steps`), the mark reader (`mark`). Nothing
 //! is allocated.
@@ -25,7 +25,7 @@ pub use field::{Plain, Reduction, Tuned};
 use plan::Plan;
 use polynomial::Powers;
 use tally::Tally;
-use traymark::{Reading, Refusal};
+use traymark::{Reading, Reason, Refusal};
 
 /// Writes the mark of a record, as `traymark::write_mark`.
 pub fn write_mark<R: Reduction>(plan: &[u8], record: &[u8], mark: &mut [u8]) -> Result<(), Refusal> {
@@ -52,13 +52,7 @@ pub fn measure_mark<R: Reduction>(
     let plan: Plan<R> = Plan::parse(plan)?;
     checks::photograph(&plan, symbols, doubts, record.len())?;
     checks::record(&plan, record)?;
-    let powers = Powers::new(&plan);
-    let in_y = powers.put_in_x(&polynomial::columns(record, plan.degree));
-    let mut tally = Tally::default();
-    let rows = symbols.chunks_exact(plan.columns).zip(doubts.chunks_exact(plan.columns));
-    for (r, (symbols, doubts)) in rows.enumerate() {
-        tally += Tally::new(symbols, doubts, &powers.row(&in_y, r));
-    }
+    let tally = tally(&plan, &Powers::new(&plan), record, symbols, doubts);
     Ok(tally.reading(symbols, plan.radius()))
 }
 
@@ -73,4 +67,49 @@ pub fn read_mark<R: Reduction>(
     checks::photograph(&plan, symbols, doubts, record.len())?;
     let tally = mark::decode(&plan, symbols, doubts, record).ok_or(Refusal::NoRecord)?;
     Ok(tally.reading(symbols, plan.radius()))
+}
+
+/// Explains why a record did not come up, as `traymark::explain_mark`.
+pub fn explain_mark<R: Reduction>(
+    plan: &[u8],
+    record: &[u8],
+    symbols: &[u8],
+    doubts: &[u8],
+    other: &mut [u8],
+) -> Result<Reason, Refusal> {
+    let plan: Plan<R> = Plan::parse(plan)?;
+    checks::lengths(&[(other.len(), plan.size())])?;
+    checks::photograph(&plan, symbols, doubts, record.len())?;
+    checks::record(&plan, record)?;
+    let powers = Powers::new(&plan);
+    let cost = tally(&plan, &powers, record, symbols, doubts).cost;
+    if cost < plan.radius() {
+        return Ok(Reason::Answer);
+    }
+    match mark::decode(&plan, symbols, doubts, other) {
+        Some(_) => Ok(Reason::Other { place: first_difference(&plan, &powers, record, other) }),
+        None => Ok(Reason::Nothing { excess: cost - plan.radius() }),
+    }
+}
+
+/// The tally of a record over all rows.
+fn tally<R: Reduction>(plan: &Plan<R>, powers: &Powers<R>, record: &[u8], symbols: &[u8], doubts: &[u8]) -> Tally {
+    let in_y = powers.put_in_x(&polynomial::columns(record, plan.degree));
+    let mut tally = Tally::default();
+    let rows = symbols.chunks_exact(plan.columns).zip(doubts.chunks_exact(plan.columns));
+    for (r, (symbols, doubts)) in rows.enumerate() {
+        tally += Tally::new(symbols, doubts, &powers.row(&in_y, r));
+    }
+    tally
+}
+
+/// The lowest place at which the marks of two records differ.
+fn first_difference<R: Reduction>(plan: &Plan<R>, powers: &Powers<R>, record: &[u8], answer: &[u8]) -> usize {
+    let marks = [record, answer].map(|record| powers.put_in_x(&polynomial::columns(record, plan.degree)));
+    let in_row = |r: usize| {
+        let [expected, found] = marks.each_ref().map(|in_y| powers.row(in_y, r));
+        let column = (0..plan.columns).find(|&c| expected[c] != found[c]);
+        column.map(|c| r * plan.columns + c)
+    };
+    (0..plan.rows).find_map(in_row).expect("two records have two marks")
 }
