@@ -64,6 +64,7 @@ fn later(code: Code, plan: &Plan, record: &[u32], (rows, columns): Agreement, ra
     agreeing(code, plan, &rival, [&row_points[..=rows], &column_points[..columns]], random)
 }
 
+/// Photographs of a record that cost about the radius: it is expected, and another whose mark agrees with its so far.
 fn expected_in_turn(
     code: Code,
     plan: &Plan,
@@ -102,12 +103,13 @@ fn expected_in_turn(
 /// The reason where the expected record costs the first sum and the other the second: two records cost twice the radius
 /// together at least. Where both cost more than the radius a third may be the answer.
 fn theory(radius: u32, [expected, other]: [u32; 2], place: usize) -> Option<Reason> {
-    match (expected, other) {
-        _ if expected < radius => Some(Reason::answer()),
-        _ if other < radius => Some(Reason::other(place)),
-        _ if expected == radius || other == radius => Some(Reason::nothing(expected - radius)),
-        _ => None,
+    if expected < radius {
+        return Some(Reason::answer());
     }
+    if other < radius {
+        return Some(Reason::other(place));
+    }
+    (expected == radius || other == radius).then(|| Reason::nothing(expected - radius))
 }
 
 /// The outcome with that reason, the answer being the other record where there is one.
