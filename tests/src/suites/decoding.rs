@@ -99,8 +99,11 @@ fn costing(
         let given = Arguments { record: bytes(record), ..given.clone() };
         explained(&given, plan, &outcome, random, counts)?;
     }
-    let given = Arguments { record: bytes(&expected[random.below(3)]), ..given };
-    hold(Call::Explain, &given, random, counts)?;
+    // the independent decoder reads anew to explain
+    if random.one_in(4) {
+        let given = Arguments { record: bytes(&expected[random.below(3)]), ..given.clone() };
+        hold(Call::Explain, &given, random, counts)?;
+    }
     theory(code, plan, &photo, &[&word, &rival], &outcome).map_err(|what| format!("{what}; {given:?}"))
 }
 
@@ -136,7 +139,8 @@ fn both_methods(code: Code, plan: &Plan, photo: &Photo, outcome: &Outcome, count
     Ok(())
 }
 
-/// Measuring a record, and explaining it, which says what follows from that and from what was read.
+/// Measuring a record, and explaining it, which says what follows from that and from what was read: both were held against the
+/// independent decoder.
 fn explained(
     given: &Arguments,
     plan: &Plan,
