@@ -3,7 +3,7 @@ use native.Mathlib.Omega.{arith}
 use borrow.Author.Needs.{needs}
 use Rattle.definitions.proofs.Explaining.{explains-answer, read-near, explains-other, explains-nothing}
 use Rattle.plan.proofs.Ready.{ready}
-use Rattle.explaining.proofs.Facts.{measured-cost, expecting-takes}
+use Rattle.explaining.proofs.Facts.{measured-cost, expecting-takes, excess-told}
 use Rattle.explaining.proofs.explain.Statement.{statement}
 use Rattle.explaining.proofs.explain.Tie as tie
 
@@ -21,7 +21,7 @@ returns-2 : tie.Need-returns-2
 returns-2 c P says x =
     let read = c .before .before .before .before in
     let m = read .before .before .before in
-    rw (measured-cost x (m .measure .ensures P says (x .photo)), m .before .radius .ensures P says)
+    excess-told x (measured-cost x (m .measure .ensures P says (x .photo))) (m .before .radius .ensures P says)
     (explains-nothing _ P _ _ _ _ x (read .read .ensures P says (expecting-takes x)) (c .if2 .taken))
 
 lowest-requires : tie.Need-lowest-requires
