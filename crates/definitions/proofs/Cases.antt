@@ -2,6 +2,7 @@
 --
 --   cases-hold                    cases a to l
 --   oblong-cases-hold             the cases of oblong marks
+--   explain-cases-hold            the cases of explaining
 --   more-cases-hold               the further cases
 --   class-bounds                  the class at each of its bounds
 --   index-cases                   the first number that passes a test
@@ -35,7 +36,7 @@ use Rattle.definitions.specs.Published.{_over_, _is_times_, distance, we
 use Rattle.definitions.specs.Tray.{trayReading, trayRecord}
 use Rattle.definitions.specs.Printed.{decimal, signed, spaced, readLine, recordLine, refusedLine, answerText, trayText}
 use Rattle.definitions.specs.Widening.{widened, widenedAll, widenRows, widenNumber, widenBuffer, widenText}
-use Rattle.definitions.specs.Cases.{effect, only, call, expected, cases, oblongCases, moreCases}
+use Rattle.definitions.specs.Cases.{effect, only, call, expected, cases, oblongCases, explainCases, moreCases}
 use Rattle.definitions.specs.Refusals.{_when_, table, Earliest}
 use Rattle.definitions.specs.Code.{oblong}
 use Rattle.definitions.specs.Demands.{Written}
@@ -50,6 +51,10 @@ cases-hold = refl
 pub oblong-cases-hold : map effect (map call oblongCases) ≡ map expected oblongCases
 unfolding effect
 oblong-cases-hold = refl
+
+pub explain-cases-hold : map effect (map call explainCases) ≡ map expected explainCases
+unfolding effect
+explain-cases-hold = refl
 
 pub more-cases-hold : map effect (map call moreCases) ≡ map expected moreCases
 unfolding effect

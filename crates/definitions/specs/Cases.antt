@@ -1,17 +1,19 @@
 -- Cases a to l of the table "Edges" of document 01, with plans of 40 bytes and unread cells counted apart as document 02 asks, as
--- rows of one list; the cases of oblong marks as those of another, and further ones.
+-- rows of one list; the cases of oblong marks as those of another, those of explaining, and further ones.
 --
---   call ⟹ reading leaving bytes    a call, what it returns, and what its last buffer then holds
---   effect                           the same by the definitions
+--   call ⟹ reading leaving bytes       a call, what it returns, and what its last buffer then holds
+--   call ⟹ explanation beside bytes    the same of explaining
+--   effect                              the same by the definitions
 --
 -- What this file is for: the definitions are held against the document's own examples; proofs/Cases.antt computes both sides.
 use mathlib.Core.List.{List, [], _∷_, _++_}
 use Prim.Native.Nat.{ℕ}
 use lib.IntN.{pos, negℤ}
 use lib.ListN.{replicate, take, drop, set}
-use Rattle.bounded.specs.Bounded.{any, tab}
+use Rattle.bounded.specs.Bounded.{any, tab, index}
 use Rattle.field.specs.Prime.{isPrime}
 use Rattle.definitions.specs.declared.Reading.{Reading}
+use Rattle.definitions.specs.declared.Explanation.{Explanation}
 use Rattle.definitions.specs.Refusals.{first}
 use Rattle.definitions.specs.Plan.{checkNumber, planRows}
 use Rattle.definitions.specs.Code.{Code, strip, oblong, mark}
@@ -22,16 +24,20 @@ use Rattle.definitions.specs.Search.{search, firstOf}
 use Rattle.definitions.specs.Calls.{photoRows, readingOf, writeRows, writeNumber, writeBuffer}
 use Rattle.definitions.specs.Calls.{measureRows, measureNumber, measureReading}
 use Rattle.definitions.specs.Calls.{within, nearest, readRows, readNumber, readReading, readBuffer}
+use Rattle.definitions.specs.Explaining.{explainRows, explainNumber, explainReason, explainBuffer, valuesOf}
 
 pub data Call : Type 0 where
   check : (P : List ℕ) → Call
   write : (C : Code) (P F B : List ℕ) → Call
   measure : (C : Code) (P s u F : List ℕ) → Call
   read : (C : Code) (P s u B : List ℕ) → Call
+  explain : (C : Code) (P s u F B : List ℕ) → Call
 
 infix 10 _leaving_
+infix 10 _beside_
 pub data Effect : Type 0 where
   _leaving_ : Reading → List ℕ → Effect
+  _beside_ : Explanation → List ℕ → Effect
 
 infix 5 _⟹_
 pub data Case : Type 0 where
@@ -46,10 +52,12 @@ unfoldable pub effect : Call → Effect
 unfolding any tab first isPrime checkNumber planRows value mark margin search firstOf photoRows readingOf
     writeRows writeNumber writeBuffer measureRows measureNumber measureReading
     within nearest readRows readNumber readReading readBuffer
+    index explainRows explainNumber explainReason explainBuffer
 effect (check P) = only (checkNumber P) leaving []
 effect (write C P F B) = only (writeNumber C P F B) leaving writeBuffer C P F B
 effect (measure C P s u F) = measureReading C P s u F leaving F
 effect (read C P s u B) = readReading C P s u B leaving readBuffer C P s u B
+effect (explain C P s u F B) = valuesOf (explainReason C P s u F B) beside explainBuffer C P s u F B
 
 abbrev pub call : Case → Call
 call (c ⟹ o) = c
@@ -60,6 +68,10 @@ expected (c ⟹ o) = o
 -- D, margin, changed, unread and class of a record
 abbrev pub gives : ℕ → ℕ → ℕ → ℕ → ℕ → Reading
 gives D z n m k = record { number = 0; cost = D; margin = pos z; changed = n; unread = m; class = k }
+
+-- number, reason, place and excess
+abbrev tells : ℕ → ℕ → ℕ → ℕ → Explanation
+tells k r c e = record { number = k; reason = r; place = c; excess = e }
 
 -- sixteen bytes that begin with the points x
 abbrev sixteen : List ℕ → List ℕ
@@ -194,6 +206,39 @@ oblongCases =
     ∷ (measure oblong (set planWide 4 0) markWide (sure 6) record₁ ⟹ only 13 leaving record₁)
     ∷ (read oblong (set planWide 4 0) markWide (sure 6) (nines 3) ⟹ only 13 leaving nines 3)
     ∷ (read oblong planWide (drop 1 markWide) (sure 6) (nines 3) ⟹ only 6 leaving nines 3)
+    ∷ []
+
+-- explaining: case c, its record expected, and records whose marks first differ from it in the second row, in the second column,
+-- and in the first cell; case d, which has no answer, its record on the radius, and a far one; cases e, g, h and i, and of h the
+-- other record, whose mark has one cell; strips, one of which differs from the answer in the last cell alone; oblong marks each
+-- way; 6 for each buffer, before 7; 7 before 8, 8 before 9, and 9; the plan before all
+abbrev pub explainCases : List Case
+explainCases =
+    (explain oblong planA photoC (sure 9) record₁ (nines 3) ⟹ tells 0 1 0 0 beside nines 3)
+    ∷ (explain oblong planA photoC (sure 9) (2 ∷ 2 ∷ 2 ∷ []) (nines 3) ⟹ tells 0 2 3 0 beside record₁)
+    ∷ (explain oblong planA photoC (sure 9) (1 ∷ 1 ∷ 4 ∷ []) (nines 3) ⟹ tells 0 2 1 0 beside record₁)
+    ∷ (explain oblong planA photoC (sure 9) (0 ∷ 0 ∷ 0 ∷ []) (nines 3) ⟹ tells 0 2 0 0 beside record₁)
+    ∷ (explain oblong planA photoD (sure 9) record₁ (nines 3) ⟹ tells 0 3 0 0 beside nines 3)
+    ∷ (explain oblong planA photoD (sure 9) (1 ∷ 0 ∷ 0 ∷ []) (nines 3) ⟹ tells 0 3 0 1000 beside nines 3)
+    ∷ (explain oblong planA photoD (1 ∷ 1 ∷ 1 ∷ sure 6) record₁ (nines 3) ⟹ tells 0 1 0 0 beside nines 3)  -- e
+    ∷ (explain oblong planA (hidden 6) (doubts 6) record₁ (nines 3) ⟹ tells 0 3 0 0 beside nines 3)  -- g
+    ∷ (explain oblong planH (1 ∷ []) (99 ∷ []) (1 ∷ []) (nines 1) ⟹ tells 0 1 0 0 beside nines 1)  -- h
+    ∷ (explain oblong planH (1 ∷ []) (99 ∷ []) (0 ∷ []) (nines 1) ⟹ tells 0 2 0 0 beside 1 ∷ [])
+    ∷ (explain oblong planH (1 ∷ []) (100 ∷ []) (1 ∷ []) (nines 1) ⟹ tells 0 3 0 0 beside nines 1)  -- i
+    ∷ (explain strip planA (4 ∷ 5 ∷ 255 ∷ []) (0 ∷ 0 ∷ 100 ∷ []) (3 ∷ 1 ∷ []) (nines 2) ⟹ tells 0 1 0 0 beside nines 2)
+    ∷ (explain strip planA (4 ∷ 5 ∷ 1 ∷ []) (sure 3) (0 ∷ 0 ∷ []) (nines 2) ⟹ tells 0 3 0 400 beside nines 2)
+    ∷ (explain strip (alike 5 3 2 (0 ∷ 1 ∷ 2 ∷ [])) (1 ∷ 1 ∷ 2 ∷ []) (sure 3) (1 ∷ 1 ∷ 4 ∷ []) (nines 3)
+    ⟹ tells 0 2 2 0 beside 1 ∷ 2 ∷ 3 ∷ [])
+    ∷ (explain oblong planWide markWide (sure 6) (2 ∷ 2 ∷ 2 ∷ []) (nines 3) ⟹ tells 0 2 3 0 beside record₁)
+    ∷ (explain oblong planTall markTall (sure 6) (3 ∷ 2 ∷ 2 ∷ []) (nines 3) ⟹ tells 0 2 2 0 beside record₁)
+    ∷ (explain oblong planA (7 ∷ drop 1 mark₁) (sure 9) record₁ (nines 4) ⟹ tells 6 0 0 0 beside nines 4)
+    ∷ (explain oblong planA (7 ∷ drop 1 mark₁) (sure 9) (3 ∷ 1 ∷ []) (nines 3) ⟹ tells 6 0 0 0 beside nines 3)
+    ∷ (explain oblong planA (7 ∷ drop 2 mark₁) (sure 9) record₁ (nines 3) ⟹ tells 6 0 0 0 beside nines 3)
+    ∷ (explain oblong planA (7 ∷ drop 1 mark₁) (sure 8) record₁ (nines 3) ⟹ tells 6 0 0 0 beside nines 3)
+    ∷ (explain oblong planA (7 ∷ drop 1 mark₁) (101 ∷ sure 8) record₁ (nines 3) ⟹ tells 7 0 0 0 beside nines 3)
+    ∷ (explain oblong planA mark₁ (101 ∷ sure 8) (3 ∷ 1 ∷ 7 ∷ []) (nines 3) ⟹ tells 8 0 0 0 beside nines 3)
+    ∷ (explain oblong planA mark₁ (sure 9) (3 ∷ 1 ∷ 7 ∷ []) (nines 3) ⟹ tells 9 0 0 0 beside nines 3)
+    ∷ (explain strip (set planWide 4 0) [] [] [] (nines 3) ⟹ tells 13 0 0 0 beside nines 3)
     ∷ []
 
 -- not of the table: a strip written and read, a plan with several faults at once, records of total degree 2, and of 3; each
