@@ -34,7 +34,8 @@ use Rattle.definitions.specs.Photograph.{sure}
 use Rattle.definitions.specs.Finder.{findRows, findNumber, findOffset, findBytes}
 use Rattle.definitions.specs.Published.{_over_, _is_times_, distance, weighted}
 use Rattle.definitions.specs.Tray.{trayReading, trayRecord}
-use Rattle.definitions.specs.Printed.{decimal, signed, spaced, readLine, recordLine, refusedLine, answerText, trayText}
+use Rattle.definitions.specs.Printed.{decimal, signed, spaced, costs, readLine, recordLine, numberLine}
+use Rattle.definitions.specs.Printed.{answerText, trayText}
 use Rattle.definitions.specs.Widening.{widened, widenedAll, widenRows, widenNumber, widenBuffer, widenText}
 use Rattle.definitions.specs.Cases.{effect, only, call, expected, cases, oblongCases, explainCases, moreCases}
 use Rattle.definitions.specs.Refusals.{_when_, table, Earliest}
@@ -147,7 +148,7 @@ pub text-cases :
     ≡ reading (49 ∷ 50 ∷ []) caseC ∷ reading (50 ∷ 54 ∷ 56 ∷ []) caseC ∷ reading (49 ∷ 50 ∷ []) caseF
     ∷ refusal (49 ∷ 48 ∷ []) ∷ refusal (54 ∷ []) ∷ refusal (54 ∷ []) ∷ refusal (49 ∷ [])
     ∷ refusal (49 ∷ 51 ∷ []) ∷ refusal (49 ∷ []) ∷ reading (49 ∷ 50 ∷ []) oblongClean ∷ reading (49 ∷ 50 ∷ []) oblongClean ∷ []
-unfolding effect trayReading trayRecord decimal signed spaced readLine recordLine refusedLine answerText trayText
+unfolding effect trayReading trayRecord decimal signed spaced costs readLine recordLine numberLine answerText trayText
 text-cases = refl
 
 -- six coefficients, and one
@@ -196,5 +197,5 @@ widening-cases = refl
 -- three plans; none; a byte too many
 pub widening-texts : map widenText ((narrowA ++ set narrowA 2 9 ++ set narrowA 2 8) ∷ [] ∷ (narrowA ++ 0 ∷ []) ∷ [])
     ≡ (planA ++ set planA 2 9 ++ set planA 2 8) ∷ [] ∷ refusal (49 ∷ 49 ∷ []) ∷ []
-unfolding effect decimal spaced refusedLine widened widenedAll widenText
+unfolding effect decimal spaced numberLine widened widenedAll widenText
 widening-texts = refl

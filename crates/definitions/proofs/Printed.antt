@@ -4,8 +4,9 @@
 --   decimal-length, signed-length   a number below 10^(k + 1) has at most k + 1 digits, and a sign
 --   spaced-length                   n such numbers, each after a space
 --   spaced-append, spaced-one       two lists of numbers one after the other; one number
---   read-length, record-length      the two lines of a reading
---   refused-length                  the line of a refusal
+--   number-length                   a number of 32 bits after a space
+--   costs-length, record-length     the end of a line with a cost, and the line of a record
+--   line-length                     a line of a word and a number
 --
 -- What this file is for: text is put digit by digit, into a buffer of a known size. Assumes nothing.
 use mathlib.Core.Path.{_≡_, refl, sym}
@@ -18,7 +19,7 @@ use lib.IntN.{ℤ, pos, negsuc, natAbs}
 use lib.ListN.{length, length-append}
 use Rattle.bounded.specs.Bounded.{at}
 use Rattle.definitions.specs.declared.Reading.{Reading}
-use Rattle.definitions.specs.Printed.{digit, digits, decimal, signed, space, spaced, readLine, recordLine, refusedLine}
+use Rattle.definitions.specs.Printed.{digit, digits, decimal, signed, space, spaced, costs, recordLine, numberLine}
 
 digits-zero : (k : ℕ) → digits k 0 ≡ []
 digits-zero zero = refl
@@ -80,24 +81,19 @@ pub spaced-one : (n : ℕ) → spaced (n ∷ []) ≡ space ∷ decimal n
 unfolding spaced
 spaced-one n = rw append-nil
 
--- a line of numbers of 32 bits, of which the margin has a sign; a line of bytes; and a refusal
-pub read-length : (y : ℕ) (r : Reading) → y < 2 ^ 32 → r .changed < 2 ^ 32 → r .unread < 2 ^ 32 →
-    r .class < 2 ^ 32 → r .cost < 2 ^ 32 → natAbs (r .margin) < 2 ^ 32 → length (readLine y r) ≤ 72
-unfolding readLine spaced
-read-length y r h₁ h₂ h₃ h₄ h₅ h₆ = simp length-append (omega (
-  arith,
-  decimal-length 9 y (omega arith),
-  decimal-length 9 (r .changed) (omega arith),
-  decimal-length 9 (r .unread) (omega arith),
-  decimal-length 9 (r .class) (omega arith),
-  decimal-length 9 (r .cost) (omega arith),
-  signed-length 9 (r .margin) (omega arith),
-))
+-- numbers of 32 bits, of which the margin has a sign; a line of bytes
+pub number-length : (n : ℕ) → n < 2 ^ 32 → length (spaced (n ∷ [])) ≤ 11
+number-length n h = rw (spaced-one n) (omega (arith, decimal-length 9 n (omega arith)))
+
+pub costs-length : (r : Reading) → r .cost < 2 ^ 32 → natAbs (r .margin) < 2 ^ 32 → length (costs r) ≤ 24
+unfolding costs
+costs-length r h m =
+    simp length-append (omega (arith, number-length (r .cost) h, signed-length 9 (r .margin) (omega arith)))
 
 pub record-length : (F : List ℕ) → ((i : ℕ) → at F i < 256) → length (recordLine F) ≤ 7 + 4 * length F
 unfolding recordLine
 record-length F h = simp length-append (omega (arith, spaced-length 2 F (λ i. omega (arith, h i))))
 
-pub refused-length : (k : ℕ) → k < 2 ^ 32 → length (refusedLine k) ≤ 19
-unfolding refusedLine spaced
-refused-length k h = simp length-append (omega (arith, decimal-length 9 k (omega arith)))
+pub line-length : (w : List ℕ) (k : ℕ) → k < 2 ^ 32 → length (numberLine w k) ≤ length w + 12
+unfolding numberLine
+line-length w k h = simp length-append (omega (arith, number-length k h))

@@ -3,10 +3,11 @@
 --   decimal n       the digits of n, the most significant first; 0 has one digit, and no other number begins with 0
 --   signed z        the same of a signed number, with '-' in front where it is below 0
 --   spaced ns       the numbers ns, each after a space
+--   costs r         how a line ends that has a cost: the cost of the reading r and its margin
 --   readLine y r    READ, the season y and five numbers of the reading r
 --   recordLine F    RECORD, the coefficients F
---   refusedLine k   REFUSED, the number k
---   trayText input  what `trayread` prints for an input: the first two lines, or the third
+--   numberLine w k  a word w and the number k: `refusedLine` for REFUSED
+--   trayText input  what `trayread` prints for an input: READ and RECORD, or REFUSED
 --
 -- What this file is for: the one answer of `trayread` is `trayText` of all that came in, whatever its length.
 use mathlib.Core.List.{List, [], _∷_, _++_}
@@ -57,15 +58,20 @@ recordWord = 82 ∷ 69 ∷ 67 ∷ 79 ∷ 82 ∷ 68 ∷ []
 abbrev pub refusedWord : List ℕ
 refusedWord = 82 ∷ 69 ∷ 70 ∷ 85 ∷ 83 ∷ 69 ∷ 68 ∷ []
 
+unfoldable pub costs : Reading → List ℕ
+costs r = spaced (r .cost ∷ []) ++ space ∷ signed (r .margin) ++ newline ∷ []
+
 unfoldable pub readLine : (y : ℕ) (r : Reading) → List ℕ
-readLine y r =
-    readWord ++ spaced (y ∷ r .changed ∷ r .unread ∷ r .class ∷ r .cost ∷ []) ++ space ∷ signed (r .margin) ++ newline ∷ []
+readLine y r = readWord ++ spaced (y ∷ r .changed ∷ r .unread ∷ r .class ∷ []) ++ costs r
 
 unfoldable pub recordLine : List ℕ → List ℕ
 recordLine F = recordWord ++ spaced F ++ newline ∷ []
 
-unfoldable pub refusedLine : ℕ → List ℕ
-refusedLine k = refusedWord ++ spaced (k ∷ []) ++ newline ∷ []
+unfoldable pub numberLine : (w : List ℕ) (k : ℕ) → List ℕ
+numberLine w k = w ++ spaced (k ∷ []) ++ newline ∷ []
+
+abbrev pub refusedLine : ℕ → List ℕ
+refusedLine k = numberLine refusedWord k
 
 -- a reading of the season y with its record F, or a refusal
 unfoldable pub answerText : (y : ℕ) (r : Reading) (F : List ℕ) → List ℕ

@@ -1,11 +1,13 @@
 // Text put into a lent buffer, piece after piece: each function puts its bytes from `at` on, changes no other byte, and returns
-// the place after them. The caller sees to it that they fit. And the part of a room that holds what a program read.
+// the place after them. The caller sees to it that they fit. The lines that more than one program prints are here. And the part
+// of a room that holds what a program read.
+use definitions::Reading;
 ghost use mathlib.Core.Path.{_≡_};
 ghost use mathlib.Core.List.{[], _∷_};
-ghost use Prim.Native.Nat.{_+_, _≤_, _<_};
+ghost use Prim.Native.Nat.{_+_, _*_, _≤_, _<_};
 ghost use lib.IntN.{natAbs};
 ghost use lib.ListN.{length, take};
-ghost use Rattle.definitions.specs.Printed.{digit, decimal, signed, spaced, refusedLine};
+ghost use Rattle.definitions.specs.Printed.{digit, decimal, signed, spaced, costs, recordLine, numberLine, refusedLine};
 ghost use Rattle.text.specs.Put.{Put};
 
 // A word.
@@ -96,14 +98,45 @@ fn wide(byte: u8) -> u32
     byte as u32
 }
 
-// The line of a refusal: REFUSED and a number of at most 10 digits, from the start of the text.
+// The end of a line: the cost, of at most 10 digits, and the margin, of at most 11 characters, each after a space.
+pub fn put_costs(text: &mut [u8], at: usize, reading: Reading) -> usize
+    requires { ⌜ at + 24 ≤ length (now text) ⌝ }
+    ensures line { λ r. ⌜ Put (now (text .entry)) at (costs reading) (now (text .exit)) r ⌝ }
+    ensures most { λ r. ⌜ r ≤ at + 24 ⌝ }
+{
+    let at = put_spaced(text, at, reading.cost);
+    let at = put_byte(text, at, b' ');
+    let at = put_signed(text, at, reading.margin);
+    put_byte(text, at, b'\n')
+}
+
+// The line of a record: RECORD and the coefficients, each of at most 3 digits.
+pub fn put_record(text: &mut [u8], at: usize, record: &[u8]) -> usize
+    requires { ⌜ at + (7 + 4 * length (now «record»)) ≤ length (now text) ⌝ }
+    ensures { λ r. ⌜ Put (now (text .entry)) at (recordLine (now («record» .entry))) (now (text .exit)) r ⌝ }
+{
+    let at = put_bytes(text, at, b"RECORD");
+    let end = put_all_spaced(text, at, record);
+    put_bytes(text, end, b"\n")
+}
+
+// A line of a word and a number of at most 10 digits, from the start of the text.
+pub fn put_line(text: &mut [u8], word: &[u8], number: u32) -> usize
+    requires { ⌜ length (now word) + 12 ≤ length (now text) ⌝ }
+    ensures line { λ r. ⌜ Put (now (text .entry)) 0 (numberLine (now (word .entry)) number) (now (text .exit)) r ⌝ }
+    ensures most { λ r. ⌜ r ≤ length (now (word .entry)) + 12 ⌝ }
+{
+    let at = put_bytes(text, 0, word);
+    let at = put_spaced(text, at, number);
+    put_byte(text, at, b'\n')
+}
+
+// The line of a refusal.
 pub fn put_refused(text: &mut [u8], number: u32) -> usize
     requires { ⌜ 19 ≤ length (now text) ⌝ }
     ensures { λ r. ⌜ Put (now (text .entry)) 0 (refusedLine number) (now (text .exit)) r ⌝ }
 {
-    let at = put_bytes(text, 0, b"REFUSED");
-    let at = put_spaced(text, at, number);
-    put_bytes(text, at, b"\n")
+    put_line(text, b"REFUSED", number)
 }
 
 // The first n bytes, or all where there are fewer.

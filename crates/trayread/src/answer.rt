@@ -4,6 +4,7 @@ use definitions::PLAN_BYTES;
 use polynomial::bivariate::LONGEST;
 use polynomial::bivariate::start;
 use text::first;
+use text::put_record;
 use text::put_refused;
 use traymark::plans::traymark_check_plan;
 use traymark::read::traymark_read_mark;
@@ -91,5 +92,5 @@ fn answer_mark(
         return put_refused(text, reading.number);
     }
     let at = lines::put_read(text, season, reading);
-    lines::put_record(text, at, record)
+    put_record(text, at, record)
 }

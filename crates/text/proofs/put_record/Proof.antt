@@ -1,12 +1,12 @@
--- `trayread::lines::put_record` meets its contract. Assumes nothing.
+-- `text::put_record` meets its contract. Assumes nothing.
 use native.Mathlib.Omega.{arith}
 use lib.ListN.{length-append}
 use borrow.Author.Needs.{needs}
 use Rattle.definitions.specs.Printed.{recordLine}
 use Rattle.definitions.proofs.Printed.{record-length}
 use Rattle.text.proofs.Put.{put-then, put-length}
-use Rattle.trayread.proofs.lines.put_record.Statement.{statement}
-use Rattle.trayread.proofs.lines.put_record.Tie as tie
+use Rattle.text.proofs.put_record.Statement.{statement}
+use Rattle.text.proofs.put_record.Tie as tie
 
 put-all-spaced-requires : tie.Need-put-all-spaced-requires
 unfolding recordLine
