@@ -287,8 +287,8 @@ pub record GroupsFill (d : ℕ) : Type 0 where
 
 pub record TrayParts (P s u : List ℕ) : Type 0 where
   pub plan : planOf (P ++ (s ++ u)) ≡ P
-  pub symbols : symbolsOf (P ++ (s ++ u)) ≡ s
-  pub doubts : doubtsOf (P ++ (s ++ u)) ≡ u
+  pub symbols : symbolsOf planBytes (P ++ (s ++ u)) ≡ s
+  pub doubts : doubtsOf planBytes (P ++ (s ++ u)) ≡ u
 
 pub record TrayRefused (input : List ℕ) : Type 0 where
   pub short : length input < 40 → trayText input ≡ refusedLine 1

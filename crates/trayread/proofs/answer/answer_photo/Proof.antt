@@ -1,7 +1,7 @@
 -- `trayread::answer::answer_photo` meets its contract: the cells and the record of a sound plan fit. Assumes nothing.
-use mathlib.Core.Path.{_≡_, refl, sym, ap, _∙_}
-use mathlib.Core.List.{List, _∷_}
-use Prim.Native.Nat.{ℕ, zero, suc, _+_, _*_, _-_, _≤_}
+use mathlib.Core.Path.{_≡_, refl, sym, _∙_}
+use mathlib.Core.List.{List}
+use Prim.Native.Nat.{ℕ, _+_, _*_, _-_, _≤_}
 use native.Mathlib.Omega.{arith}
 use native.Mathlib.Nat.{mul-le-mul, add-sub-cancel-left}
 use lib.ListN.{length, take, drop, replicate, length-replicate, length-drop}
@@ -17,19 +17,13 @@ use Rattle.definitions.specs.Tray.{planOf, bufferOf, trayReading, trayRecord}
 use Rattle.definitions.specs.Printed.{trayText}
 use Rattle.definitions.proofs.Plan.{plan-longest, mark-size}
 use Rattle.definitions.proofs.Sound.{sound}
-use Rattle.definitions.proofs.Tray.{count-text}
+use Rattle.definitions.proofs.Tray.{buffer-zeros, count-text}
 use Rattle.plan.specs.declared.Plan.{Plan}
 use Rattle.plan.specs.Says.{Says}
 use Rattle.plan.proofs.Ready.{ready}
 use Rattle.plan.proofs.Values.{mark-cells}
 use Rattle.trayread.proofs.answer.answer_photo.Statement.{statement}
 use Rattle.trayread.proofs.answer.answer_photo.Tie as tie
-
--- so many of the zeros
-zeros : (n m : ℕ) → n ≤ m → take {A = ℕ} n (replicate m 0) ≡ replicate n 0
-zeros zero m l = refl
-zeros (suc n) zero l = absurd (omega arith)
-zeros (suc n) (suc m) l = ap (λ s. 0 ∷ s) (zeros n m (omega arith))
 
 module _ (s : tie.Start) where
   abbrev input : List ℕ
@@ -43,7 +37,7 @@ module _ (s : tie.Start) where
   size-most = plan-longest plan
 
   cut : (n : ℕ) → n ≡ size oblong (planOf input) → take {A = ℕ} n (replicate longest 0) ≡ bufferOf input
-  cut n e = rw e (zeros (size oblong (planOf input)) longest size-most)
+  cut n e = buffer-zeros input n longest e size-most
 
   -- what the plan's struct says
   module _ {said : Plan} (says : Says (planOf input) said) where
