@@ -13,6 +13,7 @@
 --                                 what is not: 4 before 13, and a mark written column by column
 --   tray-cases                    case c as `trayread` reads it
 --   text-cases, record-cases      what it prints
+--   why-texts                     what `traywhy` prints
 --   decimal-cases, signed-cases   numbers in print
 --   widening-cases                plans of 24 bytes widened, and refused
 --   widening-texts                what `planwiden` prints
@@ -34,8 +35,9 @@ use Rattle.definitions.specs.Photograph.{sure}
 use Rattle.definitions.specs.Finder.{findRows, findNumber, findOffset, findBytes}
 use Rattle.definitions.specs.Published.{_over_, _is_times_, distance, weighted}
 use Rattle.definitions.specs.Tray.{trayReading, trayRecord}
-use Rattle.definitions.specs.Printed.{decimal, signed, spaced, costs, readLine, recordLine, numberLine}
-use Rattle.definitions.specs.Printed.{answerText, trayText}
+use Rattle.definitions.specs.Why.{whyReason, whyOther, whyReading}
+use Rattle.definitions.specs.Printed.{decimal, signed, spaced, costs, readLine, recordLine, answerLine, numberLine}
+use Rattle.definitions.specs.Printed.{answerText, trayText, whyText}
 use Rattle.definitions.specs.Widening.{widened, widenedAll, widenRows, widenNumber, widenBuffer, widenText}
 use Rattle.definitions.specs.Cases.{effect, only, call, expected, cases, oblongCases, explainCases, moreCases}
 use Rattle.definitions.specs.Refusals.{_when_, table, Earliest}
@@ -119,10 +121,12 @@ pub tray-cases :
 unfolding effect trayReading
 tray-cases = refl
 
--- READ, the season's digits and other characters, RECORD 3 1 2; REFUSED and a number's digits
+-- RECORD 3 1 2; READ, the season's digits and other characters, and that; REFUSED and a number's digits
+abbrev line₁ : List ℕ
+line₁ = 82 ∷ 69 ∷ 67 ∷ 79 ∷ 82 ∷ 68 ∷ 32 ∷ 51 ∷ 32 ∷ 49 ∷ 32 ∷ 50 ∷ 10 ∷ []
+
 abbrev reading : (season others : List ℕ) → List ℕ
-reading season others = 82 ∷ 69 ∷ 65 ∷ 68 ∷ 32 ∷ season ++ others
-    ++ 10 ∷ 82 ∷ 69 ∷ 67 ∷ 79 ∷ 82 ∷ 68 ∷ 32 ∷ 51 ∷ 32 ∷ 49 ∷ 32 ∷ 50 ∷ 10 ∷ []
+reading season others = 82 ∷ 69 ∷ 65 ∷ 68 ∷ 32 ∷ season ++ others ++ 10 ∷ line₁
 
 -- 2 0 1 400 200; 0 5 0 500 100; 0 0 0 0 300
 abbrev caseC : List ℕ
@@ -150,6 +154,43 @@ pub text-cases :
     ∷ refusal (49 ∷ 51 ∷ []) ∷ refusal (49 ∷ []) ∷ reading (49 ∷ 50 ∷ []) oblongClean ∷ reading (49 ∷ 50 ∷ []) oblongClean ∷ []
 unfolding effect trayReading trayRecord decimal signed spaced costs readLine recordLine numberLine answerText trayText
 text-cases = refl
+
+-- ANSWER and further digits; OTHER and a digit, and RECORD 3 1 2; NONE and a number's digits
+abbrev answer : List ℕ → List ℕ
+answer costs = 65 ∷ 78 ∷ 83 ∷ 87 ∷ 69 ∷ 82 ∷ 32 ∷ costs ++ 10 ∷ []
+
+abbrev other : ℕ → List ℕ
+other place = 79 ∷ 84 ∷ 72 ∷ 69 ∷ 82 ∷ 32 ∷ place ∷ 10 ∷ line₁
+
+abbrev none : List ℕ → List ℕ
+none excess = 78 ∷ 79 ∷ 78 ∷ 69 ∷ 32 ∷ excess ++ 10 ∷ []
+
+-- of plan A, a record and a photograph without doubts
+abbrev asked : (F s : List ℕ) → List ℕ
+asked F s = planA ++ F ++ s ++ sure 9
+
+-- case c with 3 1 2 expected, with 2 2 2 and with 0 0 0; case d with 3 1 2, which costs the radius, and with 2 2 2; case c a byte
+-- short, a byte too long, and without the record; symbols, doubts and coefficients that are too large, in their order; an oblong
+-- mark each way, the second with 3 0 2 expected; no columns; a plan a byte short; nothing
+pub why-texts :
+    map whyText (
+    asked record₁ photoC ∷ asked (2 ∷ 2 ∷ 2 ∷ []) photoC ∷ asked (0 ∷ 0 ∷ 0 ∷ []) photoC
+    ∷ asked record₁ photoD ∷ asked (2 ∷ 2 ∷ 2 ∷ []) photoD
+    ∷ (planA ++ record₁ ++ photoC ++ sure 8) ∷ (planA ++ record₁ ++ photoC ++ sure 10) ∷ (planA ++ photoC ++ sure 9)
+    ∷ (planA ++ nines 3 ++ nines 9 ++ nines 8 ++ 101 ∷ []) ∷ (planA ++ nines 3 ++ mark₁ ++ sure 8 ++ 101 ∷ [])
+    ∷ asked (3 ∷ 1 ∷ 7 ∷ []) mark₁
+    ∷ (planWide ++ record₁ ++ markWide ++ sure 6) ∷ (planTall ++ (3 ∷ 0 ∷ 2 ∷ []) ++ markTall ++ sure 6)
+    ∷ (set planWide 4 0 ++ record₁) ∷ drop 1 planA ∷ [] ∷ []
+    )
+    ≡ answer (52 ∷ 48 ∷ 48 ∷ 32 ∷ 50 ∷ 48 ∷ 48 ∷ []) ∷ other 51 ∷ other 48
+    ∷ none (48 ∷ []) ∷ none (49 ∷ 50 ∷ 48 ∷ 48 ∷ [])
+    ∷ refusal (54 ∷ []) ∷ refusal (54 ∷ []) ∷ refusal (54 ∷ [])
+    ∷ refusal (55 ∷ []) ∷ refusal (56 ∷ [])
+    ∷ refusal (57 ∷ [])
+    ∷ answer (48 ∷ 32 ∷ 51 ∷ 48 ∷ 48 ∷ []) ∷ other 50
+    ∷ refusal (49 ∷ 51 ∷ []) ∷ refusal (49 ∷ []) ∷ refusal (49 ∷ []) ∷ []
+unfolding effect whyReason whyOther whyReading decimal signed spaced costs answerLine recordLine numberLine whyText
+why-texts = refl
 
 -- six coefficients, and one
 pub record-cases : map recordLine ((1 ∷ 0 ∷ 0 ∷ 2 ∷ 3 ∷ 40 ∷ []) ∷ (9 ∷ []) ∷ [])

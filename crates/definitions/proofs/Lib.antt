@@ -20,4 +20,5 @@ pub mod Explained
 pub mod Printed
 pub mod Room
 pub mod Tray
+pub mod Why
 pub mod Widening

@@ -44,6 +44,10 @@
 --                           as its mark has cells
 --   TrayRefused input       `trayread` prints 1 for fewer than 40 bytes, else an unsound plan's own number, whatever follows,
 --                           else 6 for another count of bytes than 40 and two for each cell
+--   WhyParts P F s u        what `traywhy` takes for plan, expected record, symbols and doubts of the input P, F, s, u, a plan,
+--                           as many coefficients as its record has, and as many symbols as its mark has cells
+--   WhyRefused input        `traywhy` prints 1 for fewer than 40 bytes, else an unsound plan's own number, whatever follows, else
+--                           6 for another count of bytes than 40, K, and two for each cell
 --   WidensExactly old wide  widening gives 11 where the bytes old are more than 1,000 plans or no whole number of them, else 6
 --                           where the buffer has not 40 bytes for each, else 0, with the plans in the buffer
 --   PrintsExactly input     `planwiden` prints REFUSED 11 in just these cases, else the plans
@@ -86,7 +90,8 @@ use Rattle.definitions.specs.Photograph.{Photograph, sure}
 use Rattle.definitions.specs.Widening.{widened, widenedAll, widenRows, widenNumber, widenBuffer}
 use Rattle.definitions.specs.Widening.{widenText, narrowNumber, cleared}
 use Rattle.definitions.specs.Tray.{planOf, symbolsOf, doubtsOf}
-use Rattle.definitions.specs.Printed.{refusedLine, trayText}
+use Rattle.definitions.specs.Why.{expectedOf, shownSymbols, shownDoubts}
+use Rattle.definitions.specs.Printed.{refusedLine, trayText, whyText}
 
 pub record RefusalsKeep : Type 0 where
   pub write : (C : Code) (P F B : List ℕ) → writeNumber C P F B ≢ 0 → writeBuffer C P F B ≡ B
@@ -295,6 +300,19 @@ pub record TrayRefused (input : List ℕ) : Type 0 where
   pub unsound : checkNumber (planOf input) ≢ 0 → trayText input ≡ refusedLine (checkNumber (planOf input))
   pub count : checkNumber (planOf input) ≡ 0 → length input ≢ 40 + 2 * (rows (planOf input) * columns (planOf input)) →
       trayText input ≡ refusedLine 6
+
+pub record WhyParts (P F s u : List ℕ) : Type 0 where
+  pub plan : planOf (P ++ (F ++ (s ++ u))) ≡ P
+  pub expected : expectedOf (P ++ (F ++ (s ++ u))) ≡ F
+  pub symbols : shownSymbols (P ++ (F ++ (s ++ u))) ≡ s
+  pub doubts : shownDoubts (P ++ (F ++ (s ++ u))) ≡ u
+
+pub record WhyRefused (input : List ℕ) : Type 0 where
+  pub short : length input < 40 → whyText input ≡ refusedLine 1
+  pub unsound : checkNumber (planOf input) ≢ 0 → whyText input ≡ refusedLine (checkNumber (planOf input))
+  pub count : checkNumber (planOf input) ≡ 0 →
+      length input ≢ 40 + places (degree (planOf input)) + 2 * (rows (planOf input) * columns (planOf input)) →
+      whyText input ≡ refusedLine 6
 
 pub record WidensExactly (old wide : List ℕ) : Type 0 where
   pub many : 1000 * 24 < length old → widenNumber old wide ≡ 11

@@ -10,6 +10,7 @@ pub mod Explaining
 pub mod Finder
 pub mod Room
 pub mod Tray
+pub mod Why
 pub mod Printed
 pub mod Widening
 pub mod Cases

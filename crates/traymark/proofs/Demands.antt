@@ -16,6 +16,7 @@
 --   found-exactly, first-found           document 02, request 2: when a plan of a season is found, and which
 --   groups-fill                          document 02, request 4: where the coefficients of a record stand
 --   tray-parts, tray-refused             what `trayread` takes of its input, and when it refuses it
+--   why-parts, why-refused               the same of `traywhy`
 --   prints-exactly                       when `planwiden` refuses its input
 --   widens-exactly, widened-keeps, widened-in-order
 --                                        document 02, request 3: when plans are widened, what one becomes, and all of a file
@@ -30,7 +31,7 @@ use native.Mathlib.Omega.{arith}
 use native.Mathlib.Numerals.{add-one}
 use lib.ListN.{length}
 use Rattle.bounded.specs.Bounded.{at, index}
-use Rattle.definitions.specs.Plan.{planBytes, rows, columns, planRows, checkNumber}
+use Rattle.definitions.specs.Plan.{planBytes, rows, columns, degree, planRows, checkNumber}
 use Rattle.definitions.specs.Code.{Code, size, cells, value, mark}
 use Rattle.definitions.specs.Cost.{full}
 use Rattle.definitions.specs.Calls.{photoRows, writeRows, writeNumber, writeBuffer}
@@ -45,13 +46,15 @@ use Rattle.definitions.specs.Accepted.{Writing, Expecting}
 use Rattle.definitions.specs.Demands.{CheckedExactly, PlanFirst, WrittenExactly, TakenExactly, ExplainsExactly, Explained}
 use Rattle.definitions.specs.Demands.{RefusalsKeep, Shapes, Written, RoundTrip, Weighed, Nearest}
 use Rattle.definitions.specs.Demands.{UnreadCosts, MarkMargins, LowestGiven, Measures, FoundExactly, FirstOfSeason}
-use Rattle.definitions.specs.Demands.{GroupsFill, places, TrayParts, TrayRefused, WidensExactly, PrintsExactly}
+use Rattle.definitions.specs.Demands.{GroupsFill, places, TrayParts, TrayRefused, WhyParts, WhyRefused}
+use Rattle.definitions.specs.Demands.{WidensExactly, PrintsExactly}
 use Rattle.definitions.specs.Demands.{Widened, WidenedInOrder}
 use Rattle.definitions.specs.Refusals.{table}
 use Rattle.definitions.proofs.Refusals.{first-earliest, first-absent}
 use Rattle.definitions.proofs.Finder as finder
 use Rattle.definitions.proofs.Widening as widening
 use Rattle.definitions.proofs.Tray as tray
+use Rattle.definitions.proofs.Why as why
 use Rattle.definitions.proofs.Sound as plans
 use Rattle.definitions.proofs.Accepted as accepted
 use Rattle.definitions.proofs.Plan.{strip-size, mark-size}
@@ -239,6 +242,15 @@ tray-parts = tray.tray-parts
 -- sound plan.
 pub tray-refused : (input : List ℕ) → TrayRefused input
 tray-refused = tray.tray-refused
+
+-- `traywhy` takes a plan, as many coefficients as its record has, the symbols of its mark and what follows for what they are.
+pub why-parts : (P F s u : List ℕ) → length P ≡ planBytes → length F ≡ places (degree P) → length s ≡ rows P * columns P →
+    WhyParts P F s u
+why-parts P F s u e f = why.why-parts P F s u e (f ∙ sym (shapes P .markSize))
+
+-- It refuses as `trayread` does, with the record's coefficients in the count of bytes.
+pub why-refused : (input : List ℕ) → WhyRefused input
+why-refused = why.why-refused
 
 -- `planwiden` prints REFUSED 11 for more than 1,000 plans or a broken one, else the plans.
 pub prints-exactly : (input : List ℕ) → PrintsExactly input
