@@ -63,6 +63,17 @@ pub fn old(square: &Plan) -> Vec<u8> {
     old
 }
 
+/// The bytes of a plan of season 12.
+pub fn season_12(p: u32, degree: usize, row_points: &[u32], column_points: &[u32]) -> Vec<u8> {
+    let [row_points, column_points] = [row_points, column_points].map(<[u32]>::to_vec);
+    Plan { season: 12, p, degree, row_points, column_points }.bytes().to_vec()
+}
+
+/// Plan A of document 01: season 12, p 7, points 1 2 4 each way, d 1.
+pub fn plan_a() -> Vec<u8> {
+    season_12(7, 1, &[1, 2, 4], &[1, 2, 4])
+}
+
 /// Any rising points; 0 is often among them.
 fn points(p: u32, number: usize, random: &mut Random) -> Vec<u32> {
     let mut points: Vec<u32> = (0..p).collect();

@@ -5,8 +5,8 @@ use crate::printed::printed;
 use independent::calls::bytes;
 use independent::{Code, Plan, PLAN};
 use traymark_tests::photo::{photograph, rival};
-use traymark_tests::plans::{self, Shape, LARGE_OBLONGS, LARGE_SQUARES};
-use traymark_tests::program::Input;
+use traymark_tests::plans::{self, plan_a, season_12, Shape, LARGE_OBLONGS, LARGE_SQUARES};
+use traymark_tests::program::{changed, Input};
 use traymark_tests::random::Random;
 
 pub fn inputs() -> Vec<Input> {
@@ -26,17 +26,6 @@ pub fn inputs() -> Vec<Input> {
 fn input(name: impl Into<String>, bytes: Vec<u8>) -> Input {
     let printed = printed(&bytes);
     Input::new(name, bytes, printed)
-}
-
-/// A plan of season 12.
-fn plan(p: u32, degree: usize, row_points: &[u32], column_points: &[u32]) -> Vec<u8> {
-    let [row_points, column_points] = [row_points, column_points].map(<[u32]>::to_vec);
-    Plan { season: 12, p, degree, row_points, column_points }.bytes().to_vec()
-}
-
-/// Plan A of document 01: season 12, p 7, points 1 2 4 each way, d 1.
-fn plan_a() -> Vec<u8> {
-    plan(7, 1, &[1, 2, 4], &[1, 2, 4])
 }
 
 fn joined(parts: &[&[u8]]) -> Vec<u8> {
@@ -64,7 +53,7 @@ fn documented() -> Vec<Input> {
         doubts[..3].fill(doubt);
         joined(&[&plan_a(), &symbols, &doubts])
     };
-    let small = |d: usize, points: &[u32], photo: &[u8]| joined(&[&plan(2, d, points, points), photo]);
+    let small = |d: usize, points: &[u32], photo: &[u8]| joined(&[&season_12(2, d, points, points), photo]);
     let said = |name: &str, bytes: Vec<u8>, printed: &str| Input::new(format!("case {name}"), bytes, printed);
     vec![
         said("b", joined(&[&plan_a(), &mark, &[0; 9]]), "READ 12 0 0 0 0 600\nRECORD 3 1 2\n"),
@@ -97,7 +86,7 @@ fn changed_and_unread() -> Vec<Input> {
 /// 3 + X + 2Y with three rows and two columns, and with two rows and three columns: clean, a cost under the radius of 300 and
 /// at it, and the one mark under the plan of the other, with rows and columns exchanged and as it stands.
 fn half_trays() -> Vec<Input> {
-    let (tall, broad) = (plan(7, 1, &[1, 2, 4], &[3, 5]), plan(7, 1, &[3, 5], &[1, 2, 4]));
+    let (tall, broad) = (season_12(7, 1, &[1, 2, 4], &[3, 5]), season_12(7, 1, &[3, 5], &[1, 2, 4]));
     let (tall_mark, broad_mark) = ([3, 0, 4, 1, 6, 3], [1, 3, 0, 3, 5, 2]);
     let said =
         |name: &str, parts: &[&[u8]], printed: &str| Input::new(format!("half tray, {name}"), joined(parts), printed);
@@ -193,27 +182,6 @@ fn unsound_large() -> Vec<Input> {
         changed(&format!("{shape:?}"), &good, &[&fields[..], &points, &photo].concat())
     };
     [&LARGE_SQUARES[..], &LARGE_OBLONGS].concat().iter().flat_map(large).collect()
-}
-
-/// The tray with each of these places changed to the value, and the number that this gets: alone, and where the place is of
-/// the plan cut after the plan and with much after it, as the plan's number comes whatever follows.
-fn changed(tray: &str, good: &[u8], changes: &[(usize, u8, u32)]) -> Vec<Input> {
-    let mut inputs = Vec::new();
-    for &(place, value, number) in changes {
-        let mut bytes = good.to_vec();
-        bytes[place] = value;
-        let name = format!("{tray} with byte {place} {value}");
-        let mut said = |name: String, bytes: &[u8]| {
-            inputs.push(Input::new(name, bytes.to_vec(), format!("REFUSED {number}\n")));
-        };
-        said(name.clone(), &bytes);
-        if place < PLAN {
-            said(format!("{name}, cut"), &bytes[..PLAN]);
-            bytes.resize(10_000, 255);
-            said(format!("{name}, and more"), &bytes);
-        }
-    }
-    inputs
 }
 
 /// Photographs of all sizes whose cost is clean, around the radius, or anything below it.

@@ -3,6 +3,7 @@
 
 mod conduct;
 
+use independent::PLAN;
 use std::io::Write;
 use std::process::{Command, ExitCode, Output, Stdio};
 use std::thread::sleep;
@@ -82,6 +83,27 @@ impl Program {
         drop(stdin);
         child.wait_with_output()
     }
+}
+
+/// The input with each of these places changed to the value, and the number that this gets: alone, and where the place is of
+/// the plan cut after the plan and with much after it, as the plan's number comes whatever follows.
+pub fn changed(name: &str, good: &[u8], changes: &[(usize, u8, u32)]) -> Vec<Input> {
+    let mut inputs = Vec::new();
+    for &(place, value, number) in changes {
+        let mut bytes = good.to_vec();
+        bytes[place] = value;
+        let name = format!("{name} with byte {place} {value}");
+        let mut said = |name: String, bytes: &[u8]| {
+            inputs.push(Input::new(name, bytes.to_vec(), format!("REFUSED {number}\n")));
+        };
+        said(name.clone(), &bytes);
+        if place < PLAN {
+            said(format!("{name}, cut"), &bytes[..PLAN]);
+            bytes.resize(10_000, 255);
+            said(format!("{name}, and more"), &bytes);
+        }
+    }
+    inputs
 }
 
 fn told(what: &str, right: std::io::Result<bool>) -> Result<(), String> {

@@ -1,0 +1,222 @@
+//! The inputs: document 01's cases with expected records and a few more, with what they print, worked out by hand, and others
+//! with what the independent decoder says.
+
+use crate::printed::printed;
+use independent::calls::bytes;
+use independent::{Code, Plan, PLAN};
+use traymark_tests::photo::{agreeing, noise, photograph, rival, Photo};
+use traymark_tests::plans::{self, plan_a, season_12, Shape, LARGE_OBLONGS, LARGE_SQUARES};
+use traymark_tests::program::{changed, Input};
+use traymark_tests::random::Random;
+
+pub fn inputs() -> Vec<Input> {
+    let mut inputs = documented();
+    inputs.extend(half_trays());
+    inputs.extend(lengths());
+    inputs.extend(all_lengths());
+    inputs.extend(unsound());
+    inputs.extend(unsound_large());
+    inputs.extend(photographs());
+    inputs.extend(rows_alike());
+    inputs.extend(rubbish());
+    inputs
+}
+
+fn input(name: impl Into<String>, bytes: Vec<u8>) -> Input {
+    let printed = printed(&bytes);
+    Input::new(name, bytes, printed)
+}
+
+/// Case c of document 01 with 2 + 2X + 2Y expected.
+fn case_c() -> Vec<u8> {
+    [&plan_a()[..], &[2, 2, 2], &[0, 1, 5, 0, 2, 6, 2, 4, 0], &[0; 9]].concat()
+}
+
+/// The reading cases of document 01 with records that may be expected.
+#[rustfmt::skip]
+fn documented() -> Vec<Input> {
+    let mark = [6, 1, 5, 0, 2, 6, 2, 4, 1];
+    let (two_wrong, three_wrong) = ([0, 1, 5, 0, 2, 6, 2, 4, 0], [0, 0, 0, 0, 2, 6, 2, 4, 1]);
+    let doubtful = [1, 1, 1, 0, 0, 0, 0, 0, 0];
+    let (five, six) = ([255, 255, 255, 255, 255, 6, 2, 4, 1], [255, 255, 255, 255, 255, 255, 2, 4, 1]);
+    let said = |name: &str, record: [u8; 3], symbols: [u8; 9], doubts: [u8; 9], printed: &str| {
+        let bytes = [&plan_a()[..], &record, &symbols, &doubts].concat();
+        Input::new(format!("case {name}, {record:?}"), bytes, printed)
+    };
+    let full = |cells: usize| std::array::from_fn(|cell| if cell < cells { 100 } else { 0 });
+    let small = |d: usize, points: &[u32], rest: &[u8], printed: &str| {
+        Input::new(format!("p 2, {rest:?}"), [&season_12(2, d, points, points), rest].concat(), printed)
+    };
+    vec![
+        said("b", [3, 1, 2], mark, [0; 9], "ANSWER 0 600\n"),
+        said("b", [3, 1, 3], mark, [0; 9], "OTHER 0\nRECORD 3 1 2\n"),
+        said("c", [3, 1, 2], two_wrong, [0; 9], "ANSWER 400 200\n"),
+        said("c", [2, 2, 2], two_wrong, [0; 9], "OTHER 3\nRECORD 3 1 2\n"),
+        said("c", [0, 0, 0], two_wrong, [0; 9], "OTHER 0\nRECORD 3 1 2\n"),
+        Input { pieces: 6, ..said("c in pieces", [2, 2, 2], two_wrong, [0; 9], "OTHER 3\nRECORD 3 1 2\n") },
+        said("d", [3, 1, 2], three_wrong, [0; 9], "NONE 0\n"),
+        said("d", [2, 2, 2], three_wrong, [0; 9], "NONE 1200\n"),
+        said("d", [0, 0, 0], three_wrong, [0; 9], "NONE 400\n"),
+        said("e", [3, 1, 2], three_wrong, doubtful, "ANSWER 597 3\n"),
+        said("f", [3, 1, 2], five, full(5), "ANSWER 500 100\n"),
+        said("f", [3, 1, 3], five, full(5), "OTHER 0\nRECORD 3 1 2\n"),
+        said("g", [3, 1, 2], six, full(6), "NONE 0\n"),
+        said("d, a coefficient of 7", [3, 7, 2], three_wrong, [0; 9], "REFUSED 9\n"),
+        small(0, &[0], &[1, 1, 99], "ANSWER 99 1\n"),
+        small(0, &[0], &[0, 1, 99], "OTHER 0\nRECORD 1\n"),
+        small(0, &[0], &[1, 1, 100], "NONE 0\n"),
+        small(0, &[0], &[0, 1, 100], "NONE 0\n"),
+        small(1, &[0, 1], &[0, 0, 0, 1, 0, 0, 0, 0, 0, 0, 0], "NONE 0\n"),
+        small(1, &[0, 1], &[0, 1, 0, 1, 0, 0, 0, 0, 0, 0, 0], "NONE 400\n"),
+    ]
+}
+
+/// 3 + X + 2Y with three rows and two columns, and with two rows and three columns, its mark clean. Another record has the same
+/// first row, the same first column, or no cell the same.
+fn half_trays() -> Vec<Input> {
+    let (tall, broad) = (season_12(7, 1, &[1, 2, 4], &[3, 5]), season_12(7, 1, &[3, 5], &[1, 2, 4]));
+    let (tall_mark, broad_mark) = ([3, 0, 4, 1, 6, 3], [1, 3, 0, 3, 5, 2]);
+    let said = |plan: &[u8], record: [u8; 3], mark: [u8; 6], printed: &str| {
+        Input::new(format!("half tray, {record:?}"), [plan, &record, &mark, &[0; 6]].concat(), printed)
+    };
+    vec![
+        said(&tall, [3, 1, 2], tall_mark, "ANSWER 0 300\n"),
+        said(&tall, [2, 2, 2], tall_mark, "OTHER 2\nRECORD 3 1 2\n"),
+        said(&tall, [0, 1, 3], tall_mark, "OTHER 1\nRECORD 3 1 2\n"),
+        said(&tall, [4, 1, 2], tall_mark, "OTHER 0\nRECORD 3 1 2\n"),
+        said(&broad, [3, 1, 2], broad_mark, "ANSWER 0 300\n"),
+        said(&broad, [0, 2, 2], broad_mark, "OTHER 3\nRECORD 3 1 2\n"),
+        said(&broad, [2, 1, 3], broad_mark, "OTHER 1\nRECORD 3 1 2\n"),
+        input("half tray, one mark under the other's plan", [&broad[..], &[3, 1, 2], &tall_mark, &[0; 6]].concat()),
+    ]
+}
+
+/// Case c cut short or with more bytes after it.
+fn lengths() -> Vec<Input> {
+    let short = [0, 1, 2, 5, 24, 39, 40, 41, 42, 43, 44, 51, 52, 53, 58, 60].map(|length| {
+        let expected = if length < PLAN { "REFUSED 1\n" } else { "REFUSED 6\n" };
+        Input::new(format!("case c, {length} bytes of it"), case_c()[..length].to_vec(), expected)
+    });
+    let long = [1, 9, 18, 40, 4_096, 65_536, 1_000_000].map(|more| {
+        let mut bytes = case_c();
+        bytes.resize(bytes.len() + more, 0);
+        Input::new(format!("case c and {more} bytes"), bytes, "REFUSED 6\n")
+    });
+    short.into_iter().chain(long).collect()
+}
+
+/// The first bytes of the longest input, of 16 by 16 cells and 136 coefficients, and of two of 8 by 16 and 16 by 8, and zeros
+/// after them, every number of them to some beyond it.
+fn all_lengths() -> Vec<Input> {
+    let mut inputs = Vec::new();
+    for shape in [(251, 16, 16, 15), (251, 8, 16, 7), (251, 16, 8, 0)] {
+        let good = clean(shape);
+        let mut bytes = good.clone();
+        bytes.resize(good.len() + 50, 0);
+        for length in 0..=bytes.len() {
+            let printed = match length {
+                0..PLAN => "REFUSED 1\n".to_string(),
+                _ if length == good.len() => printed(&good),
+                _ => "REFUSED 6\n".to_string(),
+            };
+            inputs.push(Input::new(format!("{length} bytes of {shape:?}"), bytes[..length].to_vec(), printed));
+        }
+    }
+    inputs
+}
+
+/// A plan of that shape, a rival expected, and a mark without a fault.
+fn clean(shape: Shape) -> Vec<u8> {
+    let random = &mut Random::new(500);
+    let plan = plans::plan(shape, random);
+    let record = plans::record(Code::Mark, &plan, random);
+    let expected = rival(Code::Mark, &plan, &record, random);
+    let cells = Code::Mark.cells(&plan);
+    asked(&plan, &expected, &Photo { symbols: Code::Mark.word(&plan, &record), doubts: vec![0; cells] })
+}
+
+fn asked(plan: &Plan, expected: &[u32], photo: &Photo) -> Vec<u8> {
+    [plan.bytes().to_vec(), bytes(expected), bytes(&photo.symbols), bytes(&photo.doubts)].concat()
+}
+
+/// Case c with one byte changed; with another degree the plan is sound, and the count of bytes is wrong.
+fn unsound() -> Vec<Input> {
+    let fields = [(38, 1, 1), (39, 9, 1), (2, 9, 2), (2, 252, 2), (2, 1, 2), (5, 3, 4), (5, 255, 4)];
+    let sides = [(3, 0, 3), (3, 17, 3), (3, 8, 3), (3, 1, 4), (4, 0, 13), (4, 17, 13), (4, 8, 13), (4, 1, 4)];
+    let points = [(7, 1, 5), (8, 7, 5), (9, 5, 5), (21, 1, 5), (23, 1, 5), (24, 7, 5), (25, 5, 5), (37, 1, 5)];
+    let counts = [(3, 2, 5), (3, 4, 5), (4, 2, 5), (4, 4, 5), (5, 0, 6), (5, 2, 6)];
+    let record = [(40, 7, 9), (41, 255, 9), (42, 8, 9)];
+    let photo = [(43, 7, 7), (51, 254, 7), (52, 101, 8), (60, 255, 8), (43, 255, 8)];
+    changed("case c", &case_c(), &[&fields[..], &sides, &points, &counts, &record, &photo].concat())
+}
+
+/// Large trays with one byte changed: the first and the last coefficient, symbol and doubt among them.
+fn unsound_large() -> Vec<Input> {
+    let plan = [(39, 1, 1), (2, 9, 2), (3, 17, 3), (4, 0, 13), (5, 16, 4), (6, 251, 5), (22, 251, 5)];
+    let large = |shape: &Shape| {
+        let (good, cells) = (clean(*shape), shape.1 * shape.2);
+        let doubts = good.len() - cells;
+        let symbols = doubts - cells;
+        let record = [(PLAN, 251, 9), (symbols - 1, 251, 9)];
+        let photo = [(symbols, 251, 7), (doubts - 1, 251, 7), (doubts, 101, 8), (good.len() - 1, 101, 8)];
+        changed(&format!("{shape:?}"), &good, &[&plan[..], &record, &photo].concat())
+    };
+    [&LARGE_SQUARES[..], &LARGE_OBLONGS].concat().iter().flat_map(large).collect()
+}
+
+/// Photographs of all sizes whose cost is clean, around the radius, or anything below it, and of nothing; with the record
+/// itself expected, a rival of it, and any record.
+fn photographs() -> Vec<Input> {
+    let squares = [(2, 2, 2, 1), (3, 3, 3, 2), (5, 5, 5, 1), (13, 13, 13, 6), (101, 8, 8, 3), (241, 12, 12, 11)];
+    let oblongs = [(2, 1, 2, 0), (3, 3, 2, 1), (5, 2, 5, 1), (13, 13, 4, 3), (101, 8, 3, 0), (241, 7, 12, 6)];
+    let longest = [(251, 1, 16, 0), (251, 16, 1, 0)];
+    let mut inputs = Vec::new();
+    let shapes = [&squares[..], &LARGE_SQUARES, &oblongs, &LARGE_OBLONGS, &longest].concat();
+    for (k, shape) in shapes.into_iter().enumerate() {
+        let random = &mut Random::new(k as u64);
+        let radius = Code::Mark.radius(&plans::plan(shape, random));
+        for cost in [0, radius / 2, radius - 1, radius, radius + 1] {
+            let plan = plans::plan(shape, random);
+            let record = plans::record(Code::Mark, &plan, random);
+            let near = rival(Code::Mark, &plan, &record, random);
+            let any = plans::record(Code::Mark, &plan, random);
+            let words = [&record, &near].map(|record| Code::Mark.word(&plan, record));
+            let photo = photograph(&plan, &words[0], &words[1], cost, random);
+            for (j, expected) in [&record, &near, &any].into_iter().enumerate() {
+                let name = format!("{plan:?} at cost {cost}, {expected:?} expected");
+                inputs.push(Input { pieces: 1 + j % 2 * 4, ..input(name, asked(&plan, expected, &photo)) });
+            }
+            let nothing = noise(Code::Mark, &plan, random);
+            inputs.push(input(format!("{plan:?}, a photograph of nothing"), asked(&plan, &any, &nothing)));
+        }
+    }
+    inputs
+}
+
+/// Records whose marks are alike in so many rows from the first: the lowest place at which they differ is where the next begins.
+fn rows_alike() -> Vec<Input> {
+    let mut inputs = Vec::new();
+    for shape in [(13, 9, 5, 4), (101, 7, 12, 6), (251, 16, 16, 15)] {
+        let random = &mut Random::new(900);
+        let plan = plans::plan(shape, random);
+        let record = plans::record(Code::Mark, &plan, random);
+        let clean = Photo { symbols: Code::Mark.word(&plan, &record), doubts: vec![0; Code::Mark.cells(&plan)] };
+        let coefficients: Vec<String> = record.iter().map(u32::to_string).collect();
+        for alike in 0..=plan.degree {
+            let expected = agreeing(Code::Mark, &plan, &record, [&plan.row_points[..alike], &[]], random);
+            let printed = format!("OTHER {}\nRECORD {}\n", alike * plan.columns(), coefficients.join(" "));
+            inputs.push(Input::new(format!("{shape:?}, {alike} rows alike"), asked(&plan, &expected, &clean), printed));
+        }
+    }
+    inputs
+}
+
+/// Any bytes of any length.
+fn rubbish() -> Vec<Input> {
+    let bytes = |seed: u64| {
+        let random = &mut Random::new(1_000 + seed);
+        let length = random.below(800);
+        input(format!("random bytes {seed}"), random.bytes(length))
+    };
+    (0..20).map(bytes).collect()
+}
