@@ -22,20 +22,27 @@ read_by = $(shell find $(1) -path '*/must-fail' -prune -o -type f -print) crates
 LIBRARIES = $(patsubst %/src/lib.rt,%,$(wildcard crates/*/src/lib.rt))
 
 ## make example         4 min         1 s             reads a tray end to end by the program: case c of document 01, with its plan
-##                                                    of 40 bytes, and with that of the old form, widened
+##                                                    of 40 bytes, and with that of the old form, widened; then tells why
+##                                                    another record did not come up
 example: program
 	target/bin/trayread < crates/trayread/stdin | tee target/example.printed
 	diff crates/trayread/stdout target/example.printed
 	{ head -c 24 crates/planwiden/stdin | target/bin/planwiden; tail -c +41 crates/trayread/stdin; } \
 	| target/bin/trayread | tee target/example.printed
 	diff crates/trayread/stdout target/example.printed
+	target/bin/traywhy < crates/traywhy/stdin | tee target/example.printed
+	diff crates/traywhy/stdout target/example.printed
 
-## make program         4 min         1 s             the proved programs: target/bin/trayread and target/bin/planwiden
-program: target/stamp/trayread target/stamp/planwiden
+## make program         4 min         1 s             the proved programs: trayread, traywhy and planwiden, in target/bin
+program: target/stamp/trayread target/stamp/traywhy target/stamp/planwiden
 
 # rt writes these stamps once a program is proved, has run, and has printed what its file stdout has.
 target/stamp/trayread: $(call read_by,$(LIBRARIES) crates/trayread)
 	rt check trayread
+	touch $@
+
+target/stamp/traywhy: $(call read_by,$(LIBRARIES) crates/traywhy)
+	rt check traywhy
 	touch $@
 
 target/stamp/planwiden: $(call read_by,$(LIBRARIES) crates/planwiden)
@@ -56,6 +63,7 @@ target/staticlib/libtraymark.a: $(call read_by,$(LIBRARIES))
 tests: lib program
 	$(CARGO) run --quiet --release -p traymark-tests --bin calls
 	$(CARGO) run --quiet --release -p traymark-tests --bin program target/bin/trayread
+	$(CARGO) run --quiet --release -p traymark-tests --bin explainer target/bin/traywhy
 	$(CARGO) run --quiet --release -p traymark-tests --bin widener target/bin/planwiden target/bin/trayread
 	$(CARGO) run --quiet --release -p traymark-tests --bin strips input | cmp - crates/example_strips/stdin
 	$(CARGO) run --quiet --release -p traymark-tests --bin strips output | cmp - crates/example_strips/stdout
