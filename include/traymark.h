@@ -151,9 +151,9 @@ traymark_reading traymark_read_mark(const uint8_t *plan, size_t plan_len,
 
 /*
  * Explains why the record that was expected of a photographed mark did not come up: exactly one of three reasons holds.
- * A station calls it with the record of the tray that its staff expected. By reason 1 that tray did come up. By reason 2 it
- * shows the tray that is there, and the first cell to look at, where the mark of the expected one has another value. By
- * reason 3 the mark is to be photographed again or marked anew, and the excess says how far it is from being read.
+ * A station calls it with the record of the tray that its staff expected. With reason 1 that tray did come up. With
+ * reason 2 `other` is the record of the tray that is there, and place the first cell at which the two marks have different
+ * values. With reason 3 no record costs under R; the expected one would have to cost excess + 1 less.
  *
  *   plan     read
  *   record   read; K bytes, the expected record

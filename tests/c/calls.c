@@ -245,7 +245,7 @@ static int gives(traymark_reason r, uint32_t number, uint32_t reason, uint32_t p
     return r.number == number && r.reason == reason && r.place == place && r.excess == excess;
 }
 
-/* explains a record of a photograph under plan A to a buffer of 9s, and says whether it holds the answer 3 1 2 of reason 2,
+/* explains a record of a photograph under plan A to a buffer of 9s, and expects it to hold the answer 3 1 2 of reason 2,
    or still the 9s */
 static traymark_reason explain_a(const uint8_t record[3], const uint8_t symbols[9], const uint8_t doubts[9])
 {

@@ -145,7 +145,7 @@ impl Counts {
             (self.at_last < 5_000, "fewer than 5,000 answers that differ at the last cell alone"),
             (self.at_latest < 50_000, "fewer than 50,000 answers that differ as late as two marks can"),
             (self.excess_0 < 50_000, "fewer than 50,000 expected records at the radius"),
-            (self.excess_1 < 25_000, "fewer than 25,000 expected records one above the radius"),
+            (self.excess_1 < 10_000, "fewer than 10,000 expected records one above the radius"),
             (self.numbers.contains(&0), "a number that was never answered"),
             (self.classes.contains(&0), "a class that was never answered"),
         ]

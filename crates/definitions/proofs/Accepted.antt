@@ -208,14 +208,14 @@ module _ (C : Code) (P s u F B : List ℕ) where
         let fits = sym (first-at (lengthRow B (size C P) ∷ []) 1 (equal _ _ h, tt)) in
         sym (first-passes (planRows P) measured tt e) ∙ first-passes (lengthRow B (size C P) ∷ []) measured tt fits ∙ passes
 
-    pub explains-exactly : ExplainsExactly C P s u F B
-    explains-exactly = record { six = λ n. sym (explain-short n); measured = λ h. sym (explain-measured h) }
-
     pub explain-six : ¬ (LengthsFit C P s u F × (length B ≡ size C P)) → explainNumber C P s u F B ≡ 6
     explain-six n = elim (ℕ-discrete (length B) (size C P)) [
       | yes h ↦ sym (explain-measured h) ∙ taken-exactly C P e s u F .six (λ f. n (f, h)) .0
       | no h ↦ sym (explain-short h)
     ]
+
+    pub explains-exactly : ExplainsExactly C P s u F B
+    explains-exactly = record { six = explain-six; measured = λ h. sym (explain-measured h) }
 
   pub explaining-accepted : Expecting C P s u F B → explainNumber C P s u F B ≡ 0
   explaining-accepted x = sym (explain-measured (checked P (x .photo .sound)) (x .room))

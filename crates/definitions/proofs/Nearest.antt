@@ -1,12 +1,12 @@
 -- When a reading is right.
 --
---   within-cost, cost-within   a record passes the test exactly where it costs under the radius
---   without-cost, cost-without   one that does not fails it
---   reads-refused              a refusal of the plan, or of 6 to 8
---   reads-none                 10, where no record is within the radius
---   reads-the                  the record within it, where there is at most one
---   nearest-says               what the search finds, a record within the radius or none
---   reads-found                a reading that is not refused is of what the search finds, and one of number 10 of none
+--   within-cost, cost-within     a record passes the test exactly where it costs under the radius
+--   without-cost, cost-without   and fails it exactly where it costs the radius or more
+--   reads-refused                a refusal of the plan, or of 6 to 8
+--   reads-none                   10, where no record is within the radius
+--   reads-the                    the record within it, where there is at most one
+--   nearest-says                 what the search finds, a record within the radius or none
+--   reads-found                  a reading that is not refused is of what the search finds, and one of number 10 of none
 --
 -- What this file is for: a reader proves one of three cases, and has the definition's reading and buffer; whoever calls one has
 -- what the search finds. Assumes nothing.

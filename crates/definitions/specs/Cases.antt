@@ -211,7 +211,7 @@ oblongCases =
 -- explaining: case c, its record expected, and records whose marks first differ from it in the second row, in the second column,
 -- and in the first cell; case d, which has no answer, its record on the radius, and a far one; cases e, g, h and i, and of h the
 -- other record, whose mark has one cell; strips, one of which differs from the answer in the last cell alone; oblong marks each
--- way; 6 for each buffer, before 7; 7 before 8, 8 before 9, and 9; the plan before all
+-- way; 6 for each buffer, before 7; 7 before 8, 8 before 9, and 9; each number of the plan, 13 for strips and marks, before all
 abbrev pub explainCases : List Case
 explainCases =
     (explain oblong planA photoC (sure 9) record₁ (nines 3) ⟹ tells 0 1 0 0 beside nines 3)
@@ -239,6 +239,12 @@ explainCases =
     ∷ (explain oblong planA mark₁ (101 ∷ sure 8) (3 ∷ 1 ∷ 7 ∷ []) (nines 3) ⟹ tells 8 0 0 0 beside nines 3)
     ∷ (explain oblong planA mark₁ (sure 9) (3 ∷ 1 ∷ 7 ∷ []) (nines 3) ⟹ tells 9 0 0 0 beside nines 3)
     ∷ (explain strip (set planWide 4 0) [] [] [] (nines 3) ⟹ tells 13 0 0 0 beside nines 3)
+    ∷ (explain oblong (set planWide 4 0) [] [] [] (nines 3) ⟹ tells 13 0 0 0 beside nines 3)
+    ∷ (explain oblong [] mark₁ (sure 9) record₁ (nines 3) ⟹ tells 1 0 0 0 beside nines 3)
+    ∷ (explain oblong (set planA 2 9) mark₁ (sure 9) record₁ (nines 3) ⟹ tells 2 0 0 0 beside nines 3)
+    ∷ (explain oblong (set planA 3 0) mark₁ (sure 9) record₁ (nines 3) ⟹ tells 3 0 0 0 beside nines 3)
+    ∷ (explain oblong (set planA 5 3) mark₁ (sure 9) record₁ (nines 3) ⟹ tells 4 0 0 0 beside nines 3)
+    ∷ (explain oblong (set planA 6 2) mark₁ (sure 9) record₁ (nines 3) ⟹ tells 5 0 0 0 beside nines 3)
     ∷ []
 
 -- not of the table: a strip written and read, a plan with several faults at once, records of total degree 2, and of 3; each

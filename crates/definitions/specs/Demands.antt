@@ -25,10 +25,13 @@
 --   LowestGiven             the number that is given is the first in the table's order of the rows of the call whose test holds;
 --                           in widening 11 stands before 6: the plans are looked at before the buffer for them. What the tests
 --                           of the rows mean is in the statements that end in Exactly
---   Measures C P s u F      measuring never gives 10: every record of a photograph's plan is measured, whatever its margin
+--   Measures C P s u F      measuring never gives 10: every record of a photograph's plan is measured, whatever its margin, and
+--                           the cost it is given is its cost
 --   ExplainsExactly C P s u F B
---                           under a sound plan explaining gives 6 where the buffer for another record has not its length, else
---                           the number of measuring the expected record F
+--                           under a sound plan explaining gives 6 where any of its four buffers has not its length, else the
+--                           number of measuring the expected record F
+--   Handed                  what C is handed of each case of the enum: a refusal's number with zeros, or the reason 1, 2 or 3
+--                           with its place or excess
 --   Explained C P s u F B told b
 --                           request 5: of a photograph and an expected record F, with B lent, one of three reasons is told, and b
 --                           is then in the buffer. It is 1 exactly when F costs under the limit; 2 exactly when some other
@@ -69,7 +72,7 @@ use Rattle.bounded.specs.Bounded.{at, sum}
 use Rattle.field.specs.Prime.{Prime}
 use Rattle.definitions.specs.Sound.{IsSide, PointsFrom}
 use Rattle.definitions.specs.declared.Reading.{Reading}
-use Rattle.definitions.specs.declared.Reason.the-variants.{Refused}
+use Rattle.definitions.specs.declared.Reason.the-variants.{Refused, Answer, Other, Nothing}
 use Rattle.definitions.specs.declared.Explanation.{Explanation}
 use Rattle.definitions.specs.Refusals.{table, Earliest}
 use Rattle.definitions.specs.Plan.{planBytes, season, modulus, rows, columns, degree, rowPoint, columnPoint}
@@ -84,7 +87,7 @@ use Rattle.definitions.specs.Calls as calls
 use Rattle.definitions.specs.Calls.{costOf, readingOf, writeRows, writeNumber, writeBuffer}
 use Rattle.definitions.specs.Calls.{measureRows, measureNumber, measureReading}
 use Rattle.definitions.specs.Calls.{readRows, readNumber, readReading, readBuffer}
-use Rattle.definitions.specs.Explaining.{explainRows, explainNumber, explainReason, explainBuffer}
+use Rattle.definitions.specs.Explaining.{explainRows, explainNumber, explainReason, explainBuffer, valuesOf}
 use Rattle.definitions.specs.Finder.{findRows, findNumber, findOffset, findBytes}
 use Rattle.definitions.specs.Photograph.{Photograph, sure}
 use Rattle.definitions.specs.Widening.{widened, widenedAll, widenRows, widenNumber, widenBuffer}
@@ -231,10 +234,17 @@ pub record LowestGiven : Type 0 where
 pub record Measures (C : Code) (P s u F : List ℕ) : Type 0 where
   pub never : measureNumber C P s u F ≢ 10
   pub each : Photograph C P s u → IsRecord C P F → measureNumber C P s u F ≡ 0
+  pub cost : measureNumber C P s u F ≡ 0 → measureReading C P s u F .cost ≡ costOf C P s u F
 
 pub record ExplainsExactly (C : Code) (P s u F B : List ℕ) : Type 0 where
-  pub six : length B ≢ size C P → explainNumber C P s u F B ≡ 6
+  pub six : ¬ (LengthsFit C P s u F × (length B ≡ size C P)) → explainNumber C P s u F B ≡ 6
   pub measured : length B ≡ size C P → explainNumber C P s u F B ≡ measureNumber C P s u F
+
+pub record Handed : Type 0 where
+  pub refused : (k : ℕ) → valuesOf (Refused k) ≡ record { number = k; reason = 0; place = 0; excess = 0 }
+  pub answer : valuesOf Answer ≡ record { number = 0; reason = 1; place = 0; excess = 0 }
+  pub other : (c : ℕ) → valuesOf (Other c) ≡ record { number = 0; reason = 2; place = c; excess = 0 }
+  pub nothing : (e : ℕ) → valuesOf (Nothing e) ≡ record { number = 0; reason = 3; place = 0; excess = e }
 
 -- the record b is another than F and costs under the limit; the place is the lowest at which their marks differ
 pub record Shown (C : Code) (P s u F b : List ℕ) (place : ℕ) : Type 0 where

@@ -6,7 +6,8 @@
 --   differingPlace C P F G       the lowest place at which the marks of two records differ
 --   reasonFor C P s u F found    the reason, by what a reading finds: a record or none
 --   explainReason                what the call returns: the refusal, or the reason for the expected record
---   explainBuffer                what the buffer then holds: the other record, only where there is one
+--   leaves r G B                 what the reason r leaves in the buffer: the other record G, or B as it was
+--   explainBuffer                what the buffer then holds
 --   valuesOf r                   number, reason, place and excess of each case: what C is handed
 --
 -- What this file is for: the contracts of explaining are equalities with these. What a reading finds is `nearest` of Calls.
@@ -46,7 +47,6 @@ unfoldable pub explainReason : Code → (P s u F B : List ℕ) → Reason
 explainReason C P s u F B = accepted (explainNumber C P s u F B) (reasonFor C P s u F (nearest C P s u))
     (Refused (explainNumber C P s u F B))
 
--- the buffer B, or the record G of another answer
 abbrev pub leaves : Reason → (G B : List ℕ) → List ℕ
 leaves (Refused k) G B = B
 leaves Answer G B = B

@@ -30,12 +30,12 @@ pub enum Reason {
     Nothing { excess: u32 },
 }
 
-// The same for C, which is handed no enum. What a case does not give is 0.
+// The same for C, which is handed no enum; there it is `traymark_reason`. What a case does not give is 0.
 #[repr(C)]
 pub struct Explanation {
     // 0, or the refusal
     pub number: u32,
-    // 1, 2 or 3 for the cases after the refusal, in their order
+    // 1 Answer, 2 Other, 3 Nothing; 0 with a refusal
     pub reason: u32,
     pub place: u32,
     pub excess: u32,

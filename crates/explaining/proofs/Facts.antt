@@ -4,7 +4,7 @@
 --   expecting-takes   a photograph of which a record is expected is taken by the reader
 --   excess-told       the excess by the cost and the radius that were worked out
 --   place-found       where two lists are the marks of records, they first differ at the lowest place at which the marks do
---   marks-fit         and they have one length, of at most 256
+--   marks-fit         and they have one length, which 16 bits have
 --
 -- What this file is for: the explainer's steps in the words of the definitions. Assumes nothing.
 use mathlib.Core.Path.{_≡_, sym, ap, _∙_}

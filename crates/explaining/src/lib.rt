@@ -13,8 +13,8 @@ ghost use Rattle.definitions.specs.Reads.{Explains};
 ghost use Rattle.plan.specs.Says.{Says};
 
 // The reason for a record of a mark (`mark`) or of a strip. At most one record costs under the radius: where the expected one
-// does it is the answer; else the answer is another, which the reader puts into the lent buffer, or there is none, and the reader
-// leaves that.
+// does it is the answer; else the answer is another, which the reader puts into the lent buffer, or there is none, and then the
+// reader leaves the buffer as it was.
 pub fn explain(
     mark: bool,
     plan: Plan,

@@ -12,7 +12,7 @@
 --   unread-costs, mark-margins           "Photographed mark and cost"
 --   lowest-given, measures               "What is returned"
 --   explains, explains-exactly           document 02, request 5: when a record is explained, and what refuses it
---   explained                            and that the reason given is the true one
+--   explained, handed                    that the reason given is the true one, and what C is handed of it
 --   found-exactly, first-found           document 02, request 2: when a plan of a season is found, and which
 --   groups-fill                          document 02, request 4: where the coefficients of a record stand
 --   tray-parts, tray-refused             what `trayread` takes of its input, and when it refuses it
@@ -23,7 +23,7 @@
 --
 -- What this file is for: the customer's sentences as theorems over the definitions that the calls' contracts repeat. The names in
 -- the statements are of `definitions/specs`. Assumes nothing.
-use mathlib.Core.Path.{_≡_, refl, sym, _∙_}
+use mathlib.Core.Path.{_≡_, refl, sym, ap, _∙_}
 use mathlib.Core.Logic.{_↔_}
 use mathlib.Core.List.{List, [], _∷_}
 use Prim.Native.Nat.{ℕ, suc, _+_, _*_, _<_}
@@ -34,7 +34,7 @@ use Rattle.bounded.specs.Bounded.{at, index}
 use Rattle.definitions.specs.Plan.{planBytes, rows, columns, degree, planRows, checkNumber}
 use Rattle.definitions.specs.Code.{Code, size, cells, value, mark}
 use Rattle.definitions.specs.Cost.{full}
-use Rattle.definitions.specs.Calls.{photoRows, writeRows, writeNumber, writeBuffer}
+use Rattle.definitions.specs.Calls.{photoRows, readingOf, writeRows, writeNumber, writeBuffer}
 use Rattle.definitions.specs.Calls.{measureRows, measureNumber, measureReading, readRows, readNumber, readReading, readBuffer}
 use Rattle.definitions.specs.Explaining.{explainRows, explainNumber, explainReason, explainBuffer, valuesOf}
 use Rattle.definitions.specs.Finder.{findRows, findNumber}
@@ -43,7 +43,7 @@ use Rattle.definitions.specs.Photograph.{Photograph, sure}
 use Rattle.polynomial.specs.Record.{start}
 use Rattle.definitions.specs.Widening.{narrowBytes, widenRows, widenNumber}
 use Rattle.definitions.specs.Accepted.{Writing, Expecting}
-use Rattle.definitions.specs.Demands.{CheckedExactly, PlanFirst, WrittenExactly, TakenExactly, ExplainsExactly, Explained}
+use Rattle.definitions.specs.Demands.{CheckedExactly, PlanFirst, WrittenExactly, TakenExactly, ExplainsExactly, Explained, Handed}
 use Rattle.definitions.specs.Demands.{RefusalsKeep, Shapes, Written, RoundTrip, Weighed, Nearest}
 use Rattle.definitions.specs.Demands.{UnreadCosts, MarkMargins, LowestGiven, Measures, FoundExactly, FirstOfSeason}
 use Rattle.definitions.specs.Demands.{GroupsFill, places, TrayParts, TrayRefused, WhyParts, WhyRefused}
@@ -184,18 +184,19 @@ lowest-given = record {
 
 -- Measuring never gives 10: a record of the plan is measured against every photograph, a margin of 0 or below returned as such.
 pub measures : (C : Code) (P s u F : List ℕ) → Measures C P s u F
-unfolding measureNumber measureRows photoRows planRows
+unfolding measureNumber measureRows photoRows planRows readingOf
 measures C P s u F = record {
   never = first-absent 10 (measureRows C P s u F) (λ e. omega arith) refl;
   each = measuring-accepted C P s u F;
+  cost = λ z. ap (λ r. r .cost) (sym (measure-gives C P s u F refl z));
 }
 
--- Explaining is accepted for every photograph and every record of its plan that may be expected, with room for another.
+-- Explaining is accepted for every photograph and every record of its plan, with room for another.
 pub explains : (C : Code) (P s u F B : List ℕ) → Expecting C P s u F B → explainNumber C P s u F B ≡ 0
 explains = accepted.explaining-accepted
 
--- Under a sound plan it gives 6 where the buffer for another record has not its length, else what measuring the expected record
--- gives: 6 to 9, by `taken-exactly`.
+-- Under a sound plan it gives 6 where any of its four buffers has not its length, else what measuring the expected record gives:
+-- 7, 8 and 9 by `taken-exactly`.
 pub explains-exactly : (C : Code) (P s u F B : List ℕ) → Sound P → ExplainsExactly C P s u F B
 explains-exactly C P s u F B S = accepted.explains-exactly C P s u F B (checked P S)
 
@@ -206,6 +207,10 @@ explains-exactly C P s u F B S = accepted.explains-exactly C P s u F B (checked 
 pub explained : (C : Code) (P s u F B : List ℕ) → explainNumber C P s u F B ≡ 0 →
     Explained C P s u F B (valuesOf (explainReason C P s u F B)) (explainBuffer C P s u F B)
 explained C P s u F B e = reasons.explained C P s u F B (accepted-explaining C P s u F B e)
+
+-- C is handed the number of a refusal with zeros, or the reason 1, 2 or 3 with its place or excess and else zeros.
+pub handed : Handed
+handed = record { refused = λ k. refl; answer = refl; other = λ c. refl; nothing = λ e. refl }
 
 -- The finder gives 11 where the length of the file is no multiple of 40, else 0 where some plan of the file has the season, sound
 -- or not, else 12.

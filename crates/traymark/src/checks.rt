@@ -94,7 +94,8 @@ pub(crate) fn measure_refusal(
     0
 }
 
-// Refusals 6 to 9, those of explaining: of measuring the expected record, with room for another. Of that only the length counts.
+// Refusals 6 to 9, those of explaining: of measuring the expected record, with room for another. Of `other` only the length
+// counts.
 pub(crate) fn explain_refusal(
     mark: bool,
     plan: Plan,
