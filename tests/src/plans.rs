@@ -15,6 +15,14 @@ pub const PRIMES: [u32; 9] = [2, 3, 5, 7, 11, 13, 101, 241, 251];
 pub const LARGE_SQUARES: [Shape; 3] = [(251, 16, 16, 0), (251, 16, 16, 7), (251, 16, 16, 15)];
 pub const LARGE_OBLONGS: [Shape; 4] = [(251, 16, 8, 7), (251, 8, 16, 7), (251, 16, 15, 14), (251, 15, 16, 7)];
 
+/// Shapes of all sizes, for which a program is run: squares, oblongs, and a single row or column.
+pub fn all_sizes() -> Vec<Shape> {
+    let squares = [(2, 2, 2, 1), (3, 3, 3, 2), (5, 5, 5, 1), (13, 13, 13, 6), (101, 8, 8, 3), (241, 12, 12, 11)];
+    let oblongs = [(2, 1, 2, 0), (3, 3, 2, 1), (5, 2, 5, 1), (13, 13, 4, 3), (101, 8, 3, 0), (241, 7, 12, 6)];
+    let longest = [(251, 1, 16, 0), (251, 16, 1, 0)];
+    [&squares[..], &LARGE_SQUARES, &oblongs, &LARGE_OBLONGS, &longest].concat()
+}
+
 /// Every p of `PRIMES` with every number of rows, of columns and every d, p rows or columns among them.
 pub fn shapes() -> &'static [Shape] {
     static SHAPES: LazyLock<Vec<Shape>> = LazyLock::new(|| PRIMES.into_iter().flat_map(shapes_of).collect());

@@ -6,7 +6,7 @@ use independent::calls::bytes;
 use independent::{Code, Plan, PLAN};
 use traymark_tests::photo::{photograph, rival};
 use traymark_tests::plans::{self, plan_a, season_12, Shape, LARGE_OBLONGS, LARGE_SQUARES};
-use traymark_tests::program::{changed, Input};
+use traymark_tests::program::{all_lengths, changed, rubbish, Input};
 use traymark_tests::random::Random;
 
 pub fn inputs() -> Vec<Input> {
@@ -15,11 +15,11 @@ pub fn inputs() -> Vec<Input> {
     inputs.extend(half_trays());
     inputs.extend(lengths());
     inputs.extend(counts());
-    inputs.extend(all_lengths());
+    inputs.extend(every_length());
     inputs.extend(unsound());
     inputs.extend(unsound_large());
     inputs.extend(photographs());
-    inputs.extend(rubbish());
+    inputs.extend(rubbish(600, printed));
     inputs
 }
 
@@ -135,23 +135,13 @@ fn counts() -> Vec<Input> {
     inputs
 }
 
-/// The first bytes of a mark of 16 by 16 cells, or of 8 by 16, and zeros after it, every number of them to some beyond it.
-fn all_lengths() -> Vec<Input> {
-    let mut inputs = Vec::new();
-    for shape in [(251, 16, 16, 15), (251, 8, 16, 7)] {
+/// Of a mark of 16 by 16 cells, and of one of 8 by 16.
+fn every_length() -> Vec<Input> {
+    let of = |shape: Shape| {
         let good = unharmed(shape);
-        let mut bytes = good.clone();
-        bytes.resize(good.len() + 50, 0);
-        for length in 0..=bytes.len() {
-            let printed = match length {
-                0..PLAN => "REFUSED 1\n".to_string(),
-                _ if length == good.len() => printed(&good),
-                _ => "REFUSED 6\n".to_string(),
-            };
-            inputs.push(Input::new(format!("{length} bytes of {shape:?}"), bytes[..length].to_vec(), printed));
-        }
-    }
-    inputs
+        all_lengths(&format!("{shape:?}"), &good, &printed(&good))
+    };
+    [(251, 16, 16, 15), (251, 8, 16, 7)].into_iter().flat_map(of).collect()
 }
 
 /// A plan of that shape and a mark of it without a fault.
@@ -186,12 +176,8 @@ fn unsound_large() -> Vec<Input> {
 
 /// Photographs of all sizes whose cost is clean, around the radius, or anything below it.
 fn photographs() -> Vec<Input> {
-    let squares = [(2, 2, 2, 1), (3, 3, 3, 2), (5, 5, 5, 1), (13, 13, 13, 6), (101, 8, 8, 3), (241, 12, 12, 11)];
-    let oblongs = [(2, 1, 2, 0), (3, 3, 2, 1), (5, 2, 5, 1), (13, 13, 4, 3), (101, 8, 3, 0), (241, 7, 12, 6)];
-    let longest = [(251, 1, 16, 0), (251, 16, 1, 0)];
     let mut inputs = Vec::new();
-    let shapes = [&squares[..], &LARGE_SQUARES, &oblongs, &LARGE_OBLONGS, &longest].concat();
-    for (k, shape) in shapes.into_iter().enumerate() {
+    for (k, shape) in plans::all_sizes().into_iter().enumerate() {
         let random = &mut Random::new(k as u64);
         let radius = Code::Mark.radius(&plans::plan(shape, random));
         for (j, cost) in [0, radius / 2, radius - 1, radius, radius + 1].into_iter().enumerate() {
@@ -219,14 +205,4 @@ fn almost_unread() -> Vec<u8> {
     let (mut symbols, mut doubts) = ([255; 256], [100; 256]);
     (symbols[77], doubts[77]) = (250, 99);
     joined(&[&plan.bytes(), &symbols, &doubts])
-}
-
-/// Any bytes of any length.
-fn rubbish() -> Vec<Input> {
-    let bytes = |seed: u64| {
-        let random = &mut Random::new(1_000 + seed);
-        let length = random.below(600);
-        input(format!("random bytes {seed}"), random.bytes(length))
-    };
-    (0..20).map(bytes).collect()
 }

@@ -6,19 +6,19 @@ use independent::calls::bytes;
 use independent::{Code, Plan, PLAN};
 use traymark_tests::photo::{agreeing, noise, photograph, rival, Photo};
 use traymark_tests::plans::{self, plan_a, season_12, Shape, LARGE_OBLONGS, LARGE_SQUARES};
-use traymark_tests::program::{changed, Input};
+use traymark_tests::program::{all_lengths, changed, rubbish, Input};
 use traymark_tests::random::Random;
 
 pub fn inputs() -> Vec<Input> {
     let mut inputs = documented();
     inputs.extend(half_trays());
     inputs.extend(lengths());
-    inputs.extend(all_lengths());
+    inputs.extend(every_length());
     inputs.extend(unsound());
     inputs.extend(unsound_large());
     inputs.extend(photographs());
     inputs.extend(rows_alike());
-    inputs.extend(rubbish());
+    inputs.extend(rubbish(800, printed));
     inputs
 }
 
@@ -105,24 +105,13 @@ fn lengths() -> Vec<Input> {
     short.into_iter().chain(long).collect()
 }
 
-/// The first bytes of the longest input, of 16 by 16 cells and 136 coefficients, and of two of 8 by 16 and 16 by 8, and zeros
-/// after them, every number of them to some beyond it.
-fn all_lengths() -> Vec<Input> {
-    let mut inputs = Vec::new();
-    for shape in [(251, 16, 16, 15), (251, 8, 16, 7), (251, 16, 8, 0)] {
+/// Of the longest input, of 16 by 16 cells and 136 coefficients, and of two of 8 by 16 and 16 by 8.
+fn every_length() -> Vec<Input> {
+    let of = |shape: Shape| {
         let good = clean(shape);
-        let mut bytes = good.clone();
-        bytes.resize(good.len() + 50, 0);
-        for length in 0..=bytes.len() {
-            let printed = match length {
-                0..PLAN => "REFUSED 1\n".to_string(),
-                _ if length == good.len() => printed(&good),
-                _ => "REFUSED 6\n".to_string(),
-            };
-            inputs.push(Input::new(format!("{length} bytes of {shape:?}"), bytes[..length].to_vec(), printed));
-        }
-    }
-    inputs
+        all_lengths(&format!("{shape:?}"), &good, &printed(&good))
+    };
+    [(251, 16, 16, 15), (251, 8, 16, 7), (251, 16, 8, 0)].into_iter().flat_map(of).collect()
 }
 
 /// A plan of that shape, a rival expected, and a mark without a fault.
@@ -167,12 +156,8 @@ fn unsound_large() -> Vec<Input> {
 /// Photographs of all sizes whose cost is clean, around the radius, or anything below it, and of nothing; with the record
 /// itself expected, a rival of it, and any record.
 fn photographs() -> Vec<Input> {
-    let squares = [(2, 2, 2, 1), (3, 3, 3, 2), (5, 5, 5, 1), (13, 13, 13, 6), (101, 8, 8, 3), (241, 12, 12, 11)];
-    let oblongs = [(2, 1, 2, 0), (3, 3, 2, 1), (5, 2, 5, 1), (13, 13, 4, 3), (101, 8, 3, 0), (241, 7, 12, 6)];
-    let longest = [(251, 1, 16, 0), (251, 16, 1, 0)];
     let mut inputs = Vec::new();
-    let shapes = [&squares[..], &LARGE_SQUARES, &oblongs, &LARGE_OBLONGS, &longest].concat();
-    for (k, shape) in shapes.into_iter().enumerate() {
+    for (k, shape) in plans::all_sizes().into_iter().enumerate() {
         let random = &mut Random::new(k as u64);
         let radius = Code::Mark.radius(&plans::plan(shape, random));
         for cost in [0, radius / 2, radius - 1, radius, radius + 1] {
@@ -209,14 +194,4 @@ fn rows_alike() -> Vec<Input> {
         }
     }
     inputs
-}
-
-/// Any bytes of any length.
-fn rubbish() -> Vec<Input> {
-    let bytes = |seed: u64| {
-        let random = &mut Random::new(1_000 + seed);
-        let length = random.below(800);
-        input(format!("random bytes {seed}"), random.bytes(length))
-    };
-    (0..20).map(bytes).collect()
 }

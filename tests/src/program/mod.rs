@@ -3,6 +3,7 @@
 
 mod conduct;
 
+use crate::random::Random;
 use independent::PLAN;
 use std::io::Write;
 use std::process::{Command, ExitCode, Output, Stdio};
@@ -83,6 +84,34 @@ impl Program {
         drop(stdin);
         child.wait_with_output()
     }
+}
+
+/// The first bytes of an input that is not refused, and zeros after it, every number of them to some beyond it: fewer than a
+/// plan's are 1, and any other count than the input's own is 6.
+pub fn all_lengths(name: &str, good: &[u8], printed: &str) -> Vec<Input> {
+    let mut bytes = good.to_vec();
+    bytes.resize(good.len() + 50, 0);
+    let cut = |length: usize| {
+        let printed = match length {
+            0..PLAN => "REFUSED 1\n",
+            _ if length == good.len() => printed,
+            _ => "REFUSED 6\n",
+        };
+        Input::new(format!("{length} bytes of {name}"), bytes[..length].to_vec(), printed)
+    };
+    (0..=bytes.len()).map(cut).collect()
+}
+
+/// Any bytes, fewer than so many, and what they print.
+pub fn rubbish(most: usize, printed: impl Fn(&[u8]) -> String) -> Vec<Input> {
+    let any = |seed: u64| {
+        let random = &mut Random::new(1_000 + seed);
+        let length = random.below(most);
+        let bytes = random.bytes(length);
+        let printed = printed(&bytes);
+        Input::new(format!("random bytes {seed}"), bytes, printed)
+    };
+    (0..20).map(any).collect()
 }
 
 /// The input with each of these places changed to the value, and the number that this gets: alone, and where the place is of
