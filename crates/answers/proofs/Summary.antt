@@ -29,7 +29,7 @@ module _ {C : Code} {P s u : List ℕ} (F : List ℕ) (photo : Photograph C P s 
   pub unread-within : unreadIn s ≤ n
   unread-within = rw (photo .symbols) (omega (arith, differing, differing-split (photo .sound) C s F))
 
-  pub summary-is : {R D : ℕ} → R ≡ radius full C P → D ≡ costOf C P s u F → summary R D n s ≡ readingOf C P s u F
+  pub summary-is : {R D : ℕ} → R ≡ radius C P → D ≡ costOf C P s u F → summary R D n s ≡ readingOf C P s u F
   unfolding readingOf
   summary-is e f =
       let changed : n - unreadOf C P s ≡ changedOf C P s F = omega (arith, differing, differing-split (photo .sound) C s F) in

@@ -91,12 +91,12 @@ module _ (C : Code) (P : List ℕ) where
   module _ (s u F : List ℕ) where
     pub photo-refused : (k : ℕ) → k ≡ checkNumber P → (k ≡ 0 → ⊥) → k ≡ first (photoRows C P s u F)
     unfolding photoRows planRows checkNumber
-    photo-refused k e h = first-refuses (planRows P) (photoTests (modulus P) full s u F (cells C P) (size C P)) tt k e h
+    photo-refused k e h = first-refuses (planRows P) (photoTests (modulus P) (full P) s u F (cells C P) (size C P)) tt k e h
 
     pub photo-passes : checkNumber P ≡ 0 →
-        first (photoTests (modulus P) full s u F (cells C P) (size C P)) ≡ first (photoRows C P s u F)
+        first (photoTests (modulus P) (full P) s u F (cells C P) (size C P)) ≡ first (photoRows C P s u F)
     unfolding photoRows planRows checkNumber
-    photo-passes = first-passes (planRows P) (photoTests (modulus P) full s u F (cells C P) (size C P)) tt
+    photo-passes = first-passes (planRows P) (photoTests (modulus P) (full P) s u F (cells C P) (size C P)) tt
 
   module _ (F B : List ℕ) where
     pub write-refused : (k : ℕ) → k ≡ checkNumber P → (k ≡ 0 → ⊥) → k ≡ writeNumber C P F B
@@ -153,7 +153,7 @@ module _ (C : Code) (P : List ℕ) (e : checkNumber P ≡ 0) where
 
   module _ (s u F : List ℕ) where
     abbrev tests : List Refusal
-    tests = photoTests (modulus P) full s u F (cells C P) (size C P)
+    tests = photoTests (modulus P) (full P) s u F (cells C P) (size C P)
 
     -- both calls stop where the tests of a photograph do
     stopped : (i : ℕ) → Stops tests i → (numberAt tests i ≡ 0 → ⊥) →
@@ -185,7 +185,7 @@ module _ (C : Code) (P : List ℕ) (e : checkNumber P ≡ 0) where
 module _ (C : Code) (P s u F B : List ℕ) where
   -- the rows of measuring after the plan's, and those of explaining
   abbrev measured : List Refusal
-  measured = photoTests (modulus P) full s u F (cells C P) (size C P) ++ recordRow C P F ∷ []
+  measured = photoTests (modulus P) (full P) s u F (cells C P) (size C P) ++ recordRow C P F ∷ []
 
   abbrev explained : List Refusal
   explained = lengthRow B (size C P) ∷ measured

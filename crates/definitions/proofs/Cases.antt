@@ -2,6 +2,7 @@
 --
 --   cases-hold                    cases a to l
 --   oblong-cases-hold             the cases of oblong marks
+--   age-cases-hold                the cases of doubts in 250ths
 --   explain-cases-hold            the cases of explaining
 --   more-cases-hold               the further cases
 --   class-bounds                  the class at each of its bounds
@@ -39,13 +40,13 @@ use Rattle.definitions.specs.Why.{whyReason, whyOther, whyReading}
 use Rattle.definitions.specs.Printed.{decimal, signed, spaced, costs, readLine, recordLine, answerLine, numberLine}
 use Rattle.definitions.specs.Printed.{answerText, trayText, whyText}
 use Rattle.definitions.specs.Widening.{widened, widenedAll, widenRows, widenNumber, widenBuffer, widenText}
-use Rattle.definitions.specs.Cases.{effect, only, call, expected, cases, oblongCases, explainCases, moreCases}
+use Rattle.definitions.specs.Cases.{effect, only, call, expected, cases, oblongCases, ageCases, explainCases, moreCases}
 use Rattle.definitions.specs.Refusals.{_when_, table, Earliest}
 use Rattle.definitions.specs.Code.{oblong}
 use Rattle.definitions.specs.Demands.{Written}
 use Rattle.polynomial.specs.Record.{valueXY}
 use Rattle.definitions.specs.Cases.{gives, planWide, planTall, markWide, markTall, record₁}
-use Rattle.definitions.specs.Cases.{planA, mark₁, photoC, photoD, hidden, doubts, nines}
+use Rattle.definitions.specs.Cases.{planA, mark₁, photoC, photoD, hidden, doubted, doubts, nines, new}
 
 pub cases-hold : map effect (map call cases) ≡ map expected cases
 unfolding effect
@@ -54,6 +55,10 @@ cases-hold = refl
 pub oblong-cases-hold : map effect (map call oblongCases) ≡ map expected oblongCases
 unfolding effect
 oblong-cases-hold = refl
+
+pub age-cases-hold : map effect (map call ageCases) ≡ map expected ageCases
+unfolding effect
+age-cases-hold = refl
 
 pub explain-cases-hold : map effect (map call explainCases) ≡ map expected explainCases
 unfolding effect
@@ -128,12 +133,18 @@ line₁ = 82 ∷ 69 ∷ 67 ∷ 79 ∷ 82 ∷ 68 ∷ 32 ∷ 51 ∷ 32 ∷ 49 ∷ 
 abbrev reading : (season others : List ℕ) → List ℕ
 reading season others = 82 ∷ 69 ∷ 65 ∷ 68 ∷ 32 ∷ season ++ others ++ 10 ∷ line₁
 
--- 2 0 1 400 200; 0 5 0 500 100; 0 0 0 0 300
+-- 2 0 1 400 200; 2 0 1 1000 500; 0 5 0 500 100; 0 5 0 1250 250; 0 0 0 0 300
 abbrev caseC : List ℕ
 caseC = 32 ∷ 50 ∷ 32 ∷ 48 ∷ 32 ∷ 49 ∷ 32 ∷ 52 ∷ 48 ∷ 48 ∷ 32 ∷ 50 ∷ 48 ∷ 48 ∷ []
 
+abbrev newC : List ℕ
+newC = 32 ∷ 50 ∷ 32 ∷ 48 ∷ 32 ∷ 49 ∷ 32 ∷ 49 ∷ 48 ∷ 48 ∷ 48 ∷ 32 ∷ 53 ∷ 48 ∷ 48 ∷ []
+
 abbrev caseF : List ℕ
 caseF = 32 ∷ 48 ∷ 32 ∷ 53 ∷ 32 ∷ 48 ∷ 32 ∷ 53 ∷ 48 ∷ 48 ∷ 32 ∷ 49 ∷ 48 ∷ 48 ∷ []
+
+abbrev newF : List ℕ
+newF = 32 ∷ 48 ∷ 32 ∷ 53 ∷ 32 ∷ 48 ∷ 32 ∷ 49 ∷ 50 ∷ 53 ∷ 48 ∷ 32 ∷ 50 ∷ 53 ∷ 48 ∷ []
 
 abbrev oblongClean : List ℕ
 oblongClean = 32 ∷ 48 ∷ 32 ∷ 48 ∷ 32 ∷ 48 ∷ 32 ∷ 48 ∷ 32 ∷ 51 ∷ 48 ∷ 48 ∷ []
@@ -141,15 +152,17 @@ oblongClean = 32 ∷ 48 ∷ 32 ∷ 48 ∷ 32 ∷ 48 ∷ 32 ∷ 48 ∷ 32 ∷ 51 
 abbrev refusal : List ℕ → List ℕ
 refusal number = 82 ∷ 69 ∷ 70 ∷ 85 ∷ 83 ∷ 69 ∷ 68 ∷ 32 ∷ number ++ 10 ∷ []
 
--- case c, in season 12 and in season 268; case f; case d; a byte less than case c and a byte more; a plan a byte short; no
+-- case c, in season 12 and in season 268; case f, and in season 30; case d; a byte less than case c and a byte more; a plan a byte short; no
 -- columns; nothing; an oblong mark each way
 pub text-cases :
     map trayText (
     (planA ++ photoC ++ sure 9) ∷ (set planA 0 1 ++ photoC ++ sure 9) ∷ (planA ++ hidden 5 ++ doubts 5)
+    ∷ (new planA ++ hidden 5 ++ doubted 250 5)
     ∷ (planA ++ photoD ++ sure 9) ∷ (planA ++ photoC ++ sure 8) ∷ (planA ++ photoC ++ sure 10) ∷ drop 1 planA
     ∷ (set planWide 4 0 ++ markWide) ∷ [] ∷ (planWide ++ markWide ++ sure 6) ∷ (planTall ++ markTall ++ sure 6) ∷ []
     )
-    ≡ reading (49 ∷ 50 ∷ []) caseC ∷ reading (50 ∷ 54 ∷ 56 ∷ []) caseC ∷ reading (49 ∷ 50 ∷ []) caseF
+    ≡ reading (49 ∷ 50 ∷ []) caseC ∷ reading (50 ∷ 54 ∷ 56 ∷ []) newC ∷ reading (49 ∷ 50 ∷ []) caseF
+    ∷ reading (51 ∷ 48 ∷ []) newF
     ∷ refusal (49 ∷ 48 ∷ []) ∷ refusal (54 ∷ []) ∷ refusal (54 ∷ []) ∷ refusal (49 ∷ [])
     ∷ refusal (49 ∷ 51 ∷ []) ∷ refusal (49 ∷ []) ∷ reading (49 ∷ 50 ∷ []) oblongClean ∷ reading (49 ∷ 50 ∷ []) oblongClean ∷ []
 unfolding effect trayReading trayRecord decimal signed spaced costs readLine recordLine numberLine answerText trayText
@@ -206,9 +219,10 @@ pub decimal-cases : map decimal (0 ∷ 9 ∷ 10 ∷ 65535 ∷ 4294967295 ∷ [])
 unfolding decimal
 decimal-cases = refl
 
--- 0, 25600, -1, -49600
-pub signed-cases : map signed (pos 0 ∷ pos 25600 ∷ negsuc 0 ∷ negsuc 49599 ∷ [])
-    ≡ (48 ∷ []) ∷ (50 ∷ 53 ∷ 54 ∷ 48 ∷ 48 ∷ []) ∷ (45 ∷ 49 ∷ []) ∷ (45 ∷ 52 ∷ 57 ∷ 54 ∷ 48 ∷ 48 ∷ []) ∷ []
+-- 0, 25600, -1, -49600, 64000, -124000
+pub signed-cases : map signed (pos 0 ∷ pos 25600 ∷ negsuc 0 ∷ negsuc 49599 ∷ pos 64000 ∷ negsuc 123999 ∷ [])
+    ≡ (48 ∷ []) ∷ (50 ∷ 53 ∷ 54 ∷ 48 ∷ 48 ∷ []) ∷ (45 ∷ 49 ∷ []) ∷ (45 ∷ 52 ∷ 57 ∷ 54 ∷ 48 ∷ 48 ∷ [])
+    ∷ (54 ∷ 52 ∷ 48 ∷ 48 ∷ 48 ∷ []) ∷ (45 ∷ 49 ∷ 50 ∷ 52 ∷ 48 ∷ 48 ∷ 48 ∷ []) ∷ []
 unfolding decimal signed
 signed-cases = refl
 

@@ -26,15 +26,15 @@ module _ (C : Code) (P s u B : List ℕ) (photo : Photograph C P s u) (buffer : 
   clear : first (photoRows C P s u B) ≡ 0
   clear = photo-accepted C P s u B photo buffer
 
-  near : (F : List ℕ) → costOf C P s u F < radius full C P → within C P s u F ≡ true
+  near : (F : List ℕ) → costOf C P s u F < radius C P → within C P s u F ≡ true
   unfolding within
   near F l = lt-ltb _ _ l
 
-  far : (F : List ℕ) → radius full C P ≤ costOf C P s u F → within C P s u F ≡ false
+  far : (F : List ℕ) → radius C P ≤ costOf C P s u F → within C P s u F ≡ false
   unfolding within
   far F l = le-ltb _ _ l
 
-  found : (F : List ℕ) → IsRecord C P F → costOf C P s u F < radius full C P →
+  found : (F : List ℕ) → IsRecord C P F → costOf C P s u F < radius C P →
       (readReading C P s u B ≡ readingOf C P s u F) × (readBuffer C P s u B ≡ F)
   found F r l =
       let h = reads-the C P s u B clear (at-most-one C P s u photo) F r (near F l) in
@@ -53,19 +53,19 @@ module _ (C : Code) (P s u B : List ℕ) (photo : Photograph C P s u) (buffer : 
   unfolding readingOf
   accepted-number F = refl
 
-  none : ((F : List ℕ) → IsRecord C P F → radius full C P ≤ costOf C P s u F) →
+  none : ((F : List ℕ) → IsRecord C P F → radius C P ≤ costOf C P s u F) →
       (readReading C P s u B ≡ calls.refused 10) × (readBuffer C P s u B ≡ B)
   none z = let h = reads-none C P s u B clear (λ F r. far F (z F r)) in (sym (h .reading), sym (h .buffer))
 
-  ten : readNumber C P s u B ≡ 10 → (F : List ℕ) → IsRecord C P F → radius full C P ≤ costOf C P s u F
-  ten e F r = elim (decLt (costOf C P s u F) (radius full C P)) [
+  ten : readNumber C P s u B ≡ 10 → (F : List ℕ) → IsRecord C P F → radius C P ≤ costOf C P s u F
+  ten e F r = elim (decLt (costOf C P s u F) (radius C P)) [
     | yes m ↦ absurd (omega (arith, e, number, accepted-number F, ap (λ a. a .number) (found F r m .0)))
     | no m ↦ omega arith
   ]
 
   pub nearest-one : Nearest C P s u B
   nearest-one = record {
-    alone = λ F G r q n l. elim (decLt (costOf C P s u G) (radius full C P)) [
+    alone = λ F G r q n l. elim (decLt (costOf C P s u G) (radius C P)) [
       | yes m ↦ absurd (n (at-most-one C P s u photo F G r q (near F l) (near G m)))
       | no m ↦ omega arith
     ];

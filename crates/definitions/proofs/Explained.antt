@@ -32,7 +32,7 @@ use Rattle.definitions.proofs.Unique.{at-most-one}
 use Rattle.definitions.proofs.Explaining.{explains-answer, read-finds, read-near, explains-other, explains-nothing}
 
 module _ (C : Code) (P s u F : List ℕ) (S : Sound P) (f : IsRecord C P F) where
-  pub lowest-place : (G : List ℕ) → IsRecord C P G → F ≢ G → costOf C P s u G < radius full C P →
+  pub lowest-place : (G : List ℕ) → IsRecord C P G → F ≢ G → costOf C P s u G < radius C P →
       Shown C P s u F G (differingPlace C P F G)
   lowest-place G g n l =
       let inside : differingPlace C P F G < cells C P = index-within _ _ (holds _ λ t. n (same-record P S C F G f g λ c k.
@@ -51,11 +51,11 @@ module _ (C : Code) (P s u F B : List ℕ) (x : Expecting C P s u F B) where
   abbrev Told : Reason → List ℕ → Type 0
   Told r b = Explained C P s u F B (valuesOf r) b
 
-  alone : (G : List ℕ) → IsRecord C P G → costOf C P s u F < radius full C P → costOf C P s u G < radius full C P → F ≡ G
+  alone : (G : List ℕ) → IsRecord C P G → costOf C P s u F < radius C P → costOf C P s u G < radius C P → F ≡ G
   alone G g k l =
       at-most-one C P s u (x .photo) F G (x .given) g (cost-within C P s u F k) (cost-within C P s u G l)
 
-  answer : costOf C P s u F < radius full C P → Told Answer B
+  answer : costOf C P s u F < radius C P → Told Answer B
   answer l = record {
     number = refl;
     one = inl refl;
@@ -67,7 +67,7 @@ module _ (C : Code) (P s u F B : List ℕ) (x : Expecting C P s u F B) where
     beyond = λ e. absurd (omega arith);
   }
 
-  other : radius full C P ≤ costOf C P s u F → (G : List ℕ) → IsRecord C P G → costOf C P s u G < radius full C P →
+  other : radius C P ≤ costOf C P s u F → (G : List ℕ) → IsRecord C P G → costOf C P s u G < radius C P →
       Told (Other (differingPlace C P F G)) G
   other l G g k = record {
     number = refl;
@@ -83,8 +83,8 @@ module _ (C : Code) (P s u F B : List ℕ) (x : Expecting C P s u F B) where
       apart : F ≢ G
       apart e = omega (arith, l, k, ap (costOf C P s u) e)
 
-  nothing : ((G : List ℕ) → IsRecord C P G → radius full C P ≤ costOf C P s u G) →
-      Told (Nothing (costOf C P s u F - radius full C P)) B
+  nothing : ((G : List ℕ) → IsRecord C P G → radius C P ≤ costOf C P s u G) →
+      Told (Nothing (costOf C P s u F - radius C P)) B
   nothing h = record {
     number = refl;
     one = inr (inr refl);
@@ -97,7 +97,7 @@ module _ (C : Code) (P s u F B : List ℕ) (x : Expecting C P s u F B) where
   }
 
   pub explained : Explained C P s u F B (valuesOf (explainReason C P s u F B)) (explainBuffer C P s u F B)
-  explained = elim (decLt (costOf C P s u F) (radius full C P)) [
+  explained = elim (decLt (costOf C P s u F) (radius C P)) [
     | yes l ↦ is (explains-answer C P s u F B x l) (answer l)
     | no l ↦ elim (read-finds C P s u F B x read) [
       | inl (z, _) ↦
@@ -114,5 +114,5 @@ module _ (C : Code) (P s u F B : List ℕ) (x : Expecting C P s u F B) where
           Told (explainReason C P s u F B) (explainBuffer C P s u F B)
       is h t = rw (← h .reason, ← h .buffer) t
 
-      none : nearest C P s u ≡ option.none → (G : List ℕ) → IsRecord C P G → radius full C P ≤ costOf C P s u G
+      none : nearest C P s u ≡ option.none → (G : List ℕ) → IsRecord C P G → radius C P ≤ costOf C P s u G
       none m G g = without-cost C P s u G (rw m at (nearest-says C P s u) G g)

@@ -58,7 +58,7 @@ module _ (C : Code) (P s u F B : List ℕ) where
     itself : different C P F F ≡ false
     itself = none-any _ _ λ i l. equal (at F i) (at F i) refl
 
-    pub explains-answer : costOf C P s u F < radius full C P → Explains C P s u F B Answer B
+    pub explains-answer : costOf C P s u F < radius C P → Explains C P s u F B Answer B
     unfolding nearest
     explains-answer l =
         let one = at-most-one C P s u (x .photo) in
@@ -72,17 +72,17 @@ module _ (C : Code) (P s u F B : List ℕ) where
       found : r .number ≡ 0 → nearest C P s u ≡ some b
       found z = elim read-finds [ inl (_, m) ↦ m | inr (t, _, _) ↦ absurd (omega (arith, z, t)) ]
 
-      pub read-near : r .number ≡ 0 → IsRecord C P b × (costOf C P s u b < radius full C P)
+      pub read-near : r .number ≡ 0 → IsRecord C P b × (costOf C P s u b < radius C P)
       read-near z = let (g, t) = rw (found z) at (nearest-says C P s u) in (g, within-cost C P s u b t)
 
-      pub explains-other : radius full C P ≤ costOf C P s u F → r .number ≡ 0 →
+      pub explains-other : radius C P ≤ costOf C P s u F → r .number ≡ 0 →
           Explains C P s u F B (Other (differingPlace C P F b)) b
       explains-other l z =
           let (g, k) = read-near z in
           let n : F ≡ b → ⊥ = λ e. omega (arith, l, ap (costOf C P s u) e, k) in
           rw (other-record g n) at (explains (explaining-accepted C P s u F B x) (found z))
 
-      pub explains-nothing : (r .number ≡ 0 → ⊥) → Explains C P s u F B (Nothing (costOf C P s u F - radius full C P)) b
+      pub explains-nothing : (r .number ≡ 0 → ⊥) → Explains C P s u F B (Nothing (costOf C P s u F - radius C P)) b
       explains-nothing n = elim read-finds [
         | inl (z, _) ↦ absurd (n z)
         | inr (_, m, e) ↦ rw e (explains (explaining-accepted C P s u F B x) m)

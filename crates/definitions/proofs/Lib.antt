@@ -4,6 +4,7 @@ pub mod Refusals
 pub mod Search
 pub mod Sound
 pub mod Plan
+pub mod Full
 pub mod Photograph
 pub mod Nearest
 pub mod Unique

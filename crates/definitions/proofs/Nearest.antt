@@ -31,21 +31,21 @@ use Rattle.definitions.proofs.Search.{SearchSays, search-says, search-n
 
 -- the test as facts
 module _ (C : Code) (P s u F : List ℕ) where
-  pub within-cost : within C P s u F ≡ true → costOf C P s u F < radius full C P
+  pub within-cost : within C P s u F ≡ true → costOf C P s u F < radius C P
   unfolding within
-  within-cost t = ltb-true (costOf C P s u F) (radius full C P) t
+  within-cost t = ltb-true (costOf C P s u F) (radius C P) t
 
-  pub cost-within : costOf C P s u F < radius full C P → within C P s u F ≡ true
+  pub cost-within : costOf C P s u F < radius C P → within C P s u F ≡ true
   unfolding within
-  cost-within l = lt-ltb (costOf C P s u F) (radius full C P) l
+  cost-within l = lt-ltb (costOf C P s u F) (radius C P) l
 
-  pub without-cost : within C P s u F ≡ false → radius full C P ≤ costOf C P s u F
+  pub without-cost : within C P s u F ≡ false → radius C P ≤ costOf C P s u F
   unfolding within
-  without-cost t = ltb-false (costOf C P s u F) (radius full C P) t
+  without-cost t = ltb-false (costOf C P s u F) (radius C P) t
 
-  pub cost-without : (costOf C P s u F < radius full C P → ⊥) → within C P s u F ≡ false
+  pub cost-without : (costOf C P s u F < radius C P → ⊥) → within C P s u F ≡ false
   unfolding within
-  cost-without h = le-ltb (costOf C P s u F) (radius full C P) (omega arith)
+  cost-without h = le-ltb (costOf C P s u F) (radius C P) (omega arith)
 
 module _ (C : Code) (P s u B : List ℕ) where
   -- from the number and what the search finds

@@ -12,7 +12,7 @@ use mathlib.Core.Path.{_≡_, refl, ap, _∙_}
 use mathlib.Core.Logic.{inl}
 use mathlib.Core.Bool.{true}
 use mathlib.Core.List.{List}
-use Prim.Native.Nat.{ℕ, zero, suc, _-_, _<_}
+use Prim.Native.Nat.{ℕ, zero, suc, _-_, _≤_, _<_}
 use native.Mathlib.Omega.{arith}
 use native.Mathlib.Nat.{add-zero, mul-le-mul}
 use lib.Dec.{eqb}
@@ -21,15 +21,16 @@ use lib.ListN.{length, replicate}
 use borrow.Author.Tests.{eq-eqb}
 use Rattle.bounded.specs.Bounded.{at, sum}
 use Rattle.bounded.proofs.Sum.{sum-eq, sum-const}
-use Rattle.polynomial.specs.Sides.{least, others}
+use Rattle.polynomial.specs.Sides.{least, others, distance}
 use Rattle.definitions.specs.Plan.{side, degree}
-use Rattle.definitions.specs.Code.{Code, strip, oblong, cells, value, mark, IsRecord}
+use Rattle.definitions.specs.Code.{Code, strip, oblong, more, cells, value, mark, IsRecord}
 use Rattle.definitions.specs.Cost.{full, radius, margin}
 use Rattle.distance.specs.Cost.{cell, hamming}
 use Rattle.definitions.specs.Calls.{costOf, changedOf, unreadOf, readingOf, readReading, readBuffer}
 use Rattle.definitions.specs.Sound.{Sound}
 use Rattle.definitions.specs.Photograph.{Photograph, sure}
 use Rattle.definitions.specs.Demands.{Nearest, clean}
+use Rattle.definitions.proofs.Full.{full-some}
 use Rattle.definitions.proofs.Counts.{value-below, differing-split}
 use Rattle.definitions.proofs.Written.{mark-length, mark-at}
 use Rattle.definitions.proofs.Nearest.{cost-within}
@@ -51,7 +52,7 @@ module _ (C : Code) (P F : List ℕ) where
   pub own-cost : costOf C P (mark C P F) (sure (cells C P)) F ≡ 0
   own-cost = sum-eq (cells C P) {g = λ c. 0} own ∙ none (cells C P)
     where
-      own : (c : ℕ) → c < cells C P → cell full (at (mark C P F) c) (at (sure (cells C P)) c) (value C P F c) ≡ 0
+      own : (c : ℕ) → c < cells C P → cell (full P) (at (mark C P F) c) (at (sure (cells C P)) c) (value C P F c) ≡ 0
       own c l = rw (equal c l) (zeros-at (cells C P) c)
 
       none : (n : ℕ) → sum n (λ c. 0) ≡ 0
@@ -67,8 +68,10 @@ module _ (P : List ℕ) (S : Sound P) where
     symbols = mark-length C P F;
     doubts = zeros-length (cells C P);
     symbol = λ c l. inl (rw (mark-at C P F c l) (value-below S C F c));
-    doubt = λ c l. omega (arith, zeros-at (cells C P) c);
-    erased = λ c l z. absurd (omega (arith, z, mark-at C P F c l, value-below S C F c, S .small));
+    doubt = λ c l. (
+      omega (arith, zeros-at (cells C P) c),
+      λ z. absurd (omega (arith, z, mark-at C P F c l, value-below S C F c, S .small)),
+    );
   }
 
   pub own-reading : (C : Code) (F : List ℕ) → readingOf C P (mark C P F) (sure (cells C P)) F ≡ clean C P
@@ -78,21 +81,24 @@ module _ (P : List ℕ) (S : Sound P) where
       let changed : changedOf C P (mark C P F) F ≡ 0 = omega (arith, split, own-differing C P F) in
       let unread : unreadOf C P (mark C P F) ≡ 0 = omega (arith, split, own-differing C P F) in
       rw (own-cost C P F, changed, unread)
-      (ap (λ m. record { number = 0; cost = 0; margin = pos m; changed = 0; unread = 0; class = 0 }) (add-zero (radius full C P)))
+      (ap (λ m. record { number = 0; cost = 0; margin = pos m; changed = 0; unread = 0; class = 0 }) (add-zero (radius C P)))
 
-  pub radius-positive : (C : Code) → 0 < radius full C P
-  radius-positive strip = omega (arith, S .low)
-  radius-positive oblong = omega (
+  distance-positive : (C : Code) → 1 ≤ distance (more C) (side P) (degree P)
+  distance-positive strip = omega (arith, S .low)
+  distance-positive oblong = omega (
     arith,
     mul-le-mul {n₁ = 1} {m₁ = 1} {n₂ = others 1 (side P)} {m₂ = least 1 (side P) - degree P} (omega (arith, S .low))
         (omega (arith, S .low)),
   )
 
+  pub radius-positive : (C : Code) → 0 < radius C P
+  radius-positive C = mul-le-mul {n₁ = 1} {m₁ = 1} (full-some P) (distance-positive C)
+
   -- reading it back
   pub own-read : (C : Code) (F B : List ℕ) → IsRecord C P F → Nearest C P (mark C P F) (sure (cells C P)) B →
       (readReading C P (mark C P F) (sure (cells C P)) B ≡ clean C P) × (readBuffer C P (mark C P F) (sure (cells C P)) B ≡ F)
   own-read C F B r h =
-      let z : costOf C P (mark C P F) (sure (cells C P)) F < radius full C P = omega (arith, own-cost C P F, radius-positive C) in
+      let z : costOf C P (mark C P F) (sure (cells C P)) F < radius C P = omega (arith, own-cost C P F, radius-positive C) in
       let t = h .returned F r z in
       (t .0 ∙ own-reading C F, t .1)
 
@@ -102,7 +108,7 @@ module _ (P : List ℕ) (S : Sound P) where
       let s = mark C P F in
       let u = sure (cells C P) in
       let none = own-cost C P F in
-      let same = sum-eq (cells C P) λ c l. ap (cell full (at s c) (at u c)) (e c l) in
+      let same = sum-eq (cells C P) λ c l. ap (cell (full P) (at s c) (at u c)) (e c l) in
       at-most-one C P s u (own-photo C F) F G f g
       (cost-within C P s u F (omega (arith, none, radius-positive C)))
       (cost-within C P s u G (omega (arith, none, same, radius-positive C)))

@@ -22,8 +22,7 @@ use Rattle.definitions.specs.Plan.{modulus, planRows, checkNumber}
 use Rattle.definitions.specs.Code.{Code, cells, size}
 use Rattle.definitions.specs.Cost.{full, unread}
 use Rattle.definitions.specs.Calls.{strange, misdoubted, photoTests, photoRows}
-use Rattle.definitions.specs.Photograph.{Photograph}
-use Rattle.definitions.specs.Demands.{SymbolsFit, DoubtsFit}
+use Rattle.definitions.specs.Photograph.{SymbolsFit, DoubtsFit, Photograph}
 use Rattle.definitions.proofs.Sound.{checked, sound}
 use Rattle.definitions.proofs.Refusals.{first-append, first-at, first-clear, testAt, equal, neither}
 
@@ -52,15 +51,15 @@ module _ (C : Code) (P s u : List ℕ) where
           absurd (true≢false (sym t ∙ lt-leb _ _ k))
       one c (inr k) = both-false (leb (modulus P) (at s c)) (not (eqb (at s c) unread)) λ t. equal (at s c) unread k
 
-  pub doubts-fit : misdoubted full s u (cells C P) ≡ false → DoubtsFit C P s u
+  pub doubts-fit : misdoubted (full P) s u (cells C P) ≡ false → DoubtsFit (full P) C P s u
   doubts-fit e c m =
-      let d = neither (ltb full (at u c)) (eqb (at s c) unread && not (eqb (at u c) full)) (any-none _ _ e c m) in
+      let d = neither (ltb (full P) (at u c)) (eqb (at s c) unread && not (eqb (at u c) (full P))) (any-none _ _ e c m) in
       (ltb-false _ _ (d .0), λ k. eqb-true _ _ (not-false _ (not-both _ _ (d .1) (eq-eqb _ _ k))))
 
 module _ (C : Code) (P s u B : List ℕ) where
   -- the rows after the plan's
   abbrev rest : List Refusal
-  rest = photoTests (modulus P) full s u B (cells C P) (size C P)
+  rest = photoTests (modulus P) (full P) s u B (cells C P) (size C P)
 
   split : first (photoRows C P s u B) ≡ accepted (checkNumber P) (first rest) (checkNumber P)
   unfolding photoRows checkNumber planRows
@@ -70,8 +69,8 @@ module _ (C : Code) (P s u B : List ℕ) where
   photo-accepted h l = split ∙ ap (λ k. accepted k (first rest) k) (checked P (h .sound)) ∙ sym (first-at rest 5
       (equal _ _ (h .symbols), (equal _ _ (h .doubts), (equal _ _ l, (fit-symbols C P s u (h .symbol), (doubt, tt))))))
     where
-      doubt : misdoubted full s u (cells C P) ≡ false
-      doubt = none-any _ _ λ c m. rw (le-ltb _ _ (h .doubt c m)) (both-false _ _ λ t. equal _ _ (h .erased c m (eqb-true _ _ t)))
+      doubt : misdoubted (full P) s u (cells C P) ≡ false
+      doubt = none-any _ _ λ c m. rw (le-ltb _ _ (h .doubt c m .0)) (both-false _ _ λ t. equal _ _ (h .doubt c m .1 (eqb-true _ _ t)))
 
   module _ (e : first (photoRows C P s u B) ≡ 0) where
     passed : checkNumber P ≡ 0
@@ -90,8 +89,7 @@ module _ (C : Code) (P s u B : List ℕ) where
       symbols = eqb-true _ _ (not-false _ (clear 0));
       doubts = eqb-true _ _ (not-false _ (clear 1));
       symbol = symbols-fit C P s u (clear 3);
-      doubt = λ c m. doubts-fit C P s u (clear 4) c m .0;
-      erased = λ c m. doubts-fit C P s u (clear 4) c m .1;
+      doubt = doubts-fit C P s u (clear 4);
     }
 
     pub accepted-buffer : length B ≡ size C P

@@ -1,7 +1,7 @@
 -- A cost is the published distance times twice the full doubt.
 --
 --   cost-published   n cells, for any full doubt
---   photo-weighed    of a photograph and any record, 200 times; and the margin
+--   photo-weighed    of a photograph and any record, twice the full doubt of its season; and the margin
 --
 -- What this file is for: the customer's whole numbers are the published weights. Assumes nothing.
 use mathlib.Core.Path.{_≡_, refl, ap}
@@ -19,6 +19,7 @@ use Rattle.definitions.specs.Published.{Fraction, _over_, _⊕_, _is_tim
 use Rattle.definitions.specs.Calls.{readingOf}
 use Rattle.definitions.specs.Photograph.{Photograph}
 use Rattle.definitions.specs.Demands.{Weighed}
+use Rattle.definitions.proofs.Full.{full-some}
 
 -- a cell's distance is its cost over twice the full doubt
 cell-published : (f s u v : ℕ) → Δ (s, u over f) v ≡ cell f s u v over (2 * f)
@@ -39,10 +40,11 @@ cost-published f (suc n) s u v z =
     let q = distance n (weighted f s u) v in
     rw (cell-published f (s n) (u n) (v n)) (times-more (2 * f) (cost f n s u v) (cell f (s n) (u n) (v n)) q (omega arith) h)
 
-pub photo-weighed : (C : Code) (P s u F : List ℕ) → Photograph C P s u → Weighed C P s u F (readingOf C P s u F)
+pub photo-weighed : (C : Code) (P s u F : List ℕ) → Photograph C P s u →
+    Weighed (full P) (2 * full P) C P s u F (readingOf C P s u F)
 unfolding readingOf margin
 photo-weighed C P s u F h = record {
-  uncertain = λ c l. (omega arith, h .doubt c l);
-  cost = cost-published full (cells C P) (at s) (at u) (value C P F) (omega arith);
+  uncertain = λ c l. (full-some P, h .doubt c l .0);
+  cost = cost-published (full P) (cells C P) (at s) (at u) (value C P F) (full-some P);
   margin = refl;
 }

@@ -47,12 +47,12 @@ module _ (C : Code) (P s u : List ℕ) (h : Photograph C P s u) where
       ∙ ap (λ p. inCell (more C) (degree P) (side P) (point P) (polynomial F) c % p) (sym (plan-modulus S))
 
   near : (F : List ℕ) → within C P s u F ≡ true →
-      cost full (cells C P) (at s) (at u) (word (modulus P - 1) (more C) (degree P) (side P) (point P) (polynomial F))
-      < full * distance (more C) (side P) (degree P)
+      cost (full P) (cells C P) (at s) (at u) (word (modulus P - 1) (more C) (degree P) (side P) (point P) (polynomial F))
+      < full P * distance (more C) (side P) (degree P)
   near F t = omega (
     arith,
     within-cost C P s u F t,
-    sum-eq (cells C P) λ c _. ap (cell full (at s c) (at u c)) (values F c),
+    sum-eq (cells C P) λ c _. ap (cell (full P) (at s c) (at u c)) (values F c),
   )
 
   residues : (F : List ℕ) → IsRecord C P F → Word (suc (modulus P - 1)) (start (more C) (suc (degree P))) F
@@ -60,5 +60,5 @@ module _ (C : Code) (P s u : List ℕ) (h : Photograph C P s u) where
 
   pub at-most-one : AtMostOne C P s u
   at-most-one F G f g i j = record-one (more C) (degree P) F G (residues F f) (residues G g)
-      (poly-one (more C) (λ k _. plan-apart S k) full (degree P) (plan-low S C) (at s) (at u) (h .doubt)
+      (poly-one (more C) (λ k _. plan-apart S k) (full P) (degree P) (plan-low S C) (at s) (at u) (λ c l. h .doubt c l .0)
       (polynomial F) (polynomial G) (near F i) (near G j))

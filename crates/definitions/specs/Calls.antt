@@ -53,11 +53,11 @@ photoTests p f s u F n k =
     ∷ []
 
 unfoldable pub photoRows : Code → (P s u F : List ℕ) → List Refusal
-photoRows C P s u F = planRows P ++ photoTests (modulus P) full s u F (cells C P) (size C P)
+photoRows C P s u F = planRows P ++ photoTests (modulus P) (full P) s u F (cells C P) (size C P)
 
 -- the cost D of a record, its changed count, the unread count, and whether the record is within the radius
 abbrev pub costOf : Code → (P s u F : List ℕ) → ℕ
-costOf C P s u F = cost full (cells C P) (at s) (at u) (value C P F)
+costOf C P s u F = cost (full P) (cells C P) (at s) (at u) (value C P F)
 
 abbrev pub changedOf : Code → (P s F : List ℕ) → ℕ
 changedOf C P s F = changed (cells C P) (at s) (value C P F)
@@ -66,7 +66,7 @@ abbrev pub unreadOf : Code → (P s : List ℕ) → ℕ
 unreadOf C P s = unreadCells (cells C P) (at s)
 
 unfoldable pub within : Code → (P s u F : List ℕ) → Bool
-within C P s u F = ltb (costOf C P s u F) (radius full C P)
+within C P s u F = ltb (costOf C P s u F) (radius C P)
 
 -- a refusal: the number and zeros; and what is said of a record
 abbrev pub refused : ℕ → Reading
@@ -76,7 +76,7 @@ unfoldable pub readingOf : Code → (P s u F : List ℕ) → Reading
 readingOf C P s u F = record {
   number = 0;
   cost = costOf C P s u F;
-  margin = margin (radius full C P) (costOf C P s u F);
+  margin = margin (radius C P) (costOf C P s u F);
   changed = changedOf C P s F;
   unread = unreadOf C P s;
   class = class (changedOf C P s F);

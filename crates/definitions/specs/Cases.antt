@@ -1,5 +1,6 @@
 -- Cases a to l of the table "Edges" of document 01, with plans of 40 bytes and unread cells counted apart as document 02 asks, as
--- rows of one list; the cases of oblong marks as those of another, those of explaining, and further ones.
+-- rows of one list; the cases of oblong marks as those of another, those of doubts in 250ths, those of explaining, and further
+-- ones.
 --
 --   call ⟹ reading leaving bytes       a call, what it returns, and what its last buffer then holds
 --   call ⟹ explanation beside bytes    the same of explaining
@@ -18,7 +19,7 @@ use Rattle.definitions.specs.Refusals.{first}
 use Rattle.definitions.specs.Plan.{checkNumber, planRows}
 use Rattle.definitions.specs.Code.{Code, strip, oblong, mark}
 use Rattle.polynomial.specs.Layout.{value}
-use Rattle.definitions.specs.Cost.{margin}
+use Rattle.definitions.specs.Cost.{full, margin}
 use Rattle.definitions.specs.Photograph.{sure}
 use Rattle.definitions.specs.Search.{search, firstOf}
 use Rattle.definitions.specs.Calls.{photoRows, readingOf, writeRows, writeNumber, writeBuffer}
@@ -49,7 +50,7 @@ only k = record { number = k; cost = 0; margin = pos 0; changed = 0; unread = 0;
 
 -- whoever unfolds this computes with all that it names
 unfoldable pub effect : Call → Effect
-unfolding any tab first isPrime checkNumber planRows value mark margin search firstOf photoRows readingOf
+unfolding any tab first isPrime checkNumber planRows value mark full margin search firstOf photoRows readingOf
     writeRows writeNumber writeBuffer measureRows measureNumber measureReading
     within nearest readRows readNumber readReading readBuffer
     index explainRows explainNumber explainReason explainBuffer
@@ -121,11 +122,25 @@ photoD = 0 ∷ 0 ∷ 0 ∷ drop 3 mark₁
 abbrev pub hidden : ℕ → List ℕ
 hidden k = replicate k 255 ++ drop k mark₁
 
+abbrev pub doubted : (f k : ℕ) → List ℕ
+doubted f k = replicate k f ++ drop k (sure 9)
+
 abbrev pub doubts : ℕ → List ℕ
-doubts k = replicate k 100 ++ drop k (sure 9)
+doubts = doubted 100
 
 abbrev pub nines : ℕ → List ℕ
 nines n = replicate n 9
+
+-- a plan of another season: its two bytes
+abbrev pub inSeason : (high low : ℕ) → List ℕ → List ℕ
+inSeason high low P = high ∷ low ∷ drop 2 P
+
+-- plans of season 29, the last with doubts in 100ths, and of season 30, the first with 250ths
+abbrev pub old : List ℕ → List ℕ
+old = inSeason 0 29
+
+abbrev pub new : List ℕ → List ℕ
+new = inSeason 0 30
 
 -- the marks of the same record by the oblong plans
 abbrev pub markWide : List ℕ
@@ -206,6 +221,51 @@ oblongCases =
     ∷ (measure oblong (set planWide 4 0) markWide (sure 6) record₁ ⟹ only 13 leaving record₁)
     ∷ (read oblong (set planWide 4 0) markWide (sure 6) (nines 3) ⟹ only 13 leaving nines 3)
     ∷ (read oblong planWide (drop 1 markWide) (sure 6) (nines 3) ⟹ only 6 leaving nines 3)
+    ∷ []
+
+-- cases e to i in season 30, doubts in 250ths. In seasons 29 and 30 the same bytes: case c; case f, whose doubts of 100 are not
+-- those of unread cells in season 30; a right mark with six doubts of 100; doubts of 101, of 250 and of 251; an unread cell with
+-- the doubt 250; three wrong cells. An unread cell with the doubt 249 and 251. Seasons 65535, 256, whose low byte is 0, and 7680,
+-- whose high byte is 30. Oblong marks on the radius and one under it. Strips read and measured, an unread cell's doubt in each
+-- scale. Explaining: cases e and i, a far record, another record, and doubts of 250 and 251
+abbrev pub ageCases : List Case
+ageCases =
+    (read oblong (new planA) photoD (1 ∷ 1 ∷ 1 ∷ sure 6) (nines 3) ⟹ gives 1497 3 3 0 1 leaving record₁)  -- e
+    ∷ (read oblong (new planA) (hidden 5) (doubted 250 5) (nines 3) ⟹ gives 1250 250 0 5 0 leaving record₁)  -- f
+    ∷ (read oblong (new planA) (hidden 6) (doubted 250 6) (nines 3) ⟹ only 10 leaving nines 3)  -- g
+    ∷ (read oblong (new planH) (1 ∷ []) (249 ∷ []) (nines 1) ⟹ gives 249 1 0 0 0 leaving 1 ∷ [])  -- h
+    ∷ (read oblong (new planH) (1 ∷ []) (250 ∷ []) (nines 1) ⟹ only 10 leaving nines 1)  -- i
+    ∷ (read oblong (old planA) photoC (sure 9) (nines 3) ⟹ gives 400 200 2 0 1 leaving record₁)
+    ∷ (read oblong (new planA) photoC (sure 9) (nines 3) ⟹ gives 1000 500 2 0 1 leaving record₁)
+    ∷ (read oblong (old planA) (hidden 5) (doubts 5) (nines 3) ⟹ gives 500 100 0 5 0 leaving record₁)
+    ∷ (read oblong (new planA) (hidden 5) (doubts 5) (nines 3) ⟹ only 8 leaving nines 3)
+    ∷ (read oblong (old planA) mark₁ (doubts 6) (nines 3) ⟹ only 10 leaving nines 3)
+    ∷ (read oblong (new planA) mark₁ (doubts 6) (nines 3) ⟹ gives 600 900 0 0 0 leaving record₁)
+    ∷ (read oblong (old planA) mark₁ (doubted 101 1) (nines 3) ⟹ only 8 leaving nines 3)
+    ∷ (read oblong (new planA) mark₁ (doubted 101 1) (nines 3) ⟹ gives 101 1399 0 0 0 leaving record₁)
+    ∷ (measure oblong (old planA) mark₁ (doubted 250 1) record₁ ⟹ only 8 leaving record₁)
+    ∷ (measure oblong (new planA) mark₁ (doubted 250 1) record₁ ⟹ gives 250 1250 0 0 0 leaving record₁)
+    ∷ (read oblong (old planA) mark₁ (doubted 251 1) (nines 3) ⟹ only 8 leaving nines 3)
+    ∷ (read oblong (new planA) mark₁ (doubted 251 1) (nines 3) ⟹ only 8 leaving nines 3)
+    ∷ (read oblong (old planA) (hidden 1) (doubted 250 1) (nines 3) ⟹ only 8 leaving nines 3)
+    ∷ (read oblong (new planA) (hidden 1) (doubted 250 1) (nines 3) ⟹ gives 250 1250 0 1 0 leaving record₁)
+    ∷ (measure oblong (old planA) photoD (sure 9) record₁ ⟹ gives 600 0 3 0 1 leaving record₁)
+    ∷ (measure oblong (new planA) photoD (sure 9) record₁ ⟹ gives 1500 0 3 0 1 leaving record₁)
+    ∷ (read oblong (new planA) (hidden 1) (doubted 249 1) (nines 3) ⟹ only 8 leaving nines 3)
+    ∷ (read oblong (new planA) (hidden 1) (doubted 251 1) (nines 3) ⟹ only 8 leaving nines 3)
+    ∷ (read oblong (inSeason 255 255 planA) (hidden 5) (doubted 250 5) (nines 3) ⟹ gives 1250 250 0 5 0 leaving record₁)
+    ∷ (read oblong (inSeason 1 0 planA) (hidden 1) (doubted 250 1) (nines 3) ⟹ gives 250 1250 0 1 0 leaving record₁)
+    ∷ (read oblong (inSeason 30 0 planA) (hidden 1) (doubted 250 1) (nines 3) ⟹ gives 250 1250 0 1 0 leaving record₁)
+    ∷ (read oblong (new planWide) (set markWide 5 4) (249 ∷ sure 5) (nines 3) ⟹ gives 749 1 1 0 1 leaving record₁)
+    ∷ (read oblong (new planTall) (set markTall 1 4) (set (sure 6) 4 250) (nines 3) ⟹ only 10 leaving nines 3)
+    ∷ (read strip (new planA) (4 ∷ 5 ∷ 255 ∷ []) (0 ∷ 0 ∷ 250 ∷ []) (nines 2) ⟹ gives 250 250 0 1 0 leaving 3 ∷ 1 ∷ [])
+    ∷ (read strip (new planA) (4 ∷ 5 ∷ 255 ∷ []) (0 ∷ 0 ∷ 100 ∷ []) (nines 2) ⟹ only 8 leaving nines 2)
+    ∷ (measure strip (new planA) (4 ∷ 5 ∷ 1 ∷ []) (sure 3) (3 ∷ 1 ∷ []) ⟹ gives 500 0 1 0 1 leaving 3 ∷ 1 ∷ [])
+    ∷ (explain oblong (new planA) photoD (1 ∷ 1 ∷ 1 ∷ sure 6) record₁ (nines 3) ⟹ tells 0 1 0 0 beside nines 3)  -- e
+    ∷ (explain oblong (new planH) (1 ∷ []) (250 ∷ []) (1 ∷ []) (nines 1) ⟹ tells 0 3 0 0 beside nines 1)  -- i
+    ∷ (explain oblong (new planA) photoD (sure 9) (1 ∷ 0 ∷ 0 ∷ []) (nines 3) ⟹ tells 0 3 0 2500 beside nines 3)
+    ∷ (explain oblong (new planA) mark₁ (doubted 250 5) (2 ∷ 2 ∷ 2 ∷ []) (nines 3) ⟹ tells 0 2 3 0 beside record₁)
+    ∷ (explain strip (new planA) (4 ∷ 5 ∷ 0 ∷ []) (251 ∷ 0 ∷ 0 ∷ []) (3 ∷ 1 ∷ []) (nines 2) ⟹ tells 8 0 0 0 beside nines 2)
     ∷ []
 
 -- explaining: case c, its record expected, and records whose marks first differ from it in the second row, in the second column,

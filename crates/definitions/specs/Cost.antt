@@ -1,12 +1,14 @@
 -- "Photographed mark and cost": what is said of a record that is measured against a photograph. Its cost is `cost` of the crate
--- `distance` (specs/Cost.antt), with the full doubt 100; an unread cell is an erasure.
+-- `distance` (specs/Cost.antt), with the full doubt of the plan's season; an unread cell is an erasure.
 --
---   full, unread           the full doubt of a photograph, and the symbol of an unread cell
+--   fullIn y               the full doubt in season y: doubts are in 250ths from season 30 on, before it in 100ths
+--   full P                 the full doubt of a photograph under the plan P
+--   unread                 the symbol of an unread cell
 --   changedCell s v        1 for a cell that was read and whose symbol s is not the value v
 --   unreadCell s           1 for a cell that was not read
 --   changed n s v          how many of n cells were read and have another symbol than the value
 --   unreadCells n s        how many of n cells were not read
---   radius f C P           R, the full doubt f times the distance of the code (crate `polynomial`, specs/Sides.antt)
+--   radius C P             R, the full doubt times the distance of the code (crate `polynomial`, specs/Sides.antt)
 --   margin R D             the signed number R - D
 --   class n                by changed count: 0; 1 to 3; 4 to 15; 16 and more
 --
@@ -19,11 +21,14 @@ use lib.IntN.{ℤ, pos, _-ℤ_}
 use Rattle.bounded.specs.Bounded.{sum}
 use Rattle.distance.specs.Cost.{differ}
 use Rattle.polynomial.specs.Sides.{distance}
-use Rattle.definitions.specs.Plan.{side, degree}
+use Rattle.definitions.specs.Plan.{season, side, degree}
 use Rattle.definitions.specs.Code.{Code, more}
 
-abbrev pub full : ℕ
-full = 100
+abbrev pub fullIn : ℕ → ℕ
+fullIn y = cond (ltb y 30) 100 250
+
+unfoldable pub full : List ℕ → ℕ
+full P = fullIn (season P)
 
 abbrev pub unread : ℕ
 unread = 255
@@ -40,8 +45,8 @@ changed n s v = sum n λ c. changedCell (s c) (v c)
 abbrev pub unreadCells : (n : ℕ) (s : ℕ → ℕ) → ℕ
 unreadCells n s = sum n λ c. unreadCell (s c)
 
-abbrev pub radius : ℕ → Code → List ℕ → ℕ
-radius f C P = f * distance (more C) (side P) (degree P)
+abbrev pub radius : Code → List ℕ → ℕ
+radius C P = full P * distance (more C) (side P) (degree P)
 
 unfoldable pub margin : (R D : ℕ) → ℤ
 margin R D = pos R -ℤ pos D

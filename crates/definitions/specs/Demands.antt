@@ -9,19 +9,19 @@
 --   WrittenExactly C P F B  under a sound plan writing gives 6 where a length is wrong, else 9 where F is no record of the plan
 --   TakenExactly C P s u F  under a sound plan measuring and reading give 6 where a length is wrong, else 7 where a symbol is
 --                           (`SymbolsFit`), else 8 where a doubt is (`DoubtsFit`); else measuring gives 9 where F is no record
---   Shapes P                a strip has a cell for each row point and d + 1 coefficients, and its limit is 100 (rows - d); a mark
---                           has rows times columns cells and K = (d + 1)(d + 2)/2 coefficients, and its limit is 100 times the
---                           larger side times (the smaller - d)
+--   Shapes P                a strip has a cell for each row point and d + 1 coefficients, a mark rows times columns cells and
+--                           K = (d + 1)(d + 2)/2 coefficients
 --   Written C P F b         demand 2: in b each cell has the value, modulo p, of the polynomial of F at its row and column
 --                           points, or of a strip at its row point
 --   RoundTrip C P F B B′    demand 2: reading what was written of F into B, with all doubts 0, gives F into B′ at cost 0, with
 --                           the whole limit as the margin; so does measuring
---   Weighed C P s u F r     demand 2: the reading r of the record F has as its cost 200 times the published distance, and as its
---                           margin the limit less the cost
+--   Weighed f k C P s u F r demand 2: the reading r of the record F has as its cost k times the published distance, a doubt over
+--                           f being an uncertainty, and as its margin the limit less the cost
 --   Nearest C P s u B       demand 3: at most one record of the plan costs under the limit, the reading is that one with its
---                           cost, and it is 10 exactly when there is none. The limit is the radius, `Shapes`
---   UnreadCosts C P s u F   an unread cell costs 100
---   MarkMargins             a mark's margin is from -49,600 to 25,600, and both ends are reached
+--                           cost, and it is 10 exactly when there is none. The limit is the radius
+--   InScale f k P           refusal 8 and demands 2 and 3 under the plan P, in the numbers of its season: f is the full doubt, and
+--                           k what a wrong cell costs that is in no doubt. Costs and limits are spelled out
+--   MarkMargins Y low high  under plans of the seasons Y a mark's margin is from -low to high, and both ends are reached
 --   LowestGiven             the number that is given is the first in the table's order of the rows of the call whose test holds;
 --                           in widening 11 stands before 6: the plans are looked at before the buffer for them. What the tests
 --                           of the rows mean is in the statements that end in Exactly
@@ -61,10 +61,11 @@
 -- Signed numbers are the kit's (lib.IntN, lib.Signed): pos n is n, negℤ (pos n) is -n, ≤ℤ their order.
 -- What this file is for: the sentences that a user relies on, each as one statement whose parts are named.
 use mathlib.Core.Path.{_≡_}
-use mathlib.Core.Bool.{true, false}
+use mathlib.Core.Bool.{true, false, cond}
 use mathlib.Core.List.{List, [], _∷_, _++_}
 use mathlib.Core.Logic.{_≢_, _↔_, _⊎_}
 use Prim.Native.Nat.{ℕ, _+_, _*_, _-_, _/_, _%_, _^_, _≤_, _<_, min, max}
+use lib.Dec.{eqb}
 use lib.IntN.{ℤ, pos, negℤ, _-ℤ_}
 use lib.Signed.{_≤ℤ_}
 use lib.ListN.{length, take, drop}
@@ -80,8 +81,7 @@ use Rattle.definitions.specs.Plan.{filled, planRows, checkNumber}
 use Rattle.definitions.specs.Code.{Code, strip, oblong, size, cells, value, mark, IsRecord}
 use Rattle.polynomial.specs.Layout.{value as valueAt}
 use Rattle.polynomial.specs.Record.{start, valueX, valueXY}
-use Rattle.definitions.specs.Cost.{full, unread, radius}
-use Rattle.distance.specs.Cost.{cell}
+use Rattle.definitions.specs.Cost.{full, radius}
 use Rattle.definitions.specs.Published.{Fraction, _over_, FromZeroToOne, _is_times_, distance, weighted}
 use Rattle.definitions.specs.Calls as calls
 use Rattle.definitions.specs.Calls.{costOf, readingOf, writeRows, writeNumber, writeBuffer}
@@ -89,7 +89,7 @@ use Rattle.definitions.specs.Calls.{measureRows, measureNumber, measureR
 use Rattle.definitions.specs.Calls.{readRows, readNumber, readReading, readBuffer}
 use Rattle.definitions.specs.Explaining.{explainRows, explainNumber, explainReason, explainBuffer, valuesOf}
 use Rattle.definitions.specs.Finder.{findRows, findNumber, findOffset, findBytes}
-use Rattle.definitions.specs.Photograph.{Photograph, sure}
+use Rattle.definitions.specs.Photograph.{SymbolsFit, DoubtsFit, Photograph, sure}
 use Rattle.definitions.specs.Widening.{widened, widenedAll, widenRows, widenNumber, widenBuffer}
 use Rattle.definitions.specs.Widening.{widenText, narrowNumber, cleared}
 use Rattle.definitions.specs.Tray.{planOf, symbolsOf, doubtsOf}
@@ -134,12 +134,6 @@ pub record PlanFirst (P : List ℕ) : Type 0 where
 abbrev pub LengthsFit : Code → (P s u F : List ℕ) → Type 0
 LengthsFit C P s u F = (length s ≡ cells C P) × ((length u ≡ cells C P) × (length F ≡ size C P))
 
-abbrev pub SymbolsFit : Code → (P s : List ℕ) → Type 0
-SymbolsFit C P s = (c : ℕ) → c < cells C P → (at s c < modulus P) ⊎ (at s c ≡ 255)
-
-abbrev pub DoubtsFit : Code → (P s u : List ℕ) → Type 0
-DoubtsFit C P s u = (c : ℕ) → c < cells C P → (at u c ≤ 100) × (at s c ≡ 255 → at u c ≡ 100)
-
 -- under a sound plan; each where no row before it is broken
 pub record WrittenExactly (C : Code) (P F B : List ℕ) : Type 0 where
   pub six : ¬ ((length F ≡ size C P) × (length B ≡ cells C P)) → writeNumber C P F B ≡ 6
@@ -148,7 +142,7 @@ pub record WrittenExactly (C : Code) (P F B : List ℕ) : Type 0 where
 pub record TakenExactly (C : Code) (P s u F : List ℕ) : Type 0 where
   pub six : ¬ (LengthsFit C P s u F) → (measureNumber C P s u F ≡ 6) × (readNumber C P s u F ≡ 6)
   pub seven : LengthsFit C P s u F → ¬ (SymbolsFit C P s) → (measureNumber C P s u F ≡ 7) × (readNumber C P s u F ≡ 7)
-  pub eight : LengthsFit C P s u F → SymbolsFit C P s → ¬ (DoubtsFit C P s u) →
+  pub eight : LengthsFit C P s u F → SymbolsFit C P s → ¬ (DoubtsFit (full P) C P s u) →
       (measureNumber C P s u F ≡ 8) × (readNumber C P s u F ≡ 8)
   pub nine : Photograph C P s u → length F ≡ size C P → ¬ (IsRecord C P F) → measureNumber C P s u F ≡ 9
 
@@ -159,10 +153,8 @@ places d = (d + 1) * (d + 2) / 2
 pub record Shapes (P : List ℕ) : Type 0 where
   pub stripCells : cells strip P ≡ rows P
   pub stripSize : size strip P ≡ degree P + 1
-  pub stripLimit : radius full strip P ≡ 100 * (rows P - degree P)
   pub markCells : cells oblong P ≡ rows P * columns P
   pub markSize : size oblong P ≡ places (degree P)
-  pub markLimit : radius full oblong P ≡ 100 * (max (rows P) (columns P) * (min (rows P) (columns P) - degree P))
 
 abbrev pub Written : Code → (P F b : List ℕ) → Type 0
 Written strip P F b = (length b ≡ rows P) × ((i : ℕ) → i < rows P → at b i ≡ valueX (modulus P) (degree P) F (rowPoint P i))
@@ -171,7 +163,7 @@ Written oblong P F b = (length b ≡ rows P * columns P) × ((i j : ℕ) → i <
 
 -- what is said of a record whose mark was read as it was written
 abbrev pub clean : Code → List ℕ → Reading
-clean C P = record { number = 0; cost = 0; margin = pos (radius full C P); changed = 0; unread = 0; class = 0 }
+clean C P = record { number = 0; cost = 0; margin = pos (radius C P); changed = 0; unread = 0; class = 0 }
 
 pub record RoundTrip (C : Code) (P F B B′ : List ℕ) : Type 0 where
   pub reading : readReading C P (writeBuffer C P F B) (sure (cells C P)) B′ ≡ clean C P
@@ -179,48 +171,69 @@ pub record RoundTrip (C : Code) (P F B B′ : List ℕ) : Type 0 where
   pub measured : measureReading C P (writeBuffer C P F B) (sure (cells C P)) F ≡ clean C P
 
 -- the published distance of a photograph from the mark of the record F
-abbrev pub published : Code → (P s u F : List ℕ) → Fraction
-published C P s u F = distance (cells C P) (weighted full (at s) (at u)) (value C P F)
+abbrev pub published : (f : ℕ) → Code → (P s u F : List ℕ) → Fraction
+published f C P s u F = distance (cells C P) (weighted f (at s) (at u)) (value C P F)
 
-pub record Weighed (C : Code) (P s u F : List ℕ) (r : Reading) : Type 0 where
-  -- each doubt over 100 is from 0 to 1, as the published distance asks of an uncertainty
-  pub uncertain : (c : ℕ) → c < cells C P → FromZeroToOne (at u c over full)
-  pub cost : r .cost is 200 times published C P s u F
-  pub margin : r .margin ≡ pos (radius full C P) -ℤ pos (r .cost)
+pub record Weighed (f k : ℕ) (C : Code) (P s u F : List ℕ) (r : Reading) : Type 0 where
+  -- each doubt over f is from 0 to 1, as the published distance asks of an uncertainty
+  pub uncertain : (c : ℕ) → c < cells C P → FromZeroToOne (at u c over f)
+  pub cost : r .cost is k times published f C P s u F
+  pub margin : r .margin ≡ pos (radius C P) -ℤ pos (r .cost)
 
 pub record Nearest (C : Code) (P s u B : List ℕ) : Type 0 where
   -- where a record costs under the limit, every other record of the plan costs the limit or more
   pub alone : (F G : List ℕ) → IsRecord C P F → IsRecord C P G → F ≢ G →
-      costOf C P s u F < radius full C P → radius full C P ≤ costOf C P s u G
+      costOf C P s u F < radius C P → radius C P ≤ costOf C P s u G
   -- the reader returns the one under the limit, with its cost
-  pub returned : (F : List ℕ) → IsRecord C P F → costOf C P s u F < radius full C P →
+  pub returned : (F : List ℕ) → IsRecord C P F → costOf C P s u F < radius C P →
       (readReading C P s u B ≡ readingOf C P s u F) × (readBuffer C P s u B ≡ F)
   -- it refuses with 10 exactly when no record costs under the limit
-  pub exactly : (readNumber C P s u B ≡ 10) ↔ ((F : List ℕ) → IsRecord C P F → radius full C P ≤ costOf C P s u F)
+  pub exactly : (readNumber C P s u B ≡ 10) ↔ ((F : List ℕ) → IsRecord C P F → radius C P ≤ costOf C P s u F)
   -- and then the lent buffer is as it was
-  pub refuses : ((F : List ℕ) → IsRecord C P F → radius full C P ≤ costOf C P s u F) →
+  pub refuses : ((F : List ℕ) → IsRecord C P F → radius C P ≤ costOf C P s u F) →
       (readReading C P s u B ≡ calls.refused 10) × (readBuffer C P s u B ≡ B)
 
-abbrev pub UnreadCosts : Code → (P s u F : List ℕ) → Type 0
-UnreadCosts C P s u F = (c : ℕ) → c < cells C P → at s c ≡ unread → cell full (at s c) (at u c) (value C P F c) ≡ 100
+-- what a cell with the symbol s and the doubt u costs a record with the value v
+abbrev pub cellCost : (k s u v : ℕ) → ℕ
+cellCost k s u v = cond (eqb s v) u (k - u)
 
-abbrev pub InRange : ℤ → Type 0
-InRange z = (negℤ (pos 49600) ≤ℤ z) × (z ≤ℤ pos 25600)
+pub record InScale (f k : ℕ) (P : List ℕ) : Type 0 where
+  -- a doubt is 0 to f, and exactly f where the cell is unread; else the number is 8
+  pub eight : (C : Code) (s u F : List ℕ) → LengthsFit C P s u F → SymbolsFit C P s → ¬ (DoubtsFit f C P s u) →
+      (measureNumber C P s u F ≡ 8) × (readNumber C P s u F ≡ 8)
+  -- a cell costs its doubt where its symbol is the record's value, else k less its doubt; and an unread one f
+  pub cost : (C : Code) (s u F : List ℕ) → costOf C P s u F ≡ sum (cells C P) λ c. cellCost k (at s c) (at u c) (value C P F c)
+  pub unread : (C : Code) (s u F : List ℕ) → DoubtsFit f C P s u → (c : ℕ) → c < cells C P → at s c ≡ 255 →
+      cellCost k (at s c) (at u c) (value C P F c) ≡ f
+  -- the limits
+  pub stripLimit : radius strip P ≡ f * (rows P - degree P)
+  pub markLimit : radius oblong P ≡ f * (max (rows P) (columns P) * (min (rows P) (columns P) - degree P))
+  -- demand 2
+  pub written : (C : Code) (F B B′ : List ℕ) → writeNumber C P F B ≡ 0 → length B′ ≡ size C P → RoundTrip C P F B B′
+  pub measured : (C : Code) (s u F : List ℕ) → measureNumber C P s u F ≡ 0 → Weighed f k C P s u F (measureReading C P s u F)
+  pub read : (C : Code) (s u B : List ℕ) → readNumber C P s u B ≡ 0 →
+      Weighed f k C P s u (readBuffer C P s u B) (readReading C P s u B)
+  -- demand 3
+  pub nearest : (C : Code) (s u B : List ℕ) → LengthsFit C P s u B → SymbolsFit C P s → DoubtsFit f C P s u → Nearest C P s u B
 
--- some record, measured against some mark, has the margin z
-pub record Reached (z : ℤ) : Type 0 where
+abbrev pub InRange : (low high : ℕ) → ℤ → Type 0
+InRange low high z = (negℤ (pos low) ≤ℤ z) × (z ≤ℤ pos high)
+
+-- some record, measured against some mark under a plan of the seasons Y, has the margin z
+pub record Reached (Y : ℕ → Type 0) (z : ℤ) : Type 0 where
   pub P : List ℕ
+  pub of : Y (season P)
   pub s : List ℕ
   pub u : List ℕ
   pub F : List ℕ
   pub accepted : measureNumber oblong P s u F ≡ 0
   pub margin : measureReading oblong P s u F .margin ≡ z
 
-pub record MarkMargins : Type 0 where
-  pub measured : (P s u F : List ℕ) → InRange (measureReading oblong P s u F .margin)
-  pub read : (P s u B : List ℕ) → InRange (readReading oblong P s u B .margin)
-  pub lowest : Reached (negℤ (pos 49600))
-  pub highest : Reached (pos 25600)
+pub record MarkMargins (Y : ℕ → Type 0) (low high : ℕ) : Type 0 where
+  pub measured : (P s u F : List ℕ) → Y (season P) → InRange low high (measureReading oblong P s u F .margin)
+  pub read : (P s u B : List ℕ) → Y (season P) → InRange low high (readReading oblong P s u B .margin)
+  pub lowest : Reached Y (negℤ (pos low))
+  pub highest : Reached Y (pos high)
 
 pub record LowestGiven : Type 0 where
   pub check : (P : List ℕ) → Earliest table (planRows P) (checkNumber P)
@@ -250,7 +263,7 @@ pub record Handed : Type 0 where
 pub record Shown (C : Code) (P s u F b : List ℕ) (place : ℕ) : Type 0 where
   pub given : IsRecord C P b
   pub other : F ≢ b
-  pub near : costOf C P s u b < radius full C P
+  pub near : costOf C P s u b < radius C P
   pub inside : place < cells C P
   pub before : (c : ℕ) → c < place → at (mark C P F) c ≡ at (mark C P b) c
   pub differs : at (mark C P F) place ≢ at (mark C P b) place
@@ -259,14 +272,14 @@ pub record Explained (C : Code) (P s u F B : List ℕ) (told : Explanation) (b :
   pub number : told .number ≡ 0
   pub one : (told .reason ≡ 1) ⊎ ((told .reason ≡ 2) ⊎ (told .reason ≡ 3))
   -- it is the answer: the expected record costs under the limit
-  pub answer : (told .reason ≡ 1) ↔ (costOf C P s u F < radius full C P)
+  pub answer : (told .reason ≡ 1) ↔ (costOf C P s u F < radius C P)
   pub answered : told .reason ≡ 1 → (told .place ≡ 0) × (told .excess ≡ 0) × (b ≡ B)
   -- another record is
-  pub other : (told .reason ≡ 2) ↔ ((G : List ℕ) × IsRecord C P G × (F ≢ G) × (costOf C P s u G < radius full C P))
+  pub other : (told .reason ≡ 2) ↔ ((G : List ℕ) × IsRecord C P G × (F ≢ G) × (costOf C P s u G < radius C P))
   pub shown : told .reason ≡ 2 → Shown C P s u F b (told .place) × (told .excess ≡ 0)
   -- no record is
-  pub nothing : (told .reason ≡ 3) ↔ ((G : List ℕ) → IsRecord C P G → radius full C P ≤ costOf C P s u G)
-  pub beyond : told .reason ≡ 3 → (costOf C P s u F ≡ radius full C P + told .excess) × (told .place ≡ 0) × (b ≡ B)
+  pub nothing : (told .reason ≡ 3) ↔ ((G : List ℕ) → IsRecord C P G → radius C P ≤ costOf C P s u G)
+  pub beyond : told .reason ≡ 3 → (costOf C P s u F ≡ radius C P + told .excess) × (told .place ≡ 0) × (b ≡ B)
 
 -- a plan of the file begins at k * 40, and its season is in the first two bytes there
 pub record FoundExactly (file : List ℕ) (y : ℕ) : Type 0 where

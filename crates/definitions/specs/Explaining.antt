@@ -28,7 +28,7 @@ use Rattle.definitions.specs.Calls.{lengthRow, recordRow, photoTests, co
 
 unfoldable pub explainRows : Code → (P s u F B : List ℕ) → List Refusal
 explainRows C P s u F B = planRows P
-    ++ lengthRow B (size C P) ∷ photoTests (modulus P) full s u F (cells C P) (size C P) ++ recordRow C P F ∷ []
+    ++ lengthRow B (size C P) ∷ photoTests (modulus P) (full P) s u F (cells C P) (size C P) ++ recordRow C P F ∷ []
 
 unfoldable pub explainNumber : Code → (P s u F B : List ℕ) → ℕ
 explainNumber C P s u F B = first (explainRows C P s u F B)
@@ -41,7 +41,7 @@ differingPlace C P F G = index (cells C P) λ c. not (eqb (at (mark C P F) c) (a
 
 abbrev pub reasonFor : Code → (P s u F : List ℕ) → Option (List ℕ) → Reason
 reasonFor C P s u F (some G) = cond (different C P F G) (Other (differingPlace C P F G)) Answer
-reasonFor C P s u F none = Nothing (costOf C P s u F - radius full C P)
+reasonFor C P s u F none = Nothing (costOf C P s u F - radius C P)
 
 unfoldable pub explainReason : Code → (P s u F B : List ℕ) → Reason
 explainReason C P s u F B = accepted (explainNumber C P s u F B) (reasonFor C P s u F (nearest C P s u))

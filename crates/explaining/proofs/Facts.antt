@@ -38,8 +38,8 @@ module _ {C : Code} {P s u F B : List ℕ} (x : Expecting C P s u F B) where
   pub expecting-takes : Taken C P s u B
   expecting-takes = taken C P s u B (photo-accepted C P s u B (x .photo) (x .room))
 
-  pub excess-told : {D R : ℕ} {b : List ℕ} → D ≡ costOf C P s u F → R ≡ radius full C P →
-      Explains C P s u F B (Nothing (costOf C P s u F - radius full C P)) b → Explains C P s u F B (Nothing (D - R)) b
+  pub excess-told : {D R : ℕ} {b : List ℕ} → D ≡ costOf C P s u F → R ≡ radius C P →
+      Explains C P s u F B (Nothing (costOf C P s u F - radius C P)) b → Explains C P s u F B (Nothing (D - R)) b
   excess-told e r h = rw (e, r) h
 
 module _ (C : Code) (P F G : List ℕ) {a b : List ℕ} (e : a ≡ mark C P F) (h : b ≡ mark C P G) where

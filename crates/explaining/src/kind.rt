@@ -18,7 +18,7 @@ ghost use Rattle.reading.specs.Loading.{Taken};
 // R.
 pub fn radius(mark: bool, plan: Plan) -> u32
     requires { ⌜ Ready plan ⌝ }
-    ensures { λ r. ⌜ ((P : List ℕ) → Says P plan → r ≡ radiusOf full (codeOf mark) P) ⌝ }
+    ensures { λ r. ⌜ ((P : List ℕ) → Says P plan → r ≡ radiusOf (codeOf mark) P) ⌝ }
 {
     let g = plan.grid;
     if mark {

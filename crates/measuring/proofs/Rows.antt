@@ -50,12 +50,12 @@ measured-more {f} n r s u v a b = rw (add-one r, suc-mul r n) (record {
 
 pub strip-measured : {P s u : List ℕ} {plan : Plan} {v w : ℕ → ℕ} {D k : ℕ} → Photograph strip P s u → Says P plan →
     ((i : ℕ) → i < rows P → v i ≡ w i) → Measured (plan .grid .full) (length s) (at s) (at u) v D k →
-    Measured full (rows P) (at s) (at u) w D k
+    Measured (full P) (rows P) (at s) (at u) w D k
 strip-measured photo says e m = measured-eq (λ i l. refl) (λ i l. refl) e (rw (says .fields, photo .symbols) at m)
 
 pub mark-measured : {P : List ℕ} {plan : Plan} {s u : ℕ → ℕ} {D k : ℕ} → Says P plan → (F : List ℕ) →
     Measured (plan .grid .full) (plan .grid .a * plan .grid .b) s u
     (gridValue (plan .grid .p) (plan .grid .d) (plan .grid .b) (at (plan .grid .x)) (at (plan .grid .y)) F) D k →
-    Measured full (cells oblong P) s u (value oblong P F) D k
+    Measured (full P) (cells oblong P) s u (value oblong P F) D k
 mark-measured says F m =
     measured-eq (λ i l. refl) (λ i l. refl) (λ i l. rw (says .fields) at (mark-value says F i l)) (rw (says .fields) at m)

@@ -19,6 +19,7 @@ use Rattle.polynomial.specs.Eval.{Apart}
 use Rattle.definitions.specs.Plan.{modulus, side, point}
 use Rattle.definitions.specs.Sound.{Sound}
 use Rattle.definitions.proofs.Plan.{plan-side, plan-apart}
+use Rattle.definitions.proofs.Full.{full-most}
 use Rattle.plan.specs.declared.Plan.{Plan}
 use Rattle.plan.specs.Says.{said, Says, Ready}
 use Rattle.plan.proofs.Residues.{points-row}
@@ -48,9 +49,9 @@ module _ {P : List ℕ} (S : Sound P) where
       columnsApart = apart 1;
       low = omega (arith, S .low);
       narrow = omega (arith, S .low);
-      full = omega arith;
+      full = omega (arith, full-most P);
     };
-    byte = omega arith;
+    byte = omega (arith, full-most P);
   }
 
 pub ready : {P : List ℕ} {plan : Plan} → Says P plan → Ready plan

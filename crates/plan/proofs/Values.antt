@@ -73,10 +73,10 @@ module _ {P : List ℕ} {plan : Plan} (says : Says P plan) where
   mark-is F = rw (← mark-cells says) (tab-eq (rows P * columns P) (mark-value F))
 
   -- how far a record may be
-  pub mark-radius : {R : ℕ} → R ≡ g .full * gridDistance (g .a) (g .b) (g .d) → R ≡ radius full oblong P
+  pub mark-radius : {R : ℕ} → R ≡ g .full * gridDistance (g .a) (g .b) (g .d) → R ≡ radius oblong P
   mark-radius e = rw (says .fields) at e
 
-  pub strip-radius : {R : ℕ} → R ≡ g .full * 1 * (g .a - g .d) → R ≡ radius full strip P
+  pub strip-radius : {R : ℕ} → R ≡ g .full * 1 * (g .a - g .d) → R ≡ radius strip P
   strip-radius e = rw (says .fields) at e ∙ omega arith
 
   -- the values v of the polynomial with the coefficients w

@@ -26,7 +26,7 @@ said P m = record {
     y = row (columnPoint P);
     b = columns P;
     d = degree P;
-    full = full;
+    full = full P;
   };
 }
 

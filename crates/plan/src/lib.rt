@@ -1,6 +1,5 @@
 // The season plan, the 40 bytes of the first table: checking one, what a sound one says, finding one in a plan file. A plan may
 // be any bytes of any length. Its bytes are read here and nowhere else; everything above takes the struct that `parse` makes.
-use definitions::FULL;
 use definitions::PLAN_BYTES;
 use field::bytes;
 use field::rows::reciprocal;
@@ -12,6 +11,7 @@ ghost use denote.Ref.{ptr};
 ghost use lib.Dec.{ltb, leb};
 ghost use lib.ListN.{length};
 ghost use Rattle.definitions.specs.Plan.{planBytes, unfit, misplaced, checkNumber};
+ghost use Rattle.definitions.specs.Cost.{fullIn};
 ghost use Rattle.definitions.specs.Sound.{Sound};
 ghost use Rattle.definitions.specs.Finder.{findNumber, findOffset, findBytes, addressAt};
 ghost use Rattle.plan.specs.Says.{Says};
@@ -115,6 +115,7 @@ pub fn parse(plan: &[u8]) -> Plan
     requires { ⌜ Sound (now plan) ⌝ }
     ensures { λ r. ⌜ Says (now (plan .entry)) r ⌝ }
 {
+    let season = season_of(plan[0], plan[1]);
     let p = plan[2] as u16;
     let grid = Grid {
         p,
@@ -124,12 +125,9 @@ pub fn parse(plan: &[u8]) -> Plan
         y: bytes::row(&plan[22..38]),
         b: plan[4] as usize,
         d: plan[5] as usize,
-        full: FULL,
+        full: full_doubt(season),
     };
-    Plan {
-        season: season_of(plan[0], plan[1]),
-        grid,
-    }
+    Plan { season, grid }
 }
 
 // A season's two bytes, the high one first.
@@ -137,6 +135,16 @@ fn season_of(high: u8, low: u8) -> u16
     ensures { λ r. ⌜ r ≡ high * 256 + low ⌝ }
 {
     high as u16 * 256 + low as u16
+}
+
+// The full doubt of a season, which is the doubt of a cell of which nothing is known: the newer cameras report finer doubts.
+fn full_doubt(season: u16) -> u32
+    ensures { λ r. ⌜ r ≡ fullIn season ⌝ }
+{
+    if season < 30 {
+        return 100;
+    }
+    250
 }
 
 // Where the first record of the season begins in the plan file: answers 0 and sets the offset, a multiple of 40. Refusals: 11 for

@@ -28,6 +28,6 @@ pub doubts-refuse : {P s u B : List ℕ} {plan : Plan} {R : ℕ} → Says P plan
 doubts-refuse {P} {s} {u} {B} says t e h = reads-none oblong P s u B (t .clear) λ F f. cost-without oblong P s u F λ l. omega (
   arith,
   mark-radius says e,
-  doubts-cost full (rows P * columns P) (at s) (at u) (value oblong P F) (t .photo .doubt),
+  doubts-cost (full P) (rows P * columns P) (at s) (at u) (value oblong P F) (λ c l. t .photo .doubt c l .0),
   rw (t .photo .doubts) at h,
 )

@@ -15,7 +15,7 @@ use lib.Dec.{eqb}
 use borrow.Author.Tests.{eqb-true, eqb-false}
 use Rattle.definitions.specs.Refusals.{first}
 use Rattle.definitions.specs.Code.{Code}
-use Rattle.definitions.specs.Cost.{full, unread}
+use Rattle.definitions.specs.Cost.{unread}
 use Rattle.definitions.specs.Calls.{photoRows}
 use Rattle.definitions.proofs.Photograph.{accepted-photo, accepted-buffer}
 use Rattle.distance.specs.Loaded.{Loaded}
@@ -38,9 +38,9 @@ residue-below {p} {v} z h = go (eqb v unread) refl h
     go false e (inl l) = l
     go false e (inr q) = absurd (eqb-false v unread e q)
 
-pub residue-loaded : (v u : ℕ) → (v ≡ unread → u ≡ full) → Loaded full v u (residue v) u
-residue-loaded v u h = record { doubt = refl; symbol = go (eqb v unread) refl }
+pub residue-loaded : {f : ℕ} (v u : ℕ) → (v ≡ unread → u ≡ f) → Loaded f v u (residue v) u
+residue-loaded {f} v u h = record { doubt = refl; symbol = go (eqb v unread) refl }
   where
-    go : (b : Bool) → eqb v unread ≡ b → (cond b 0 v ≡ v) ⊎ (u ≡ full)
+    go : (b : Bool) → eqb v unread ≡ b → (cond b 0 v ≡ v) ⊎ (u ≡ f)
     go true e = inr (h (eqb-true v unread e))
     go false e = inl refl

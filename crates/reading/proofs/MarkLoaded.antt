@@ -106,29 +106,29 @@ module _ {P s u B : List ℕ} {left u′ : List (List ℕ)} (t : Taken oblong P 
       ∙ row-at (gridCell (columns P) u r) c (omega (arith, t .photo .sound .wide .most))
       ∙ cell-at (columns P) u r c m
 
-  loaded : LoadedGrid full (rows P) (columns P) s u (cellAt left) (cellAt u′)
+  loaded : LoadedGrid (full P) (rows P) (columns P) s u (cellAt left) (cellAt u′)
   loaded r c l m =
       let i = r * columns P + c in
-      rw (symbol-at t es r c l m, doubt-at r c l m) (residue-loaded (at s i) (at u i) (t .photo .erased i (inside t es r c l m)))
+      rw (symbol-at t es r c l m, doubt-at r c l m) (residue-loaded (at s i) (at u i) (t .photo .doubt i (inside t es r c l m) .1))
 
-  doubts-most : (r c : ℕ) → r < rows P → c < columns P → cellAt u′ r c ≤ full
-  doubts-most r c l m = rw (doubt-at r c l m) (t .photo .doubt (r * columns P + c) (inside t es r c l m))
+  doubts-most : (r c : ℕ) → r < rows P → c < columns P → cellAt u′ r c ≤ full P
+  doubts-most r c l m = rw (doubt-at r c l m) (t .photo .doubt (r * columns P + c) (inside t es r c l m) .0)
 
   -- what the decoder answers, and what it leaves
   module _ {m g : ℕ} {after : List (List ℕ)} {w : List ℕ}
       (D : Outcome (said P m .grid) left u′ after (under (said P m .grid) g) w g) where
-    limit-is : gridRadius (said P m .grid) ≡ radius full oblong P
+    limit-is : gridRadius (said P m .grid) ≡ radius oblong P
     limit-is = refl
 
-    refused-said : radius full oblong P ≤ g → Reads oblong P s u B (refused 10) B
+    refused-said : radius oblong P ≤ g → Reads oblong P s u B (refused 10) B
     refused-said h = mark-none P s u B (t .clear) (points 0) (points 1) loaded w (D .decoded)
         (le-ltb g _ (omega (arith, limit-is)))
 
-    found : g < radius full oblong P → under (said P m .grid) g ≡ true
+    found : g < radius oblong P → under (said P m .grid) g ≡ true
     found h = lt-ltb g _ (omega (arith, limit-is))
 
     -- the message fits into bytes
-    small-said : g < radius full oblong P → (j : ℕ) → j < length B → at w j < 256
+    small-said : g < radius oblong P → (j : ℕ) → j < length B → at w j < 256
     small-said h j l =
         let z = found h in
         let k : j < size oblong P = omega (arith, t .room) in
@@ -138,7 +138,7 @@ module _ {P s u B : List ℕ} {left u′ : List (List ℕ)} (t : Taken oblong P 
         (tab-at n (at w)) in
         omega (arith, F .below j k, tab-at (size oblong P) (at w) j k, t .photo .sound .small)
 
-    module _ (h : g < radius full oblong P) {W : List ℕ} (stored : W ≡ tab (length B) (at w)) where
+    module _ (h : g < radius oblong P) {W : List ℕ} (stored : W ≡ tab (length B) (at w)) where
       word-length : length W ≡ size oblong P
       word-length = rw stored (length-tab (length B) (at w)) ∙ t .room
 
@@ -179,7 +179,7 @@ module _ {P s u B : List ℕ} {left u′ : List (List ℕ)} (t : Taken oblong P 
           ∙ sum-eq (rows P) λ r l. sum-eq (columns P) λ c m. sym (cell-differs r c l m))
 
       reading-said : {k : ℕ} → k ≡ differingCells (rows P) (columns P) s after →
-          (unreadIn s ≤ k) × Reads oblong P s u B (summary (radius full oblong P) g k s) W
+          (unreadIn s ≤ k) × Reads oblong P s u B (summary (radius oblong P) g k s) W
       reading-said e =
           let z = found h in
           let paid = mark-cost P s u B (t .clear) (points 0) (points 1) loaded w (D .decoded) z W word-length word-at in

@@ -61,16 +61,16 @@ grid-same q f a b d {x} {x′} {y} {y′} s u {s′} {u′} {g} {h} ex ey L e = 
 module _ {P : List ℕ} (S : Sound P) where
   -- the cost of a record is that of its polynomial, against the cells as they are loaded; h has the record's coefficients
   record-cost : (s u : List ℕ) (x y : ℕ → ℕ) (s′ u′ : ℕ → ℕ → ℕ) → ((i : ℕ) → i < rows P → x i ≡ rowPoint P i) →
-      ((j : ℕ) → j < columns P → y j ≡ columnPoint P j) → LoadedGrid full (rows P) (columns P) s u s′ u′ →
+      ((j : ℕ) → j < columns P → y j ≡ columnPoint P j) → LoadedGrid (full P) (rows P) (columns P) s u s′ u′ →
       (F : List ℕ) (h : ℕ → ℕ → ℕ) → ((t i : ℕ) → i + t ≤ degree P → coef F i t ≡ h i t) →
-      costOf oblong P s u F ≡ gridCost (modulus P - 1) full (rows P) (columns P) (degree P) x y u′ s′ h
+      costOf oblong P s u F ≡ gridCost (modulus P - 1) (full P) (rows P) (columns P) (degree P) x y u′ s′ h
   record-cost s u x y s′ u′ ex ey loaded F h e =
       sum-eq (rows P * columns P)
-      (λ c _. ap (cell full (at s c) (at u c)) (value-cell (modulus P) (degree P) F (side P) (point P) c))
-      ∙ ap (λ p. cost full (rows P * columns P) (at s) (at u) (gridValue p (degree P) (columns P) (rowPoint P) (columnPoint P) F))
+      (λ c _. ap (cell (full P) (at s c) (at u c)) (value-cell (modulus P) (degree P) F (side P) (point P) c))
+      ∙ ap (λ p. cost (full P) (rows P * columns P) (at s) (at u) (gridValue p (degree P) (columns P) (rowPoint P) (columnPoint P) F))
       (sym (plan-modulus S))
-      ∙ flat-cost (modulus P - 1) full (rows P) (columns P) (degree P) (rowPoint P) (columnPoint P) s u F
-      ∙ grid-same (modulus P - 1) full (rows P) (columns P) (degree P) s u ex ey loaded e
+      ∙ flat-cost (modulus P - 1) (full P) (rows P) (columns P) (degree P) (rowPoint P) (columnPoint P) s u F
+      ∙ grid-same (modulus P - 1) (full P) (rows P) (columns P) (degree P) s u ex ey loaded e
 
   -- coefficients below p make a record
   pub coefficients-record : (F : List ℕ) → length F ≡ size oblong P →
@@ -85,8 +85,8 @@ module _ {P : List ℕ} (S : Sound P) where
 -- the answer of a mark decoder to the points and cells that it has loaded; the message is m
 module _ (P s u B : List ℕ) (clear : first (photoRows oblong P s u B) ≡ 0) {x y : ℕ → ℕ} {s′ u′ : ℕ → ℕ → ℕ}
     (ex : (i : ℕ) → i < rows P → x i ≡ rowPoint P i) (ey : (j : ℕ) → j < columns P → y j ≡ columnPoint P j)
-    (loaded : LoadedGrid full (rows P) (columns P) s u s′ u′) (m : List ℕ)
-    {found : Bool} {g : ℕ} (D : Decoded (modulus P - 1) full (rows P) (columns P) (degree P) x y s′ u′ found (coef m) g) where
+    (loaded : LoadedGrid (full P) (rows P) (columns P) s u s′ u′) (m : List ℕ)
+    {found : Bool} {g : ℕ} (D : Decoded (modulus P - 1) (full P) (rows P) (columns P) (degree P) x y s′ u′ found (coef m) g) where
   photo : Photograph oblong P s u
   photo = accepted-photo oblong P s u B clear
 
@@ -94,7 +94,7 @@ module _ (P s u B : List ℕ) (clear : first (photoRows oblong P s u B) ≡ 0) {
   S = photo .sound
 
   cost-of : (F : List ℕ) (h : ℕ → ℕ → ℕ) → ((t i : ℕ) → i + t ≤ degree P → coef F i t ≡ h i t) →
-      costOf oblong P s u F ≡ gridCost (modulus P - 1) full (rows P) (columns P) (degree P) x y u′ s′ h
+      costOf oblong P s u F ≡ gridCost (modulus P - 1) (full P) (rows P) (columns P) (degree P) x y u′ s′ h
   cost-of F h e = record-cost S s u x y s′ u′ ex ey loaded F h e
 
   pub mark-none : found ≡ false → Reads oblong P s u B (refused 10) B

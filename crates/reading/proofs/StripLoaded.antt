@@ -86,12 +86,12 @@ module _ {P s u B s′ u′ : List ℕ} (t : Taken strip P s u B) (es : s′ ≡
       full = omega (arith, h .full);
     };
     symbols = rw (says .fields) (row-of positive symbols-length symbols-below);
-    doubts = rw (says .fields) λ j l. rw (doubt-at j (omega (arith, t .photo .sound .tall .most))) (t .photo .doubt j l);
+    doubts = rw (says .fields) λ j l. rw (doubt-at j (omega (arith, t .photo .sound .tall .most))) (t .photo .doubt j l .0);
   }
 
-  loaded : (c : ℕ) → c < rows P → Loaded full (at s c) (at u c) (at s′ c) (at u′ c)
+  loaded : (c : ℕ) → c < rows P → Loaded (full P) (at s c) (at u c) (at s′ c) (at u′ c)
   loaded c l = let k : c < 16 = omega (arith, t .photo .sound .tall .most) in
-      rw (symbol-at c k, doubt-at c k) (residue-loaded (at s c) (at u c) (t .photo .erased c l))
+      rw (symbol-at c k, doubt-at c k) (residue-loaded (at s c) (at u c) (t .photo .doubt c l .1))
 
   module _ {m : ℕ} {r : Decoded} (D : StripDecoded (axisOf (said P m .grid)) s′ u′ r) where
     refused-said : r .found ≡ false → Reads strip P s u B (refused 10) B
@@ -125,7 +125,7 @@ module _ {P s u B s′ u′ : List ℕ} (t : Taken strip P s u B) (es : s′ ≡
           ap₂ (λ a b. cond (eqb a b) 0 1) (rw e (row-at (at s) c (omega (arith, t .photo .sound .tall .most)))) (value-at c l)
 
       reading-said : {seen : List ℕ} {n : ℕ} → seen ≡ row (at s) → n ≡ hamming (rows P) (at seen) (at (r .values)) →
-          (unreadIn s ≤ n) × Reads strip P s u B (summary (radius full strip P) (r .cost) n s) W
+          (unreadIn s ≤ n) × Reads strip P s u B (summary (radius strip P) (r .cost) n s) W
       reading-said e i =
           let points = point-at (t .photo .sound) 0 in
           let paid = strip-cost P s u B (t .clear) points loaded (D .strip) z W word word-at in

@@ -39,9 +39,9 @@ use Rattle.reed_solomon.specs.Strip.{Strip}
 module _ {P : List ℕ} (S : Sound P) where
   -- the cost of a record is that of its polynomial, against the cells as they are loaded
   record-cost : (s u : List ℕ) (x s′ u′ : ℕ → ℕ) → ((i : ℕ) → i < rows P → x i ≡ rowPoint P i) →
-      ((c : ℕ) → c < rows P → Loaded full (at s c) (at u c) (s′ c) (u′ c)) →
-      (F : List ℕ) → costOf strip P s u F ≡ cost full (rows P) s′ u′ (values (modulus P - 1) (suc (degree P)) (at F) x)
-  record-cost s u x s′ u′ points loaded F = sum-eq (rows P) (λ c l. ap (cell full (at s c) (at u c)) (there c l))
+      ((c : ℕ) → c < rows P → Loaded (full P) (at s c) (at u c) (s′ c) (u′ c)) →
+      (F : List ℕ) → costOf strip P s u F ≡ cost (full P) (rows P) s′ u′ (values (modulus P - 1) (suc (degree P)) (at F) x)
+  record-cost s u x s′ u′ points loaded F = sum-eq (rows P) (λ c l. ap (cell (full P) (at s c) (at u c)) (there c l))
       ∙ cost-loaded (values (modulus P - 1) (suc (degree P)) (at F) x) loaded
     where
       there : (c : ℕ) → c < rows P →
@@ -53,12 +53,12 @@ module _ {P : List ℕ} (S : Sound P) where
 -- the answer of a strip reader to the points and cells that it has loaded
 module _ (P s u B : List ℕ) (clear : first (photoRows strip P s u B) ≡ 0) {x s′ u′ : ℕ → ℕ}
     (points : (i : ℕ) → i < rows P → x i ≡ rowPoint P i)
-    (loaded : (c : ℕ) → c < rows P → Loaded full (at s c) (at u c) (s′ c) (u′ c)) {found : Bool} {w : ℕ → ℕ} {g : ℕ}
-    (A : Strip (modulus P - 1) full (rows P) (degree P) x s′ u′ found w g) where
+    (loaded : (c : ℕ) → c < rows P → Loaded (full P) (at s c) (at u c) (s′ c) (u′ c)) {found : Bool} {w : ℕ → ℕ} {g : ℕ}
+    (A : Strip (modulus P - 1) (full P) (rows P) (degree P) x s′ u′ found w g) where
   photo : Photograph strip P s u
   photo = accepted-photo strip P s u B clear
 
-  cost-of : (F : List ℕ) → costOf strip P s u F ≡ cost full (rows P) s′ u′ (values (modulus P - 1) (suc (degree P)) (at F) x)
+  cost-of : (F : List ℕ) → costOf strip P s u F ≡ cost (full P) (rows P) s′ u′ (values (modulus P - 1) (suc (degree P)) (at F) x)
   cost-of F = record-cost (photo .sound) s u x s′ u′ points loaded F
 
   pub strip-none : found ≡ false → Reads strip P s u B (refused 10) B
@@ -70,7 +70,7 @@ module _ (P s u B : List ℕ) (clear : first (photoRows strip P s u B) ≡ 0) {x
       (coefficients : (i : ℕ) → i < size strip P → at W i ≡ w i) where
     pub strip-cost : g ≡ costOf strip P s u W
     strip-cost = A .sound z .0
-        ∙ cost-cong full (rows P) (degree P) x s′ u′ (λ i l. same (sym (coefficients i (omega (arith, strip-size P)))))
+        ∙ cost-cong (full P) (rows P) (degree P) x s′ u′ (λ i l. same (sym (coefficients i (omega (arith, strip-size P)))))
         ∙ sym (cost-of W)
 
     pub strip-found : Reads strip P s u B (readingOf strip P s u W) W

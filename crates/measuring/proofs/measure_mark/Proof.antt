@@ -24,7 +24,7 @@ module _ (c : tie.After-measure-rows) where
   abbrev start : tie.Start
   start = made .before .before .before .before .before .before .before
 
-  measured : {P : List ℕ} → Says P (start .args .plan) → Measured full (cells oblong P) (at (start .args .symbols .now))
+  measured : {P : List ℕ} → Says P (start .args .plan) → Measured (full P) (cells oblong P) (at (start .args .symbols .now))
       (at (start .args .doubts .now)) (value oblong P (start .args .«record» .now)) (c .measure-rows .result .cost)
       (c .measure-rows .result .differing)
   measured says =
@@ -49,7 +49,7 @@ measure-rows-requires c κs =
       ys,
       photo .symbols ∙ mark-cells says,
       photo .doubts ∙ mark-cells says,
-      λ i l. rw (says .fields) (photo .doubt i (rw (says .fields) at l)),
+      λ i l. rw (says .fields) (photo .doubt i (rw (says .fields) at l) .0),
     )
 
 radius-requires : tie.Need-radius-requires

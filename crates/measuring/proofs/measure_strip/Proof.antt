@@ -32,7 +32,7 @@ module _ (c : tie.After-measure-row) where
 
   measured : {P : List ℕ} → Says P (start xs .args .plan) →
       Photograph strip P (start xs .args .symbols .now) (start xs .args .doubts .now) →
-      Measured full (cells strip P) (at (start xs .args .symbols .now)) (at (start xs .args .doubts .now))
+      Measured (full P) (cells strip P) (at (start xs .args .symbols .now)) (at (start xs .args .doubts .now))
       (value strip P (start xs .args .«record» .now)) (c .measure-row .result .cost) (c .measure-row .result .differing)
   measured says photo =
       let given = start xs .args in
@@ -53,7 +53,7 @@ measure-row-requires c κs =
       omega (arith, photo .symbols, photo .sound .tall .most),
       photo .doubts ∙ sym (photo .symbols),
       omega (arith, g .full),
-      λ i l. rw (says .fields) (photo .doubt i (rw (photo .symbols) at l)),
+      λ i l. rw (says .fields) (photo .doubt i (rw (photo .symbols) at l) .0),
     )
 
 reading-requires : tie.Need-reading-requires

@@ -16,7 +16,8 @@ returns c =
       sound = start .pre;
       m = inverse .reciprocal .result;
       fields = rw (
-        c .season-of .ensures,
+        c .full-doubt .ensures,
+        start .season-of .ensures,
         points-loaded 6 P (rows .row .ensures),
         points-loaded 22 P (columns .row2 .ensures),
       ) refl;
