@@ -14,6 +14,7 @@ use mathlib.Core.Bool.{true, false, cond}
 use mathlib.Core.List.{List}
 use Prim.Native.Nat.{ℕ, suc, _*_, _-_, _%_, _^_, _≤_, _<_}
 use native.Mathlib.Omega.{arith}
+use native.Mathlib.Nat.{mul-le-mul}
 use native.Mathlib.Decide.{decLt}
 use lib.Dec.{eqb}
 use lib.ListN.{length}
@@ -35,6 +36,7 @@ use Rattle.polynomial.specs.Sides.{cellPoint}
 use Rattle.polynomial.proofs.Record.{value-strip}
 use Rattle.polynomial.proofs.Known.{value-strip-is}
 use Rattle.definitions.proofs.Plan.{strip-size}
+use Rattle.definitions.proofs.Full.{full-most}
 use Rattle.plan.specs.declared.Plan.{Plan}
 use Rattle.plan.specs.Says.{said, Says}
 use Rattle.plan.proofs.Ready.{point-at, ready}
@@ -139,7 +141,9 @@ module _ {P s u B s′ u′ : List ℕ} (t : Taken strip P s u B) (es : s′ ≡
   module _ {plan : Plan} (says : Says P plan) {r : Decoded} (D : StripDecoded (axisOf (plan .grid)) s′ u′ r) where
     -- a cost is a small number
     pub strip-under : r .found ≡ true → r .cost < 2147483648
-    strip-under z = omega (arith, (rw (says .fields) at D) .strip .sound z .1, t .photo .sound .tall .most)
+    strip-under z =
+        let side : rows P - degree P ≤ 16 = omega (arith, t .photo .sound .tall .most) in
+        omega (arith, (rw (says .fields) at D) .strip .sound z .1, mul-le-mul (full-most P) side)
 
     pub strip-refused : r .found ≡ false → Reads strip P s u B (refused 10) B
     strip-refused z = refused-said (rw (says .fields) at D) z

@@ -4,12 +4,14 @@
 --   sound-exactly, checked-exactly       "The season plan": which plans are sound, and which number any other gets
 --   plan-first                           and gets it in every call
 --   written-exactly, taken-exactly       "What is returned": 6 to 9, by what is wrong with the other arguments
---   shapes                               how many cells and coefficients there are, and the limits
+--   shapes                               how many cells and coefficients there are
 --   demand-1                             demand 1: what a refusal gives and leaves
 --   writes, demand-2-written, demand-2   demand 2: that every record is written, what is written, and that it is read back
 --   demand-2-cost, demand-2-cost-read    demand 2: costs and margins, of measuring and of reading
 --   demand-3                             demand 3
---   unread-costs, mark-margins           "Photographed mark and cost"
+--   in-scale                             refusal 8 and demands 2 and 3, the cost of a cell and the limits, by the full doubt
+--   before-30, from-30                   document 02, request 6: the same in the numbers of the old seasons, and of the new
+--   margins-before-30, margins-from-30   "Photographed mark and cost": the margins of marks, in each
 --   lowest-given, measures               "What is returned"
 --   explains, explains-exactly           document 02, request 5: when a record is explained, and what refuses it
 --   explained, handed                    that the reason given is the true one, and what C is handed of it
@@ -26,12 +28,12 @@
 use mathlib.Core.Path.{_≡_, refl, sym, ap, _∙_}
 use mathlib.Core.Logic.{_↔_}
 use mathlib.Core.List.{List, [], _∷_}
-use Prim.Native.Nat.{ℕ, suc, _+_, _*_, _<_}
+use Prim.Native.Nat.{ℕ, suc, _+_, _*_, _≤_, _<_}
 use native.Mathlib.Omega.{arith}
 use native.Mathlib.Numerals.{add-one}
 use lib.ListN.{length}
 use Rattle.bounded.specs.Bounded.{at, index}
-use Rattle.definitions.specs.Plan.{planBytes, rows, columns, degree, planRows, checkNumber}
+use Rattle.definitions.specs.Plan.{planBytes, season, rows, columns, degree, planRows, checkNumber}
 use Rattle.definitions.specs.Code.{Code, size, cells, value, mark}
 use Rattle.definitions.specs.Cost.{full}
 use Rattle.definitions.specs.Calls.{photoRows, readingOf, writeRows, writeNumber, writeBuffer}
@@ -45,7 +47,7 @@ use Rattle.definitions.specs.Widening.{narrowBytes, widenRows, widenNumber}
 use Rattle.definitions.specs.Accepted.{Writing, Expecting}
 use Rattle.definitions.specs.Demands.{CheckedExactly, PlanFirst, WrittenExactly, TakenExactly, ExplainsExactly, Explained, Handed}
 use Rattle.definitions.specs.Demands.{RefusalsKeep, Shapes, Written, RoundTrip, Weighed, Nearest}
-use Rattle.definitions.specs.Demands.{UnreadCosts, MarkMargins, LowestGiven, Measures, FoundExactly, FirstOfSeason}
+use Rattle.definitions.specs.Demands.{InScale, MarkMargins, LowestGiven, Measures, FoundExactly, FirstOfSeason}
 use Rattle.definitions.specs.Demands.{GroupsFill, places, TrayParts, TrayRefused, WhyParts, WhyRefused}
 use Rattle.definitions.specs.Demands.{WidensExactly, PrintsExactly}
 use Rattle.definitions.specs.Demands.{Widened, WidenedInOrder}
@@ -66,7 +68,8 @@ use Rattle.definitions.proofs.Explained as reasons
 use Rattle.definitions.proofs.Written.{mark-written}
 use Rattle.definitions.proofs.Own.{own-photo, own-reading, own-read}
 use Rattle.definitions.proofs.Published.{photo-weighed}
-use Rattle.definitions.proofs.Margin.{measured-range, read-range, lowest, highest}
+use Rattle.definitions.proofs.Full.{full-before, full-from}
+use Rattle.definitions.proofs.Margin.{margins-in, lowest-before, highest-before, lowest-from, highest-from}
 use Rattle.distance.proofs.Cost.{cell-full}
 use Rattle.polynomial.proofs.Record.{value-places, start-next, start-below, start-apart, placed}
 use Rattle.polynomial.proofs.Known.{value-mark-is}
@@ -94,16 +97,13 @@ written-exactly C P F B S = accepted.written-exactly C P (checked P S) F B
 pub taken-exactly : (C : Code) (P s u F : List ℕ) → Sound P → TakenExactly C P s u F
 taken-exactly C P s u F S = accepted.taken-exactly C P (checked P S) s u F
 
--- A strip is over the row points, with d + 1 coefficients and the limit 100 (rows - d). A mark has rows times columns cells, K
--- coefficients and the limit 100 times the larger side times (the smaller side - d), whichever is the larger.
+-- A strip is over the row points, with d + 1 coefficients. A mark has rows times columns cells and K coefficients.
 pub shapes : (P : List ℕ) → Shapes P
 shapes P = record {
   stripCells = refl;
   stripSize = strip-size P;
-  stripLimit = omega arith;
   markCells = refl;
   markSize = mark-size P ∙ omega arith;
-  markLimit = omega arith;
 }
 
 -- Demand 1: a refused call gives its number and zeros, or an empty part, and leaves the buffer that was lent for its result as it
@@ -148,24 +148,52 @@ demand-2 C P F B B′ e l =
       measured = rw (← write-fills C P F B refl e) m;
     }
 
--- Demand 2, costs: what measuring and reading accept costs 200 times the published distance, and its margin is the limit less the
--- cost.
-pub demand-2-cost : (C : Code) (P s u F : List ℕ) → measureNumber C P s u F ≡ 0 → Weighed C P s u F (measureReading C P s u F)
+-- Demand 2, costs: what measuring and reading accept costs twice the full doubt times the published distance, and its margin is
+-- the limit less the cost.
+pub demand-2-cost : (C : Code) (P s u F : List ℕ) → measureNumber C P s u F ≡ 0 →
+    Weighed (full P) (2 * full P) C P s u F (measureReading C P s u F)
 demand-2-cost C P s u F e =
     rw (← measure-gives C P s u F refl e) (photo-weighed C P s u F (accepted-measuring C P s u F e .0))
 
 pub demand-2-cost-read : (C : Code) (P s u B : List ℕ) → readNumber C P s u B ≡ 0 →
-    Weighed C P s u (readBuffer C P s u B) (readReading C P s u B)
+    Weighed (full P) (2 * full P) C P s u (readBuffer C P s u B) (readReading C P s u B)
 demand-2-cost-read C P s u B e =
     rw (read-gives C P s u B e) (photo-weighed C P s u (readBuffer C P s u B) (accepted-reading C P s u B e))
 
--- An unread cell costs 100 for every record.
-pub unread-costs : (C : Code) (P s u F : List ℕ) → Photograph C P s u → UnreadCosts C P s u F
-unread-costs C P s u F h c l e = rw (h .erased c l e) (cell-full full (at s c) (value C P F c))
+-- Demands 2 and 3 for every sound plan, by the full doubt of its season: which doubts are refused with 8, what a cell costs, how
+-- far the limits are; what is written is read back, what is measured and read costs twice the full doubt times the published
+-- distance, and the reading is the one record under the limit, or 10.
+pub in-scale : (P : List ℕ) → Sound P → InScale (full P) (2 * full P) P
+in-scale P S = record {
+  eight = λ C s u F. taken-exactly C P s u F S .eight;
+  cost = λ C s u F. refl;
+  unread = λ C s u F h c l e. rw (h c l .1 e) (cell-full (full P) (at s c) (value C P F c));
+  stripLimit = omega arith;
+  markLimit = omega arith;
+  written = λ C F B B′. demand-2 C P F B B′;
+  measured = λ C s u F. demand-2-cost C P s u F;
+  read = λ C s u B. demand-2-cost-read C P s u B;
+  nearest = λ C s u B (a, (b, l)) f h.
+      demand-3 C P s u B (record { sound = S; symbols = a; doubts = b; symbol = f; doubt = h }) l;
+}
 
--- Every margin of a mark is from -49,600 to 25,600, and both ends are reached.
-pub mark-margins : MarkMargins
-mark-margins = record { measured = measured-range; read = read-range; lowest = lowest; highest = highest }
+-- The same in the customer's numbers. For seasons before 30 a doubt is 0 to 100, a wrong cell costs 200 less its doubt, the limits
+-- have 100, and costs are 200 times the published distance.
+pub before-30 : (P : List ℕ) → Sound P → season P < 30 → InScale 100 200 P
+before-30 P S l = rw (full-before P l) at (in-scale P S)
+
+-- For season 30 and later ones a doubt is 0 to 250, a wrong cell costs 500 less its doubt, the limits have 250, and costs are 500
+-- times the published distance.
+pub from-30 : (P : List ℕ) → Sound P → 30 ≤ season P → InScale 250 500 P
+from-30 P S l = rw (full-from P l) at (in-scale P S)
+
+-- Every margin of a mark is from -49,600 to 25,600 in seasons before 30, from -124,000 to 64,000 in later ones, and all four ends
+-- are reached.
+pub margins-before-30 : MarkMargins (λ y. y < 30) 49600 25600
+margins-before-30 = margins-in (λ y. y < 30) 100 full-before lowest-before highest-before
+
+pub margins-from-30 : MarkMargins (λ y. 30 ≤ y) 124000 64000
+margins-from-30 = margins-in (λ y. 30 ≤ y) 250 full-from lowest-from highest-from
 
 -- The number that a call gives is the first in the table's order of those that apply and concern the call, 13 standing between 3
 -- and 4. In widening 11 comes before 6.
