@@ -3,39 +3,31 @@
 --   full-before, full-from   it is 100 before season 30, and 250 from season 30 on
 --   full-some, full-most     so it is above 0, and at most 250
 --
--- What this file is for: every law of costs is for any full doubt; these are the only ones that look at which it is. Assumes
--- nothing.
-use mathlib.Core.Path.{_≡_, refl}
-use mathlib.Core.Bool.{Bool, true, false, cond}
+-- What this file is for: every other law of costs is for any full doubt; these alone look at which it is. Assumes nothing.
+use mathlib.Core.Path.{_≡_}
+use mathlib.Core.Logic.{_⊎_, inl, inr}
 use mathlib.Core.List.{List}
 use Prim.Native.Nat.{ℕ, _≤_, _<_}
 use native.Mathlib.Omega.{arith}
-use lib.Dec.{ltb}
+use native.Mathlib.Decide.{decLt}
 use borrow.Author.Tests.{lt-ltb, le-ltb}
 use Rattle.definitions.specs.Plan.{season}
 use Rattle.definitions.specs.Cost.{full}
 
-pub full-before : (P : List ℕ) → season P < 30 → full P ≡ 100
-unfolding full
-full-before P l = rw (lt-ltb _ _ l)
-
-pub full-from : (P : List ℕ) → 30 ≤ season P → full P ≡ 250
-unfolding full
-full-from P l = rw (le-ltb _ _ l)
-
 module _ (P : List ℕ) where
-  pub full-some : 1 ≤ full P
+  pub full-before : season P < 30 → full P ≡ 100
   unfolding full
-  full-some = go (ltb (season P) 30)
-    where
-      go : (b : Bool) → 1 ≤ cond b 100 250
-      go true = omega arith
-      go false = omega arith
+  full-before l = rw (lt-ltb (season P) 30 l)
+
+  pub full-from : 30 ≤ season P → full P ≡ 250
+  unfolding full
+  full-from l = rw (le-ltb (season P) 30 l)
+
+  either : (full P ≡ 100) ⊎ (full P ≡ 250)
+  either = elim (decLt (season P) 30) [ yes l ↦ inl (full-before l) | no l ↦ inr (full-from (omega arith)) ]
+
+  pub full-some : 1 ≤ full P
+  full-some = elim either [ inl e ↦ omega (arith, e) | inr e ↦ omega (arith, e) ]
 
   pub full-most : full P ≤ 250
-  unfolding full
-  full-most = go (ltb (season P) 30)
-    where
-      go : (b : Bool) → cond b 100 250 ≤ 250
-      go true = omega arith
-      go false = omega arith
+  full-most = elim either [ inl e ↦ omega (arith, e) | inr e ↦ omega (arith, e) ]

@@ -9,7 +9,7 @@
 --   distance n r f     Δ(r, f), the sum over the n places t of Δ(r(t), f(t))
 --   weighted full s u  the weighted function of symbols s with doubts u: a doubt over the full doubt is the uncertainty
 --
--- What this file is for: a cost is the published distance times twice the full doubt, a whole number; for photographs, 200 times.
+-- What this file is for: a cost is the published distance times twice the full doubt, a whole number.
 use mathlib.Core.Path.{_≡_}
 use mathlib.Core.Bool.{cond}
 use Prim.Native.Nat.{ℕ, zero, suc, _+_, _*_, _-_, _≤_, _<_}

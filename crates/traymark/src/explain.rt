@@ -18,7 +18,8 @@ ghost use Rattle.definitions.specs.Explaining.{explainReason, explainBuffer, va
 //     6                  `symbols` or `doubts` has not rows times columns bytes, or `record` or `other` has not
 //                        (d + 1)(d + 2) / 2
 //     7                  a symbol is p or more and not 255
-//     8                  a doubt is above 100, or an unread cell's is not 100
+//     8                  a doubt is above the full doubt, which is 100 before season 30 and 250 from it on, or an unread
+//                        cell's is not the full doubt
 //     9                  a coefficient of `record` is p or more
 // Only in the second case is `other` written.
 pub fn explain_mark(

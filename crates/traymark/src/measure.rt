@@ -13,7 +13,8 @@ ghost use Rattle.definitions.specs.Calls.{measureReading};
 //   1, 2, 3, 13, 4, 5  the plan is refused, as by `traymark_check_plan`
 //   6                  `symbols` or `doubts` has not rows times columns bytes, or `record` has not (d + 1)(d + 2) / 2
 //   7                  a symbol is p or more and not 255
-//   8                  a doubt is above 100, or an unread cell's is not 100
+//   8                  a doubt is above the full doubt, which is 100 before season 30 and 250 from it on, or an unread
+//                      cell's is not the full doubt
 //   9                  a coefficient is p or more
 #[no_mangle]
 pub extern "C" fn traymark_measure_mark(

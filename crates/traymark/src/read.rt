@@ -9,13 +9,14 @@ ghost use Rattle.definitions.specs.Calls.{readReading, readBuffer};
 // `plan`, `symbols` and `doubts` are any bytes of any length, and are only read.
 //
 // Returns number 0 with the cost, the margin, the changed and the unread count and the class of the one record that costs under
-// the radius, 100 times the larger side times (the smaller side - d), and has filled `record` with its (d + 1)(d + 2) / 2
-// coefficients, by total degree and then by rising power of Y. Else leaves `record` as it was, and all but the number is 0; that
-// is the first that applies, in this order, of
+// the radius, the full doubt times the larger side times (the smaller side - d), and has filled `record` with its
+// (d + 1)(d + 2) / 2 coefficients, by total degree and then by rising power of Y. Else leaves `record` as it was, and all but the
+// number is 0; that is the first that applies, in this order, of
 //   1, 2, 3, 13, 4, 5  the plan is refused, as by `traymark_check_plan`
 //   6                  `symbols` or `doubts` has not rows times columns bytes, or `record` has not (d + 1)(d + 2) / 2
 //   7                  a symbol is p or more and not 255
-//   8                  a doubt is above 100, or an unread cell's is not 100
+//   8                  a doubt is above the full doubt, which is 100 before season 30 and 250 from it on, or an unread
+//                      cell's is not the full doubt
 //   10                 no record of the plan costs under the radius
 #[no_mangle]
 pub extern "C" fn traymark_read_mark(
@@ -42,7 +43,7 @@ pub extern "C" fn traymark_read_mark(
 }
 
 // The same for a strip: `record` has d + 1 bytes, lowest power first, `symbols` and `doubts` have a byte for each row, and the
-// radius is 100 (rows - d).
+// radius is the full doubt times (rows - d).
 #[no_mangle]
 pub extern "C" fn traymark_read_strip(
     plan: &[u8],
