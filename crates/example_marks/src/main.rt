@@ -1,6 +1,7 @@
 // Writing and measuring at work: cases a and k of document 01, plan A with the record 3 1 2; a strip of that plan, clean and with
-// a cell unread and another wrong; a record beyond the radius; a half tray; and refusals 6 to 9. Each line says what was asked,
-// the number that was answered, and then the buffer or the reading; the file stdout has them as worked out by hand.
+// a cell unread and another wrong, in season 12 and in season 30; a record beyond the radius; a half tray; and refusals 6 to 9.
+// Each line says what was asked, the number that was answered, and then the buffer or the reading; the file stdout has them as
+// worked out by hand.
 use definitions::Reading;
 use text::magnitude;
 use traymark::measure::traymark_measure_mark;
@@ -20,6 +21,7 @@ fn main() {
     measure(b"k first three cells 0", &record, &photo);
     measure(b"measure 0 0 0", &[0u8; 3], &mark);
     strips();
+    finer_doubts();
     half_tray();
     refusals();
 }
@@ -38,6 +40,16 @@ fn strips() {
     measured(
         b"a cell unread, another wrong",
         traymark_measure_strip(&plan, &record, &[255u8, 5, 1], &[100u8, 0, 0]),
+    );
+}
+
+// The strip with a cell unread and another wrong again: from season 30 on doubts are in 250ths.
+fn finer_doubts() {
+    let mut plan = plan_a();
+    plan[1] = 30;
+    measured(
+        b"the same in season 30",
+        traymark_measure_strip(&plan, &[3u8, 1], &[255u8, 5, 1], &[250u8, 0, 0]),
     );
 }
 
