@@ -26,6 +26,7 @@ use std::str::FromStr;
 use stream::{Kind, Mark};
 use table::Line;
 use traymark_tests::plans::Shape;
+use traymark_tests::run::{run, Suite};
 
 const PLANS: [Shape; 7] = [
     (251, 16, 16, 0),
@@ -106,9 +107,14 @@ fn agree(marks: &[Mark], call: Call) {
     }
 }
 
-/// Holds the ports against the tests' decoder.
+/// Holds the ports against the tests' decoder, for the seasons before 30 and for those from 30 on.
 fn check() -> Result<(), String> {
-    let counts = traymark_tests::run::run(&[check::SUITE]).map_err(|failures| failures.join("\n"))?;
+    check::SUITES.into_iter().try_for_each(check_suite)
+}
+
+fn check_suite(suite: Suite) -> Result<(), String> {
+    let name = suite.name;
+    let counts = run(&[suite]).map_err(|failures| failures.join("\n"))?;
     if counts.numbers[..=10].contains(&0) || counts.numbers[13] == 0 {
         return Err(format!("a number that was never answered: {:?}", counts.numbers));
     }
@@ -119,7 +125,7 @@ fn check() -> Result<(), String> {
         return Err(format!("fewer than 500 marks read with changed and unread cells: {}", counts.mixed_marks));
     }
     println!(
-        "ports: ok: {} calls, {} marks read or without a record, {} with changed and unread cells",
+        "{name}: ok: {} calls, {} marks read or without a record, {} with changed and unread cells",
         counts.calls, counts.marks, counts.mixed_marks
     );
     Ok(())

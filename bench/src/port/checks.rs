@@ -1,7 +1,7 @@
 //! Refusals 6 to 9.
 
 use super::field::Reduction;
-use super::plan::{Plan, FULL};
+use super::plan::Plan;
 use traymark::Refusal;
 
 /// The symbol of an unread cell.
@@ -22,7 +22,7 @@ pub fn photograph<R: Reduction>(plan: &Plan<R>, symbols: &[u8], doubts: &[u8], r
     if any(symbols.iter().map(|&symbol| (symbol >= p) & (symbol != UNREAD))) {
         return Err(Refusal::Symbol);
     }
-    let full = FULL as u8;
+    let full = plan.full as u8;
     if any(symbols.iter().zip(doubts).map(|(&symbol, &doubt)| (doubt > full) | (symbol == UNREAD) & (doubt != full))) {
         return Err(Refusal::Doubt);
     }

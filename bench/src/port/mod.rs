@@ -98,7 +98,7 @@ fn tally<R: Reduction>(plan: &Plan<R>, powers: &Powers<R>, record: &[u8], symbol
     let mut tally = Tally::default();
     let rows = symbols.chunks_exact(plan.columns).zip(doubts.chunks_exact(plan.columns));
     for (r, (symbols, doubts)) in rows.enumerate() {
-        tally += Tally::new(symbols, doubts, &powers.row(&in_y, r));
+        tally += Tally::new(plan.full, symbols, doubts, &powers.row(&in_y, r));
     }
     tally
 }

@@ -8,7 +8,8 @@ pub struct Order {
     keys: Row,
 }
 
-/// The key of no cell. Every other is less, since doubts are below 4,095.
+/// The key of no cell. Every other is less, since doubts are at most 4,000: the radius of a row of sixteen cells in 250ths,
+/// which is the doubt of a row without an answer.
 const NONE: u16 = u16::MAX;
 
 impl Order {

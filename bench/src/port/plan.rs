@@ -5,12 +5,11 @@ use super::polynomial::start;
 use std::array::from_fn;
 use traymark::Refusal;
 
-/// The full doubt of a photograph.
-pub const FULL: u16 = 100;
-
 /// A sound plan, taken apart; the points that are not used are 0.
 pub struct Plan<R> {
     pub field: Field<R>,
+    /// the full doubt of its season's photographs
+    pub full: u16,
     pub rows: usize,
     pub columns: usize,
     pub degree: usize,
@@ -22,7 +21,7 @@ impl<R: Reduction> Plan<R> {
     /// The plan, or the first of refusals 1 2 3 13 4 5 that applies.
     pub fn parse(bytes: &[u8]) -> Result<Plan<R>, Refusal> {
         let bytes: &[u8; 40] = bytes.try_into().map_err(|_| Refusal::PlanForm)?;
-        let &[_, _, p, rows, columns, d, ref points @ .., 0, 0] = bytes else { return Err(Refusal::PlanForm) };
+        let &[high, low, p, rows, columns, d, ref points @ .., 0, 0] = bytes else { return Err(Refusal::PlanForm) };
         if p > 251 || !is_prime(p) {
             return Err(Refusal::Modulus);
         }
@@ -42,8 +41,15 @@ impl<R: Reduction> Plan<R> {
             true => row_points,
             false => load_points(p, columns, for_columns)?,
         };
-        let field = Field::new(p.into());
-        Ok(Plan { field, rows: rows.into(), columns: columns.into(), degree: d.into(), row_points, column_points })
+        Ok(Plan {
+            field: Field::new(p.into()),
+            full: full_doubt(u16::from_be_bytes([high, low])),
+            rows: rows.into(),
+            columns: columns.into(),
+            degree: d.into(),
+            row_points,
+            column_points,
+        })
     }
 
     /// The number of cells of a mark.
@@ -59,7 +65,15 @@ impl<R: Reduction> Plan<R> {
     /// The radius R.
     pub fn radius(&self) -> u32 {
         let (smaller, larger) = (self.rows.min(self.columns), self.rows.max(self.columns));
-        u32::from(FULL) * (larger * (smaller - self.degree)) as u32
+        u32::from(self.full) * (larger * (smaller - self.degree)) as u32
+    }
+}
+
+/// The full doubt of a season: doubts are in hundredths, from season 30 on in 250ths.
+fn full_doubt(season: u16) -> u16 {
+    match season {
+        0..=29 => 100,
+        30.. => 250,
     }
 }
 

@@ -4,7 +4,7 @@
 
 use super::draft;
 use super::field::{Inverses, Reduction, Row, Square};
-use super::plan::{Plan, FULL};
+use super::plan::Plan;
 use super::polynomial::Powers;
 use super::strip::{Answer, Strip};
 use super::tally::cost;
@@ -52,9 +52,9 @@ impl<R: Reduction> Steps<'_, R> {
     /// Finds and subtracts the coefficient of Y^t: the rows' leading coefficients are a strip, whose doubts are the rows'
     /// costs. The answers of the rows that it fits are kept.
     fn step(&mut self, t: usize, lines: &mut [Option<Answer>; 16]) -> Option<Row> {
-        let Plan { field, rows, columns, degree, ref row_points, ref column_points } = *self.plan;
+        let Plan { field, full, rows, columns, degree, ref row_points, ref column_points } = *self.plan;
         let inverses = self.inverses;
-        let row = Strip { field: &field, inverses, points: column_points, n: columns, degree: t, full: FULL };
+        let row = Strip { field: &field, inverses, points: column_points, n: columns, degree: t, full };
         for (r, line) in lines.iter_mut().enumerate().take(rows) {
             if line.is_none() {
                 *line = row.decode(&self.left[r], &self.doubts[r]);
@@ -99,8 +99,9 @@ impl<R: Reduction> Steps<'_, R> {
 
     /// The cost of what is left, if it is under the radius.
     fn measure(&self) -> Option<u32> {
-        let rows = self.doubts.iter().zip(self.left.iter()).take(self.plan.rows);
-        let cost = rows.map(|(doubts, left)| cost(FULL, &doubts[..self.plan.columns], left)).sum();
+        let Plan { full, rows, columns, .. } = *self.plan;
+        let rows = self.doubts.iter().zip(self.left.iter()).take(rows);
+        let cost = rows.map(|(doubts, left)| cost(full, &doubts[..columns], left)).sum();
         (cost < self.plan.radius()).then_some(cost)
     }
 }

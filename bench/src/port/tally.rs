@@ -2,7 +2,6 @@
 
 use super::checks::UNREAD;
 use super::field::Row;
-use super::plan::FULL;
 use std::ops::AddAssign;
 use traymark::Reading;
 
@@ -36,11 +35,11 @@ impl AddAssign for Tally {
 
 impl Tally {
     /// Of a row's cells against these values.
-    pub fn new(symbols: &[u8], doubts: &[u8], values: &Row) -> Tally {
+    pub fn new(full: u16, symbols: &[u8], doubts: &[u8], values: &Row) -> Tally {
         let cells = symbols.iter().zip(doubts).zip(values);
         cells.fold(Tally::default(), |tally, ((&symbol, &doubt), &value)| {
             let right = u16::from(symbol) == value;
-            let cost = u32::from(cell_cost(FULL, doubt.into(), right));
+            let cost = u32::from(cell_cost(full, doubt.into(), right));
             Tally { cost: tally.cost + cost, differing: tally.differing + u32::from(!right) }
         })
     }
