@@ -7,16 +7,8 @@ use traymark::Reading;
 
 /// What cells cost that are wrong where the row is not 0.
 pub fn cost(full: u16, doubts: &[u16], wrong: &Row) -> u32 {
-    doubts.iter().zip(wrong).map(|(&doubt, &wrong)| u32::from(cell_cost(full, doubt, wrong == 0))).sum()
-}
-
-/// What one cell costs.
-fn cell_cost(full: u16, doubt: u16, right: bool) -> u16 {
-    if right {
-        doubt
-    } else {
-        2 * full - doubt
-    }
+    let cells = doubts.iter().zip(wrong);
+    cells.map(|(&doubt, &wrong)| u32::from(if wrong == 0 { doubt } else { 2 * full - doubt })).sum()
 }
 
 /// The cost of some cells, and how many differ from their values. An unread cell differs from any value.
@@ -34,14 +26,17 @@ impl AddAssign for Tally {
 }
 
 impl Tally {
-    /// Of a row's cells against these values.
+    /// Of a row's cells against these values. The doubts of those that differ are taken off, and twice the full doubt for each
+    /// is added at the end, so that the loop over the cells goes without it.
     pub fn new(full: u16, symbols: &[u8], doubts: &[u8], values: &Row) -> Tally {
         let cells = symbols.iter().zip(doubts).zip(values);
-        cells.fold(Tally::default(), |tally, ((&symbol, &doubt), &value)| {
+        let (doubts, differing) = cells.fold((0, 0), |(doubts, differing), ((&symbol, &doubt), &value)| {
             let right = u16::from(symbol) == value;
-            let cost = u32::from(cell_cost(full, doubt.into(), right));
-            Tally { cost: tally.cost + cost, differing: tally.differing + u32::from(!right) }
-        })
+            let doubt = i16::from(doubt);
+            (doubts + if right { doubt } else { -doubt }, differing + i16::from(!right))
+        });
+        let cost = 2 * i32::from(full) * i32::from(differing) + i32::from(doubts);
+        Tally { cost: cost as u32, differing: differing as u32 }
     }
 
     /// What is told of a record with this tally over all of these symbols. The cells that differ are changed or unread.
