@@ -3,14 +3,14 @@
 //!
 //! - `bench [N]` prints the table and whether the targets are met; of each stream it takes at most N marks.
 //! - `bench check` holds the ports in Rust against the tests' decoder.
-//! - `bench profile P ROWS COLUMNS D KIND COUNT` runs the library alone, on COUNT marks of one line, for a profiler. KIND is
-//!   clean, errors, doubts, rivals or noise for reading such marks, or write, measure or explain.
+//! - `bench profile P ROWS COLUMNS D KIND COUNT` runs the library alone, on COUNT marks of a line of season 12, for a profiler.
+//!   KIND is clean, errors, doubts, rivals or noise for reading such marks, or write, measure or explain.
 //!
 //! Each line of the table is a plan and a stream: the microseconds of the median mark, each mark by its least time of
 //! several rounds, by the library, by the port with division (`plain`), by the port with the reciprocal (`tuned`) and by
 //! the tests' decoder (`equations`); how many times the library's time the others take; and the slowest of the marks that
 //! the library reads, with how many of the plan's clean marks it lasts. Absolute times move with the machine; compare
-//! those of one run.
+//! those of one run. All is of season 12, with doubts in hundredths, but for one line of season 30, in 250ths, which says so.
 
 mod check;
 mod contender;
@@ -21,9 +21,10 @@ mod timing;
 
 use contender::{Call, EQUATIONS, LIBRARY, MARKS, PLAIN, TUNED};
 use std::hint::black_box;
+use std::iter;
 use std::process::ExitCode;
 use std::str::FromStr;
-use stream::{Kind, Mark};
+use stream::{Kind, Mark, FINER_SEASON, SEASON};
 use table::Line;
 use traymark_tests::plans::Shape;
 use traymark_tests::run::{run, Suite};
@@ -49,6 +50,9 @@ const CALLS: [(Call, Kind); 8] = [
     (Call::Measure, Kind::Doubts),
     (Call::Explain, Kind::Doubts),
 ];
+
+/// The line that is there once more with doubts in 250ths.
+const FINER: (Shape, Call, Kind) = ((251, 16, 16, 7), Call::Read, Kind::Doubts);
 
 const USAGE: &str = "usage: bench [N] | bench check | bench profile P ROWS COLUMNS D KIND COUNT";
 
@@ -81,20 +85,28 @@ fn compare(number: usize) -> Result<(), String> {
     let mut lines = Vec::new();
     for shape in PLANS {
         let mut clean = None;
-        for (call, kind) in CALLS {
-            let marks = stream::marks(shape, kind, number);
+        for (season, call, kind) in lines_of(shape) {
+            let marks = stream::marks(season, shape, kind, number);
             agree(&marks, call);
             let mut times = timing::times([&LIBRARY, &PLAIN, &TUNED, &EQUATIONS], &marks, call);
             let [library, plain, tuned, equations] = times.each_mut().map(|times| times.median());
             let slowest = times[0].slowest();
             let clean = *clean.get_or_insert(library);
-            let line = Line { shape, call, kind, library, plain, tuned, equations, slowest, clean };
+            let line = Line { season, shape, call, kind, library, plain, tuned, equations, slowest, clean };
             line.print();
             lines.push(line);
         }
     }
     table::print_targets(&lines);
     Ok(())
+}
+
+/// The lines of a plan, each with its season.
+fn lines_of(shape: Shape) -> impl Iterator<Item = (u16, Call, Kind)> {
+    CALLS.into_iter().flat_map(move |(call, kind)| {
+        let finer = ((shape, call, kind) == FINER).then_some(FINER_SEASON);
+        iter::once(SEASON).chain(finer).map(move |season| (season, call, kind))
+    })
 }
 
 /// All answer alike and write the same bytes, so that all did the work.
@@ -131,7 +143,7 @@ fn check_suite(suite: Suite) -> Result<(), String> {
     Ok(())
 }
 
-/// The library works on the marks of one line.
+/// The library works on the marks of one line of season 12.
 fn profile([p, rows, columns, d]: [&str; 4], word: &str, count: &str) -> Result<(), String> {
     let shape = (number(p)?, number(rows)?, number(columns)?, number(d)?);
     let named = |&(call, kind): &(Call, Kind)| match call {
@@ -141,7 +153,7 @@ fn profile([p, rows, columns, d]: [&str; 4], word: &str, count: &str) -> Result<
         Call::Explain => word == "explain",
     };
     let (call, kind) = CALLS.into_iter().find(named).ok_or(USAGE)?;
-    for mark in stream::marks(shape, kind, number(count)?) {
+    for mark in stream::marks(SEASON, shape, kind, number(count)?) {
         black_box(LIBRARY.call(call, black_box(&mark)));
     }
     Ok(())

@@ -1,10 +1,14 @@
 //! Streams of distinct marks: repeating one mark would hide mispredicted branches.
 
 use independent::calls::bytes;
-use independent::{Code, PLAN};
+use independent::{Code, Plan, PLAN};
 use traymark_tests::photo::{damaged, noise, rival, Damage, Harm, Place};
 use traymark_tests::plans::{self, Shape};
 use traymark_tests::random::Random;
+
+/// A season with doubts in hundredths, and one with doubts in 250ths.
+pub const SEASON: u16 = 12;
+pub const FINER_SEASON: u16 = 30;
 
 #[derive(Debug)]
 pub struct Mark {
@@ -48,13 +52,14 @@ impl Kind {
     }
 }
 
-/// So many marks of one plan. A square has the same points each way, as every plan that was widened.
-pub fn marks(shape: Shape, kind: Kind, number: usize) -> Vec<Mark> {
+/// So many marks of one plan, of this season. A square has the same points each way, as every plan that was widened.
+pub fn marks(season: u16, shape: Shape, kind: Kind, number: usize) -> Vec<Mark> {
     let random = &mut Random::new(kind as u64);
     let plan = match shape {
         (p, rows, columns, d) if rows == columns => plans::square(p, rows, d, random),
         _ => plans::plan(shape, random),
     };
+    let plan = Plan { season, ..plan };
     let radius = Code::Mark.radius(&plan);
     let mut mark = || {
         let record = plans::record(Code::Mark, &plan, random);

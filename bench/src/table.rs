@@ -1,11 +1,12 @@
 //! The table, a line for each plan and stream, and whether it meets the targets.
 
 use crate::contender::{Call, EQUATIONS, LIBRARY, PLAIN, TUNED};
-use crate::stream::Kind;
+use crate::stream::{Kind, SEASON};
 use traymark_tests::plans::Shape;
 
 /// A plan and a stream, with the median microseconds of each contender.
 pub struct Line {
+    pub season: u16,
     pub shape: Shape,
     pub call: Call,
     pub kind: Kind,
@@ -22,7 +23,7 @@ pub struct Line {
 pub fn print_head() {
     let over = |name: &str| format!("{name}/lib");
     println!(
-        "{:<17} {:<35} {:>9} {:>9} {:>9} {:>9} {:>9} {:>9} {:>13} {:>9} {:>13}",
+        "{:<24} {:<35} {:>9} {:>9} {:>9} {:>9} {:>9} {:>9} {:>13} {:>9} {:>13}",
         "plan",
         "call and marks",
         LIBRARY.name,
@@ -40,7 +41,7 @@ pub fn print_head() {
 impl Line {
     pub fn print(&self) {
         let Line { library, plain, tuned, equations, slowest, .. } = self;
-        print!("{:<17} {:<35} {library:>9.2} {plain:>9.2} {tuned:>9.2} {equations:>9.2}", self.plan(), self.what());
+        print!("{:<24} {:<35} {library:>9.2} {plain:>9.2} {tuned:>9.2} {equations:>9.2}", self.plan(), self.what());
         print!(" {:>9.2} {:>9.2} {:>13.1}", self.plain_ratio(), tuned / library, self.equations_ratio());
         match self.is_reading() {
             true => println!(" {slowest:>9.2} {:>13.1}", self.slowest_ratio()),
@@ -48,10 +49,15 @@ impl Line {
         }
     }
 
+    /// The season is said where it is another than that of most lines.
     fn plan(&self) -> String {
-        match self.shape {
+        let shape = match self.shape {
             (p, rows, columns, d) if rows == columns => format!("p {p} n {rows} d {d}"),
             (p, rows, columns, d) => format!("p {p} {rows} by {columns} d {d}"),
+        };
+        match self.season {
+            SEASON => shape,
+            season => format!("{shape} season {season}"),
         }
     }
 
