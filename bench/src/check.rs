@@ -12,7 +12,7 @@ use traymark_tests::plans;
 use traymark_tests::random::Random;
 use traymark_tests::run::Suite;
 
-/// Every shape with doubts in hundredths, and every shape with doubts in 250ths.
+/// Every shape with doubts in 100ths, and every shape with doubts in 250ths.
 pub const SUITES: [Suite; 2] = [
     Suite {
         name: "ports before season 30",

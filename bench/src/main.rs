@@ -10,7 +10,7 @@
 //! several rounds, by the library, by the port with division (`plain`), by the port with the reciprocal (`tuned`) and by
 //! the tests' decoder (`equations`); how many times the library's time the others take; and the slowest of the marks that
 //! the library reads, with how many of the plan's clean marks it lasts. Absolute times move with the machine; compare
-//! those of one run. All is of season 12, with doubts in hundredths, but for one line of season 30, in 250ths, which says so.
+//! those of one run. All is of season 12, with doubts in 100ths, but for one line of season 30, in 250ths, which says so.
 
 mod check;
 mod contender;

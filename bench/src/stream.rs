@@ -6,7 +6,7 @@ use traymark_tests::photo::{damaged, noise, rival, Damage, Harm, Place};
 use traymark_tests::plans::{self, Shape};
 use traymark_tests::random::Random;
 
-/// A season with doubts in hundredths, and one with doubts in 250ths.
+/// A season with doubts in 100ths, and one with doubts in 250ths.
 pub const SEASON: u16 = 12;
 pub const FINER_SEASON: u16 = 30;
 

@@ -69,7 +69,7 @@ impl<R: Reduction> Plan<R> {
     }
 }
 
-/// The full doubt of a season: doubts are in hundredths, from season 30 on in 250ths.
+/// The full doubt of a season: doubts are in 100ths, from season 30 on in 250ths.
 fn full_doubt(season: u16) -> u16 {
     match season {
         0..=29 => 100,
