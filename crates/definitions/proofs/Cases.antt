@@ -152,8 +152,8 @@ oblongClean = 32 ∷ 48 ∷ 32 ∷ 48 ∷ 32 ∷ 48 ∷ 32 ∷ 48 ∷ 32 ∷ 51 
 abbrev refusal : List ℕ → List ℕ
 refusal number = 82 ∷ 69 ∷ 70 ∷ 85 ∷ 83 ∷ 69 ∷ 68 ∷ 32 ∷ number ++ 10 ∷ []
 
--- case c, in season 12 and in season 268; case f, and in season 30; case d; a byte less than case c and a byte more; a plan a byte short; no
--- columns; nothing; an oblong mark each way
+-- case c, in season 12 and in season 268; case f, and in season 30; case d; a byte less than case c and a byte more; a plan a
+-- byte short; no columns; nothing; an oblong mark each way
 pub text-cases :
     map trayText (
     (planA ++ photoC ++ sure 9) ∷ (set planA 0 1 ++ photoC ++ sure 9) ∷ (planA ++ hidden 5 ++ doubts 5)

@@ -70,7 +70,9 @@ module _ (C : Code) (P s u B : List ℕ) where
       (equal _ _ (h .symbols), (equal _ _ (h .doubts), (equal _ _ l, (fit-symbols C P s u (h .symbol), (doubt, tt))))))
     where
       doubt : misdoubted (full P) s u (cells C P) ≡ false
-      doubt = none-any _ _ λ c m. rw (le-ltb _ _ (h .doubt c m .0)) (both-false _ _ λ t. equal _ _ (h .doubt c m .1 (eqb-true _ _ t)))
+      doubt = none-any _ _ λ c m.
+          let (most, erased) = h .doubt c m in
+          rw (le-ltb _ _ most) (both-false _ _ λ t. equal _ _ (erased (eqb-true _ _ t)))
 
   module _ (e : first (photoRows C P s u B) ≡ 0) where
     passed : checkNumber P ≡ 0

@@ -19,8 +19,8 @@
 --                           f being an uncertainty, and as its margin the limit less the cost
 --   Nearest C P s u B       demand 3: at most one record of the plan costs under the limit, the reading is that one with its
 --                           cost, and it is 10 exactly when there is none. The limit is the radius
---   InScale f k P           refusal 8 and demands 2 and 3 under the plan P, in the numbers of its season: f is the full doubt, and
---                           k what a wrong cell costs that is in no doubt. Costs and limits are spelled out
+--   InScale f k P           refusal 8 and demands 2 and 3 under the plan P, in the numbers of its season: f is the full doubt,
+--                           and k what a wrong cell costs that is in no doubt. Costs and limits are spelled out
 --   MarkMargins Y low high  under plans of the seasons Y a mark's margin is from -low to high, and both ends are reached
 --   LowestGiven             the number that is given is the first in the table's order of the rows of the call whose test holds;
 --                           in widening 11 stands before 6: the plans are looked at before the buffer for them. What the tests

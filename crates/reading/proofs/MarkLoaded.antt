@@ -109,7 +109,8 @@ module _ {P s u B : List ℕ} {left u′ : List (List ℕ)} (t : Taken oblong P 
   loaded : LoadedGrid (full P) (rows P) (columns P) s u (cellAt left) (cellAt u′)
   loaded r c l m =
       let i = r * columns P + c in
-      rw (symbol-at t es r c l m, doubt-at r c l m) (residue-loaded (at s i) (at u i) (t .photo .doubt i (inside t es r c l m) .1))
+      rw (symbol-at t es r c l m, doubt-at r c l m)
+      (residue-loaded (at s i) (at u i) (t .photo .doubt i (inside t es r c l m) .1))
 
   doubts-most : (r c : ℕ) → r < rows P → c < columns P → cellAt u′ r c ≤ full P
   doubts-most r c l m = rw (doubt-at r c l m) (t .photo .doubt (r * columns P + c) (inside t es r c l m) .0)

@@ -19,12 +19,11 @@ use Rattle.bounded.specs.Bounded.{at}
 use Rattle.bounded.proofs.Sum.{sum-eq, sum-rows, cell-row, cell-column}
 use Rattle.definitions.specs.Refusals.{first}
 use Rattle.definitions.specs.Plan.{modulus, rows, columns, degree, rowPoint, columnPoint, side, point}
-use Rattle.definitions.specs.Code.{oblong, size}
+use Rattle.definitions.specs.Code.{oblong, size, cells, IsRecord}
 use Rattle.polynomial.specs.Record.{place, gridValue}
 use Rattle.definitions.specs.Cost.{full}
 use Rattle.distance.specs.Cost.{cell, cost}
 use Rattle.definitions.specs.Calls.{photoRows, costOf, refused, readingOf}
-use Rattle.definitions.specs.Code.{IsRecord}
 use Rattle.definitions.specs.Sound.{Sound}
 use Rattle.definitions.specs.Photograph.{Photograph}
 use Rattle.definitions.specs.Reads.{Reads}
@@ -67,7 +66,7 @@ module _ {P : List ℕ} (S : Sound P) where
   record-cost s u x y s′ u′ ex ey loaded F h e =
       sum-eq (rows P * columns P)
       (λ c _. ap (cell (full P) (at s c) (at u c)) (value-cell (modulus P) (degree P) F (side P) (point P) c))
-      ∙ ap (λ p. cost (full P) (rows P * columns P) (at s) (at u) (gridValue p (degree P) (columns P) (rowPoint P) (columnPoint P) F))
+      ∙ ap (λ p. cost (full P) (cells oblong P) (at s) (at u) (gridValue p (degree P) (columns P) (rowPoint P) (columnPoint P) F))
       (sym (plan-modulus S))
       ∙ flat-cost (modulus P - 1) (full P) (rows P) (columns P) (degree P) (rowPoint P) (columnPoint P) s u F
       ∙ grid-same (modulus P - 1) (full P) (rows P) (columns P) (degree P) s u ex ey loaded e

@@ -177,8 +177,8 @@ in-scale P S = record {
       demand-3 C P s u B (record { sound = S; symbols = a; doubts = b; symbol = f; doubt = h }) l;
 }
 
--- The same in the customer's numbers. For seasons before 30 a doubt is 0 to 100, a wrong cell costs 200 less its doubt, the limits
--- have 100, and costs are 200 times the published distance.
+-- The same in the customer's numbers. For seasons before 30 a doubt is 0 to 100, a wrong cell costs 200 less its doubt, the
+-- limits have 100, and costs are 200 times the published distance.
 pub before-30 : (P : List ℕ) → Sound P → season P < 30 → InScale 100 200 P
 before-30 P S l = rw (full-before P l) at (in-scale P S)
 
