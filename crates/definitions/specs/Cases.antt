@@ -142,6 +142,13 @@ old = inSeason 0 29
 abbrev pub new : List ℕ → List ℕ
 new = inSeason 0 30
 
+-- the mark of 2 2 2 in four cells where it differs from that of 3 1 2, each in doubt 100, and the mark of 3 1 2 in the others
+abbrev photoBoth : List ℕ
+photoBoth = 6 ∷ 1 ∷ 5 ∷ 1 ∷ 3 ∷ 0 ∷ 5 ∷ 4 ∷ 1 ∷ []
+
+abbrev doubtsBoth : List ℕ
+doubtsBoth = sure 3 ++ replicate 4 100 ++ sure 2
+
 -- the marks of the same record by the oblong plans
 abbrev pub markWide : List ℕ
 markWide = 4 ∷ 1 ∷ 0 ∷ 6 ∷ 3 ∷ 2 ∷ []
@@ -224,10 +231,11 @@ oblongCases =
     ∷ []
 
 -- cases e to i in season 30, doubts in 250ths. In seasons 29 and 30 the same bytes: case c; case f, whose doubts of 100 are not
--- those of unread cells in season 30; a right mark with six doubts of 100; doubts of 101, of 250 and of 251; an unread cell with
--- the doubt 250; three wrong cells. An unread cell with the doubt 249 and 251. Seasons 65535, 256, whose low byte is 0, and 7680,
--- whose high byte is 30. Oblong marks on the radius and one under it. Strips read and measured, an unread cell's doubt in each
--- scale. Explaining: cases e and i, a far record, another record, and doubts of 250 and 251
+-- those of unread cells in season 30; a right mark with six doubts of 100; a photograph that is read as one record in season 29
+-- and as another in season 30; doubts of 101, of 250 and of 251; an unread cell with the doubt 250; three wrong cells. An unread
+-- cell with the doubt 249 and 251. Seasons 65535, 256, whose low byte is 0, and 7680, whose high byte is 30. Oblong marks one
+-- under the radius and on it. Strips read and measured, an unread cell's doubt in each scale. Explaining: cases e and i, a far
+-- record, another record, and a doubt of 251
 abbrev pub ageCases : List Case
 ageCases =
     (read oblong (new planA) photoD (1 ∷ 1 ∷ 1 ∷ sure 6) (nines 3) ⟹ gives 1497 3 3 0 1 leaving record₁)  -- e
@@ -241,6 +249,8 @@ ageCases =
     ∷ (read oblong (new planA) (hidden 5) (doubts 5) (nines 3) ⟹ only 8 leaving nines 3)
     ∷ (read oblong (old planA) mark₁ (doubts 6) (nines 3) ⟹ only 10 leaving nines 3)
     ∷ (read oblong (new planA) mark₁ (doubts 6) (nines 3) ⟹ gives 600 900 0 0 0 leaving record₁)
+    ∷ (read oblong (old planA) photoBoth doubtsBoth (nines 3) ⟹ gives 400 200 4 0 2 leaving record₁)
+    ∷ (read oblong (new planA) photoBoth doubtsBoth (nines 3) ⟹ gives 1400 100 2 0 1 leaving 2 ∷ 2 ∷ 2 ∷ [])
     ∷ (read oblong (old planA) mark₁ (doubted 101 1) (nines 3) ⟹ only 8 leaving nines 3)
     ∷ (read oblong (new planA) mark₁ (doubted 101 1) (nines 3) ⟹ gives 101 1399 0 0 0 leaving record₁)
     ∷ (measure oblong (old planA) mark₁ (doubted 250 1) record₁ ⟹ only 8 leaving record₁)
