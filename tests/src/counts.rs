@@ -2,7 +2,7 @@
 
 use crate::calls::{Arguments, Call, Outcome};
 use independent::plan::is_prime;
-use independent::{Code, Reason};
+use independent::{Code, Plan, Reading, Reason, FINER};
 use std::collections::BTreeMap;
 use std::fmt;
 
@@ -19,10 +19,8 @@ pub struct Counts {
     /// marks and strips read with changed and unread cells at once
     pub mixed_marks: u64,
     pub mixed_strips: u64,
-    /// photographs that cost R - 1, R and R + 1 against the mark that they are of
-    pub below: u64,
-    pub at: u64,
-    pub above: u64,
+    /// of seasons before 30, and from 30 on
+    pub ages: [Age; 2],
     /// marks and strips read by both of the independent methods
     pub twice: u64,
     /// plans found that others of their season stand behind, and of these unsound ones before sound ones
@@ -44,10 +42,67 @@ pub struct Counts {
     pub classes: [u64; 4],
 }
 
+/// What was seen of sound plans of one age.
+#[derive(Clone, Copy, Debug, Default)]
+pub struct Age {
+    pub calls: u64,
+    /// marks and strips read, or refused with 10
+    pub readings: u64,
+    /// photographs refused with 8
+    pub misdoubted: u64,
+    /// photographs that cost R - 1, R and R + 1 against the mark that they are of
+    pub around: [u64; 3],
+    /// the lowest margin and the highest
+    pub margins: [i32; 2],
+}
+
+/// The lowest margin of all and the highest, in each age.
+const MARGINS: [[i32; 2]; 2] = [[-49_600, 25_600], [-124_000, 64_000]];
+
+impl Age {
+    fn answer(&mut self, call: Call, reading: Reading) {
+        self.calls += 1;
+        self.readings += u64::from(call == Call::Read && matches!(reading.number, 0 | 10));
+        self.misdoubted += u64::from(reading.number == 8);
+        self.margin([reading.margin; 2]);
+    }
+
+    fn margin(&mut self, [low, high]: [i32; 2]) {
+        self.margins = [self.margins[0].min(low), self.margins[1].max(high)];
+    }
+
+    fn add(&mut self, other: &Age) {
+        self.calls += other.calls;
+        self.readings += other.readings;
+        self.misdoubted += other.misdoubted;
+        self.around.iter_mut().zip(other.around).for_each(|(sum, n)| *sum += n);
+        self.margin(other.margins);
+    }
+}
+
+impl fmt::Display for Age {
+    fn fmt(&self, f: &mut fmt::Formatter<'_>) -> fmt::Result {
+        let Age { calls, readings, misdoubted, around: [below, at, above], margins: [lowest, highest] } = self;
+        write!(
+            f,
+            "{calls} calls, {readings} readings, {misdoubted} times 8, cost R - 1, R, R + 1: {below} {at} {above}, \
+             margins {lowest} to {highest}"
+        )
+    }
+}
+
+/// Which of the two ages the season is of.
+fn age(season: u16) -> usize {
+    usize::from(season >= FINER)
+}
+
 impl Counts {
     pub fn answer(&mut self, call: Call, given: &Arguments, outcome: &Outcome) {
         let reading = outcome.reading;
         self.number(reading.number);
+        if !matches!(reading.number, 1..=5 | 13) {
+            self.ages[age(u16::from_be_bytes([given.plan[0], given.plan[1]]))].answer(call, reading);
+        }
         let mixed = u64::from(reading.changed > 0 && reading.unread > 0);
         match (call, given.code, reading.number) {
             (Call::Read, Code::Mark, 0 | 10) => {
@@ -84,10 +139,9 @@ impl Counts {
     }
 
     /// What a photograph costs against the mark that it is of.
-    pub fn cost(&mut self, cost: u32, radius: u32) {
-        self.below += u64::from(cost + 1 == radius);
-        self.at += u64::from(cost == radius);
-        self.above += u64::from(cost == radius + 1);
+    pub fn cost(&mut self, plan: &Plan, cost: u32, radius: u32) {
+        let around = [cost + 1 == radius, cost == radius, cost == radius + 1];
+        self.ages[age(plan.season)].around.iter_mut().zip(around).for_each(|(sum, seen)| *sum += u64::from(seen));
     }
 
     pub fn number(&mut self, number: u32) {
@@ -103,9 +157,7 @@ impl Counts {
         self.unlike += other.unlike;
         self.mixed_marks += other.mixed_marks;
         self.mixed_strips += other.mixed_strips;
-        self.below += other.below;
-        self.at += other.at;
-        self.above += other.above;
+        self.ages.iter_mut().zip(&other.ages).for_each(|(sum, age)| sum.add(age));
         self.twice += other.twice;
         self.first_of_several += other.first_of_several;
         self.unsound_first += other.unsound_first;
@@ -131,7 +183,11 @@ impl Counts {
             (self.unlike < 1_000, "fewer than 1,000 marks that are others with rows and columns exchanged"),
             (self.mixed_marks < 10_000, "fewer than 10,000 marks read with changed and unread cells"),
             (self.mixed_strips < 5_000, "fewer than 5,000 strips read with changed and unread cells"),
-            ([self.below, self.at, self.above].into_iter().any(|n| n < 5_000), "few costs around the radius"),
+            (self.few(500_000, |age| age.calls), "fewer than 500,000 calls of one age"),
+            (self.few(80_000, |age| age.readings), "fewer than 80,000 readings of one age"),
+            (self.few(10_000, |age| age.misdoubted), "fewer than 10,000 photographs of one age refused with 8"),
+            ((0..3).any(|k| self.few(5_000, |age| age.around[k])), "few costs around the radius in one age"),
+            (self.ages.map(|age| age.margins) != MARGINS, "not the lowest and the highest margin of each age"),
             (self.twice < 5_000, "few readings by both independent methods"),
             (self.first_of_several < 1_500, "fewer than 1,500 plans found before others of their season"),
             (self.unsound_first < 40, "fewer than 40 unsound plans found before sound ones of their season"),
@@ -153,6 +209,11 @@ impl Counts {
         .find_map(|(missing, what)| missing.then_some(what))
     }
 
+    /// Whether one of the ages has fewer than so many.
+    fn few(&self, least: u64, number: impl Fn(&Age) -> u64) -> bool {
+        self.ages.iter().any(|age| number(age) < least)
+    }
+
     /// Explanations by reason.
     pub fn explained(&self) -> [u64; 3] {
         let number = |k| self.reasons.iter().filter(|((_, reason), _)| *reason == k).map(|(_, n)| n).sum();
@@ -172,7 +233,8 @@ impl fmt::Display for Counts {
         write!(
             f,
             "{} calls, {} marks, {} of them oblong, {} strips; others exchanged: {}; changed and unread at once: {} {}; \
-             cost R - 1, R, R + 1: {} {} {}; both methods: {}; first of several plans: {}, unsound before sound: {}; \
+             before season 30: {}; from it on: {}; \
+             both methods: {}; first of several plans: {}, unsound before sound: {}; \
              widened: {}; reasons: {}; other at the first, the last, the latest cell: {} {} {}; excess 0, 1: {} {}; \
              numbers: {}; classes: {}",
             self.calls,
@@ -182,9 +244,8 @@ impl fmt::Display for Counts {
             self.unlike,
             self.mixed_marks,
             self.mixed_strips,
-            self.below,
-            self.at,
-            self.above,
+            self.ages[0],
+            self.ages[1],
             self.twice,
             self.first_of_several,
             self.unsound_first,

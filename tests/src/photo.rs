@@ -1,7 +1,8 @@
 //! Photographs of a mark or strip that cost a chosen sum, damaged in many ways.
 
 use crate::random::Random;
-use independent::{Code, Plan, FULL_DOUBT, UNREAD};
+use independent::{Code, Plan, UNREAD};
+use std::cmp::Ordering::{Equal, Greater, Less};
 
 #[derive(Clone, Debug)]
 pub struct Photo {
@@ -23,12 +24,12 @@ pub enum Place {
     Rival,
 }
 
-/// What a damaged cell costs.
+/// What a damaged cell costs, by the full doubt of the season.
 #[derive(Clone, Copy, Debug)]
 pub enum Harm {
-    /// sure errors: 200
+    /// sure errors: twice the full doubt
     Error,
-    /// unread, or of full doubt: 100
+    /// unread, or of full doubt
     Loss,
     /// some of both
     ErrorOrLoss,
@@ -36,9 +37,9 @@ pub enum Harm {
     Doubt,
     /// wrong with some doubt
     DoubtfulError,
-    /// doubts 0, 1, 50, 99, 100, right and wrong
+    /// doubts of 0, 1, half the full doubt, about 100 and about the full doubt, right and wrong
     Few,
-    /// anything from 0 to 200
+    /// anything from 0 to twice the full doubt
     Any,
 }
 
@@ -56,25 +57,43 @@ pub struct Damage {
 
 /// A photograph of the word that costs exactly so much against it, damaged in any way.
 pub fn photograph(plan: &Plan, word: &[u32], rival: &[u32], target: u32, random: &mut Random) -> Photo {
+    photograph_in(plan.full_doubt(), plan, word, rival, target, random)
+}
+
+/// The same with another full doubt than the season's.
+pub fn photograph_in(full: u32, plan: &Plan, word: &[u32], rival: &[u32], target: u32, random: &mut Random) -> Photo {
     let place = random.pick(&PLACES);
     let harm = random.pick(&HARMS);
     let damage = Damage { place, harm, towards_rival: random.one_in(2) };
-    damaged(plan, word, rival, target, damage, random)
+    damaged_in(full, plan, word, rival, target, damage, random)
 }
 
 /// A photograph of the word that costs exactly so much against it, damaged in this way.
 pub fn damaged(plan: &Plan, word: &[u32], rival: &[u32], target: u32, damage: Damage, random: &mut Random) -> Photo {
+    damaged_in(plan.full_doubt(), plan, word, rival, target, damage, random)
+}
+
+/// The same with another full doubt than the season's.
+fn damaged_in(
+    full: u32,
+    plan: &Plan,
+    word: &[u32],
+    rival: &[u32],
+    target: u32,
+    damage: Damage,
+    random: &mut Random,
+) -> Photo {
     let order = order(damage.place, plan.rows(), word, rival, random);
-    let costs = costs(&order, damage.harm, target, random);
+    let costs = costs(full, &order, damage.harm, target, random);
     let cell = |(cell, cost): (usize, u32)| {
         let wrong = match damage.towards_rival && rival[cell] != word[cell] {
             true => rival[cell],
             false => (word[cell] + random.between(1, plan.p - 1)) % plan.p,
         };
-        match cost {
-            FULL_DOUBT => (random.pick(&[UNREAD, UNREAD, word[cell], wrong]), FULL_DOUBT),
-            doubt if doubt < FULL_DOUBT => (word[cell], doubt),
-            _ => (wrong, 2 * FULL_DOUBT - cost),
+        match cost.cmp(&full) {
+            Less => (word[cell], cost),
+            Equal => (random.pick(&[UNREAD, UNREAD, word[cell], wrong]), full),
+            Greater => (wrong, 2 * full - cost),
         }
     };
     let (symbols, doubts) = costs.into_iter().enumerate().map(cell).unzip();
@@ -83,10 +102,11 @@ pub fn damaged(plan: &Plan, word: &[u32], rival: &[u32], target: u32, damage: Da
 
 /// A photograph of nothing: any symbols, some of them unread, and any doubts or none.
 pub fn noise(code: Code, plan: &Plan, random: &mut Random) -> Photo {
-    let most = random.pick(&[0, 1, 50, FULL_DOUBT]);
+    let full = plan.full_doubt();
+    let most = random.pick(&[0, 1, full / 2, 100, full]);
     let unread = random.between(2, 20) as usize;
     let cell = |_| match random.one_in(unread) {
-        true => (UNREAD, FULL_DOUBT),
+        true => (UNREAD, full),
         false => (random.between(0, plan.p - 1), random.between(0, most)),
     };
     let (symbols, doubts) = (0..code.cells(plan)).map(cell).unzip();
@@ -96,7 +116,7 @@ pub fn noise(code: Code, plan: &Plan, random: &mut Random) -> Photo {
 /// A photograph of which no cell was read.
 pub fn unread(code: Code, plan: &Plan) -> Photo {
     let cells = code.cells(plan);
-    Photo { symbols: vec![UNREAD; cells], doubts: vec![FULL_DOUBT; cells] }
+    Photo { symbols: vec![UNREAD; cells], doubts: vec![plan.full_doubt(); cells] }
 }
 
 /// Another record whose mark, or strip, is at a small distance: a multiple of a product of d factors (X - x) and (Y - y) more.
@@ -161,16 +181,17 @@ fn order(place: Place, rows: usize, word: &[u32], rival: &[u32], random: &mut Ra
     cells
 }
 
-/// What each cell costs, so that the sum is the target: by the harm, and where that is not enough up to 200 each.
-fn costs(order: &[usize], harm: Harm, target: u32, random: &mut Random) -> Vec<u32> {
+/// What each cell costs, so that the sum is the target: by the harm, and where that is not enough up to twice the full doubt
+/// each.
+fn costs(full: u32, order: &[usize], harm: Harm, target: u32, random: &mut Random) -> Vec<u32> {
     let mut costs = vec![0; order.len()];
     let mut left = target;
     for &cell in order {
-        costs[cell] = harm_cost(harm, random).min(left);
+        costs[cell] = harm_cost(full, harm, random).min(left);
         left -= costs[cell];
     }
     for &cell in order {
-        let more = (2 * FULL_DOUBT - costs[cell]).min(left);
+        let more = (2 * full - costs[cell]).min(left);
         costs[cell] += more;
         left -= more;
     }
@@ -178,14 +199,17 @@ fn costs(order: &[usize], harm: Harm, target: u32, random: &mut Random) -> Vec<u
     costs
 }
 
-fn harm_cost(harm: Harm, random: &mut Random) -> u32 {
+fn harm_cost(full: u32, harm: Harm, random: &mut Random) -> u32 {
     match harm {
-        Harm::Error => 200,
-        Harm::Loss => 100,
-        Harm::ErrorOrLoss => random.pick(&[100, 200]),
-        Harm::Doubt => random.between(1, 99),
-        Harm::DoubtfulError => random.between(101, 199),
-        Harm::Few => random.pick(&[0, 1, 50, 99, 100, 101, 150, 199, 200]),
-        Harm::Any => random.between(0, 200),
+        Harm::Error => 2 * full,
+        Harm::Loss => full,
+        Harm::ErrorOrLoss => random.pick(&[full, 2 * full]),
+        Harm::Doubt => random.between(1, full - 1),
+        Harm::DoubtfulError => random.between(full + 1, 2 * full - 1),
+        Harm::Few => {
+            let doubt = random.pick(&[0, 1, full / 2, 99, 100, 101, full - 1, full]).min(full);
+            random.pick(&[doubt, 2 * full - doubt])
+        }
+        Harm::Any => random.between(0, 2 * full),
     }
 }

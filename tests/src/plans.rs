@@ -45,6 +45,22 @@ pub fn shapes_of(p: u32) -> impl Iterator<Item = Shape> {
         .flat_map(move |(rows, columns)| (0..rows.min(columns)).map(move |d| (p, rows, columns, d)))
 }
 
+/// A season before 30 and one from 30 on, each often the first or the last of its age. The low byte of a later one may be that of
+/// an earlier season.
+pub fn seasons(random: &mut Random) -> [u16; 2] {
+    let earlier = random.between(0, 29);
+    let low = 256 * random.between(1, 255) + earlier;
+    let [soon, late] = [random.between(30, 255), random.between(256, 65_535)];
+    let seasons = [random.pick(&[0, 29, earlier, earlier]), random.pick(&[30, 65_535, soon, late, low])];
+    seasons.map(|season| season as u16)
+}
+
+/// Any season, of either age as often.
+pub fn season(random: &mut Random) -> u16 {
+    let seasons = seasons(random);
+    random.pick(&seasons)
+}
+
 /// A plan of that shape with any season and any points; of a square often with the same points each way, as every plan
 /// that was widened has them.
 pub fn plan(shape: Shape, random: &mut Random) -> Plan {
@@ -52,14 +68,14 @@ pub fn plan(shape: Shape, random: &mut Random) -> Plan {
     if rows == columns && random.one_in(2) {
         return square(p, rows, degree, random);
     }
-    let season = random.number() as u16;
+    let season = season(random);
     Plan { season, p, degree, row_points: points(p, rows, random), column_points: points(p, columns, random) }
 }
 
 /// A plan for a square with the same points each way.
 pub fn square(p: u32, n: usize, degree: usize, random: &mut Random) -> Plan {
     let points = points(p, n, random);
-    Plan { season: random.number() as u16, p, degree, row_points: points.clone(), column_points: points }
+    Plan { season: season(random), p, degree, row_points: points.clone(), column_points: points }
 }
 
 /// The plan of a square in the old form: season, p, n, d, points.

@@ -1,4 +1,4 @@
-//! The calls of document 01, for both codes.
+//! The calls of document 01, and those since, for both codes.
 
 use crate::code::Code;
 use crate::cost::{changed, class, cost, unread};
@@ -7,7 +7,7 @@ use crate::field::Field;
 use crate::mark;
 use crate::plan::{widened, Plan, OLD_PLAN, PLAN};
 use crate::strip::Strip;
-use crate::{Found, FULL_DOUBT, UNREAD};
+use crate::{Found, UNREAD};
 
 /// What measuring and reading answer. Of a refusal everything but the number is 0.
 #[derive(Clone, Copy, Debug, Default, PartialEq, Eq)]
@@ -184,7 +184,8 @@ pub fn by_equations(code: Code, plan: &Plan, symbols: &[u32], doubts: &[u32]) ->
     match code {
         Code::Strip => {
             let field = Field::new(plan.p);
-            let strip = Strip { field: &field, points: &plan.row_points, degree: plan.degree, full: FULL_DOUBT };
+            let Plan { row_points: points, degree, .. } = plan;
+            let strip = Strip { field: &field, points, degree: *degree, full: plan.full_doubt() };
             strip.nearest(symbols, doubts)
         }
         Code::Mark => mark::nearest(plan, symbols, doubts),
@@ -193,7 +194,7 @@ pub fn by_equations(code: Code, plan: &Plan, symbols: &[u32], doubts: &[u32]) ->
 
 fn reading(code: Code, plan: &Plan, record: &[u32], symbols: &[u32], doubts: &[u32]) -> Reading {
     let word = code.word(plan, record);
-    let cost = cost(FULL_DOUBT, symbols, doubts, &word);
+    let cost = cost(plan.full_doubt(), symbols, doubts, &word);
     let margin = code.radius(plan) as i32 - cost as i32;
     let changed = changed(symbols, &word);
     Reading { number: 0, cost, margin, changed, unread: unread(symbols), class: class(changed) }
@@ -206,7 +207,8 @@ fn check_photograph(code: Code, plan: &Plan, symbols: &[u8], doubts: &[u8], reco
     if numbers(symbols).iter().any(|&symbol| symbol >= plan.p && symbol != UNREAD) {
         return Err(7);
     }
-    let wrong = |(&symbol, &doubt): (&u32, &u32)| doubt > FULL_DOUBT || symbol == UNREAD && doubt != FULL_DOUBT;
+    let full = plan.full_doubt();
+    let wrong = |(&symbol, &doubt): (&u32, &u32)| doubt > full || symbol == UNREAD && doubt != full;
     if numbers(symbols).iter().zip(&numbers(doubts)).any(wrong) {
         return Err(8);
     }
@@ -241,30 +243,62 @@ pub fn bytes(numbers: &[u32]) -> Vec<u8> {
 mod tests {
     use super::*;
 
-    /// p 7, d 1, points 1 2 4 each way.
-    const PLAN_A: [u8; PLAN] = {
+    /// p 7, d 1, points 1 2 4 each way, of that season.
+    fn plan_a(season: u8) -> [u8; PLAN] {
         let mut plan = [0; PLAN];
-        [plan[2], plan[3], plan[4], plan[5]] = [7, 3, 3, 1];
-        [plan[6], plan[7], plan[8]] = [1, 2, 4];
-        [plan[22], plan[23], plan[24]] = [1, 2, 4];
+        plan[..9].copy_from_slice(&[0, season, 7, 3, 3, 1, 1, 2, 4]);
+        plan[22..25].copy_from_slice(&[1, 2, 4]);
         plan
-    };
+    }
 
     /// The reason that is given for a record of a mark whose doubts are all 0, and what is left of a buffer of 9s.
-    fn explained(record: [u8; 3], symbols: [u8; 9]) -> (Reason, [u8; 3]) {
+    fn explained(season: u8, record: [u8; 3], symbols: [u8; 9]) -> (Reason, [u8; 3]) {
         let mut other = [9; 3];
-        (explain(Code::Mark, &PLAN_A, &record, &symbols, &[0; 9], &mut other), other)
+        (explain(Code::Mark, &plan_a(season), &record, &symbols, &[0; 9], &mut other), other)
     }
 
     #[test]
     fn a_record_is_the_answer_or_another_is_or_none() {
         // the mark 6 1 5 0 2 6 2 4 1 of 3 + X + 2Y with two cells misread, and with three, which is the radius
         let (two, three) = ([0, 1, 5, 0, 2, 6, 2, 4, 0], [0, 0, 0, 0, 2, 6, 2, 4, 1]);
-        assert_eq!(explained([3, 1, 2], two), (Reason::answer(), [9; 3]));
-        assert_eq!(explained([2, 2, 2], two), (Reason::other(3), [3, 1, 2]));
-        assert_eq!(explained([0, 0, 0], two), (Reason::other(0), [3, 1, 2]));
-        assert_eq!(explained([3, 1, 2], three), (Reason::nothing(0), [9; 3]));
-        assert_eq!(explained([1, 0, 0], three), (Reason::nothing(1_000), [9; 3]));
-        assert_eq!(explained([3, 1, 7], three), (Reason::refused(9), [9; 3]));
+        for (season, five_wrong) in [(29, 1_000), (30, 2_500)] {
+            assert_eq!(explained(season, [3, 1, 2], two), (Reason::answer(), [9; 3]));
+            assert_eq!(explained(season, [2, 2, 2], two), (Reason::other(3), [3, 1, 2]));
+            assert_eq!(explained(season, [0, 0, 0], two), (Reason::other(0), [3, 1, 2]));
+            assert_eq!(explained(season, [3, 1, 2], three), (Reason::nothing(0), [9; 3]));
+            assert_eq!(explained(season, [1, 0, 0], three), (Reason::nothing(five_wrong), [9; 3]));
+            assert_eq!(explained(season, [3, 1, 7], three), (Reason::refused(9), [9; 3]));
+        }
+    }
+
+    /// The cost and the margin of a mark whose first cell is misread in doubt 1 and whose last has this symbol and doubt, or
+    /// the refusal.
+    fn measured(season: u8, symbol: u8, doubt: u8) -> Result<(u32, i32), u32> {
+        let (symbols, doubts) = ([0, 1, 5, 0, 2, 6, 2, 4, symbol], [1, 0, 0, 0, 0, 0, 0, 0, doubt]);
+        let reading = measure(Code::Mark, &plan_a(season), &[3, 1, 2], &symbols, &doubts);
+        let mut record = [9; 3];
+        assert_eq!(read(Code::Mark, &plan_a(season), &symbols, &doubts, &mut record), reading);
+        assert_eq!(record, if reading.number == 0 { [3, 1, 2] } else { [9; 3] });
+        match reading.number {
+            0 => Ok((reading.cost, reading.margin)),
+            number => Err(number),
+        }
+    }
+
+    #[test]
+    fn costs_and_refusal_8_go_by_the_season() {
+        // a right cell, a wrong one and an unread one
+        let (right, wrong, unread) = (1, 0, 255);
+        assert_eq!(measured(29, right, 100), Ok((299, 301)));
+        assert_eq!(measured(30, right, 100), Ok((599, 901)));
+        assert_eq!(measured(29, wrong, 99), Ok((300, 300)));
+        assert_eq!(measured(30, wrong, 99), Ok((900, 600)));
+        assert_eq!(measured(30, wrong, 249), Ok((750, 750)));
+        assert_eq!(measured(29, unread, 100), Ok((299, 301)));
+        assert_eq!(measured(30, unread, 250), Ok((749, 751)));
+        assert_eq!([101, 250, 251].map(|doubt| measured(29, right, doubt)), [Err(8); 3]);
+        assert_eq!([251, 255].map(|doubt| measured(30, right, doubt)), [Err(8); 2]);
+        assert_eq!([0, 99, 101, 250].map(|doubt| measured(29, unread, doubt)), [Err(8); 4]);
+        assert_eq!([0, 100, 249, 251].map(|doubt| measured(30, unread, doubt)), [Err(8); 4]);
     }
 }

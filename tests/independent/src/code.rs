@@ -2,7 +2,6 @@
 
 use crate::field::powers;
 use crate::plan::Plan;
-use crate::FULL_DOUBT;
 
 #[derive(Clone, Copy, Debug, PartialEq, Eq)]
 pub enum Code {
@@ -31,7 +30,7 @@ impl Code {
             Code::Strip => plan.rows() - plan.degree,
             Code::Mark => larger * (smaller - plan.degree),
         };
-        FULL_DOUBT * distance as u32
+        plan.full_doubt() * distance as u32
     }
 
     /// For each coefficient of a record the powers of X and Y that go with it.

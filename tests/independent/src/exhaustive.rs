@@ -3,7 +3,7 @@
 use crate::code::Code;
 use crate::cost::cost;
 use crate::plan::Plan;
-use crate::{Found, FULL_DOUBT};
+use crate::Found;
 
 /// The number of records of the plan, or none where it is above the limit.
 pub fn records(code: Code, plan: &Plan, limit: u64) -> Option<u64> {
@@ -21,6 +21,7 @@ pub fn records(code: Code, plan: &Plan, limit: u64) -> Option<u64> {
 pub fn within(code: Code, plan: &Plan, symbols: &[u32], doubts: &[u32]) -> Vec<Found> {
     let search = Search {
         p: plan.p,
+        full: plan.full_doubt(),
         radius: code.radius(plan),
         symbols,
         doubts,
@@ -38,6 +39,7 @@ fn unit(place: usize, size: usize) -> Vec<u32> {
 
 struct Search<'a> {
     p: u32,
+    full: u32,
     radius: u32,
     symbols: &'a [u32],
     doubts: &'a [u32],
@@ -49,7 +51,7 @@ impl Search<'_> {
     /// Tries every way to go on from the first coefficients, whose word is given.
     fn extend(&self, record: &mut Vec<u32>, word: &[u32], found: &mut Vec<Found>) {
         let Some(step) = self.steps.get(record.len()) else {
-            let cost = cost(FULL_DOUBT, self.symbols, self.doubts, word);
+            let cost = cost(self.full, self.symbols, self.doubts, word);
             if cost < self.radius {
                 found.push(Found { record: record.clone(), cost });
             }

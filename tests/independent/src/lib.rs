@@ -1,4 +1,4 @@
-//! Document 01, with what document 02 changes in it, once more, by other methods than those of the proved library: what
+//! Document 01, with all that was changed in it since, once more, by other methods than those of the proved library: what
 //! the tests hold it against.
 //!
 //! Small plans are read by going through all their records (`exhaustive`), others by Berlekamp and Welch's linear
@@ -16,13 +16,10 @@ pub mod strip;
 
 pub use calls::{check_plan, explain, find_plan, measure, read, widen_plans, write, Reading, Reason};
 pub use code::Code;
-pub use plan::{Plan, OLD_PLAN, PLAN};
+pub use plan::{Plan, FINER, OLD_PLAN, PLAN};
 
 /// The refusals in the order in which they are tested.
 pub const ORDER: [u32; 13] = [1, 2, 3, 13, 4, 5, 6, 7, 8, 9, 10, 11, 12];
-
-/// The doubt of a cell that says nothing.
-pub const FULL_DOUBT: u32 = 100;
 
 /// The symbol of an unread cell. It is no value, as p is at most 251.
 pub const UNREAD: u32 = 255;

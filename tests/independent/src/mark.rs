@@ -5,12 +5,12 @@ use crate::cost::cost;
 use crate::field::{power, Field};
 use crate::plan::Plan;
 use crate::strip::Strip;
-use crate::{Found, FULL_DOUBT, UNREAD};
+use crate::{Found, UNREAD};
 
 /// The record within the radius. The coefficients of Y^d, Y^(d - 1), ... are found in turn and subtracted; what comes
 /// out is measured against the photograph, since they come out for many words that have no answer. An oblong needs no
-/// other method: with r rows and c columns the coefficient of Y^j comes out below a cost of 100 (c - j)(r - d + j), and
-/// that is lowest at j = 0 or j = d, where the lower of c (r - d) and (c - d) r is the radius.
+/// other method: with r rows and c columns the coefficient of Y^j comes out below a cost of (c - j)(r - d + j) full doubts,
+/// and that is lowest at j = 0 or j = d, where the lower of c (r - d) and (c - d) r is the radius.
 pub fn nearest(plan: &Plan, symbols: &[u32], doubts: &[u32]) -> Option<Found> {
     let field = Field::new(plan.p);
     let mut left = symbols.to_vec();
@@ -21,7 +21,7 @@ pub fn nearest(plan: &Plan, symbols: &[u32], doubts: &[u32]) -> Option<Found> {
         columns[y_power] = column;
     }
     let record: Vec<u32> = Code::Mark.monomials(plan).into_iter().map(|(i, j)| columns[j][i]).collect();
-    let cost = cost(FULL_DOUBT, symbols, doubts, &Code::Mark.word(plan, &record));
+    let cost = cost(plan.full_doubt(), symbols, doubts, &Code::Mark.word(plan, &record));
     (cost < Code::Mark.radius(plan)).then_some(Found { record, cost })
 }
 
@@ -29,8 +29,8 @@ pub fn nearest(plan: &Plan, symbols: &[u32], doubts: &[u32]) -> Option<Found> {
 /// coefficients of the answers, with the answers' costs as doubts, are a strip over the row points. A row without an
 /// answer is unread there. The full doubt of that strip is the rows' radius, so no doubt is divided or rounded.
 fn y_coefficient(field: &Field, plan: &Plan, y_power: usize, left: &[u32], doubts: &[u32]) -> Option<Vec<u32>> {
-    let row = Strip { field, points: &plan.column_points, degree: y_power, full: FULL_DOUBT };
-    let full = FULL_DOUBT * (plan.columns() - y_power) as u32;
+    let row = Strip { field, points: &plan.column_points, degree: y_power, full: plan.full_doubt() };
+    let full = plan.full_doubt() * (plan.columns() - y_power) as u32;
     let (symbols, doubts): (Vec<u32>, Vec<u32>) = left
         .chunks(plan.columns())
         .zip(doubts.chunks(plan.columns()))

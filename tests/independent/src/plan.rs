@@ -6,6 +6,9 @@ pub const PLAN: usize = 40;
 /// The length of a plan of the old form.
 pub const OLD_PLAN: usize = 24;
 
+/// The first season whose doubts are in 250ths; those of earlier ones are in 100ths.
+pub const FINER: u16 = 30;
+
 /// A sound plan, taken apart.
 #[derive(Clone, Debug, PartialEq, Eq)]
 pub struct Plan {
@@ -57,6 +60,14 @@ impl Plan {
             }
         }
         bytes
+    }
+
+    /// The doubt of a cell that says nothing, as the season's cameras report it.
+    pub fn full_doubt(&self) -> u32 {
+        match self.season {
+            FINER.. => 250,
+            _ => 100,
+        }
     }
 
     pub fn rows(&self) -> usize {
@@ -118,6 +129,18 @@ mod tests {
         bytes[22..24].copy_from_slice(&[3, 4]);
         assert_eq!(plan.bytes(), bytes);
         assert_eq!(Plan::parse(&bytes), Ok(plan));
+    }
+
+    #[test]
+    fn the_full_doubt_goes_by_both_bytes_of_the_season() {
+        let full_doubt = |high: u8, low: u8| {
+            let mut bytes = [0; PLAN];
+            bytes[..6].copy_from_slice(&[high, low, 2, 1, 1, 0]);
+            Plan::parse(&bytes).map(|plan| plan.full_doubt())
+        };
+        assert!((0..30).all(|low| full_doubt(0, low) == Ok(100)));
+        assert!((30..=255).all(|low| full_doubt(0, low) == Ok(250)));
+        assert!((1..=255).all(|high| [0, 12, 29, 30, 255].map(|low| full_doubt(high, low)) == [Ok(250); 5]));
     }
 
     #[test]

@@ -5,7 +5,7 @@
 use independent::calls::{by_equations, bytes, numbers, SEARCHED};
 use independent::cost::cost;
 use independent::plan::is_prime;
-use independent::{exhaustive, Code, Plan, Reason, FULL_DOUBT};
+use independent::{exhaustive, Code, Plan, Reason};
 use traymark_tests::calls::{hold, Arguments, Call, Outcome};
 use traymark_tests::counts::Counts;
 use traymark_tests::library::outcome;
@@ -32,7 +32,7 @@ pub fn oblong(seed: u64, random: &mut Random, counts: &mut Counts) -> Result<(),
     let plan = plans::plan(shapes[seed as usize % shapes.len()], random);
     let radius = Code::Mark.radius(&plan);
     let cost = [radius - 1, radius, radius + 1][seed as usize / shapes.len()];
-    counts.cost(cost, radius);
+    counts.cost(&plan, cost, radius);
     costing(Code::Mark, &plan, Some(cost), random, counts)
 }
 
@@ -110,7 +110,7 @@ fn costing(
 /// What the photograph is to cost against the planted record: often at the radius or one beside it.
 fn target(code: Code, plan: &Plan, random: &mut Random, counts: &mut Counts) -> u32 {
     let radius = code.radius(plan);
-    let most = 2 * FULL_DOUBT * code.cells(plan) as u32;
+    let most = 2 * plan.full_doubt() * code.cells(plan) as u32;
     let cost = match random.below(16) {
         0..=3 => radius - 1,
         4..=5 => radius,
@@ -121,7 +121,7 @@ fn target(code: Code, plan: &Plan, random: &mut Random, counts: &mut Counts) -> 
         11 => random.between(radius - 10.min(radius), radius),
         _ => random.between(0, radius),
     };
-    counts.cost(cost, radius);
+    counts.cost(plan, cost, radius);
     cost
 }
 
@@ -175,7 +175,7 @@ fn theory(code: Code, plan: &Plan, photo: &Photo, words: &[&[u32]], outcome: &Ou
     let radius = code.radius(plan);
     let reading = outcome.reading;
     for word in words {
-        let cost = cost(FULL_DOUBT, &photo.symbols, &photo.doubts, word);
+        let cost = cost(plan.full_doubt(), &photo.symbols, &photo.doubts, word);
         let returned = reading.number == 0 && code.word(plan, &numbers(&outcome.buffer)) == *word;
         if cost < radius && !(returned && reading.cost == cost) {
             return Err(format!("a record costs {cost}, under the radius, and the reading is {outcome:?}"));

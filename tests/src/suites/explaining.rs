@@ -3,7 +3,7 @@
 
 use independent::calls::bytes;
 use independent::cost::cost;
-use independent::{Code, Plan, Reason, FULL_DOUBT};
+use independent::{Code, Plan, Reason};
 use traymark_tests::calls::{Arguments, Call, Outcome};
 use traymark_tests::counts::Counts;
 use traymark_tests::library::outcome;
@@ -79,7 +79,7 @@ fn expected_in_turn(
     let radius = code.radius(plan);
     for target in [random.below(radius as usize) as u32, radius - 1, radius, radius + 1] {
         let photo = photograph(plan, &words[0], &words[1], target, random);
-        let costs = words.each_ref().map(|word| cost(FULL_DOUBT, &photo.symbols, &photo.doubts, word));
+        let costs = words.each_ref().map(|word| cost(plan.full_doubt(), &photo.symbols, &photo.doubts, word));
         for (expected, costs, answer) in [(&record, costs, &rival), (&rival, [costs[1], costs[0]], &record)] {
             let Some(reason) = theory(radius, costs, place) else {
                 continue;

@@ -211,13 +211,18 @@ const FAULTS: &[&Fault] = &[
     fault!("last symbol p", "a symbol", 7, ON_PHOTO, |g, plan, _| *last(&mut g.symbols) = plan.p as u8),
     fault!("symbol 254", "a symbol", 7, ON_PHOTO, |g, _, r| *any(&mut g.symbols, r) = 254),
     fault!("symbol above p", "a symbol", 7, ON_PHOTO, |g, plan, r| *any(&mut g.symbols, r) = large(plan, r).min(254)),
-    fault!("doubt 101", "a doubt", 8, ON_PHOTO, |g, _, r| *any(&mut g.doubts, r) = 101),
-    fault!("first doubt 101", "a doubt", 8, ON_PHOTO, |g, _, _| g.doubts[0] = 101),
-    fault!("last doubt 101", "a doubt", 8, ON_PHOTO, |g, _, _| *last(&mut g.doubts) = 101),
-    fault!("doubt above 100", "a doubt", 8, ON_PHOTO, |g, _, r| *any(&mut g.doubts, r) = r.between(101, 255) as u8),
-    fault!("unread with doubt 99", "a doubt", 8, ON_PHOTO, |g, _, r| misdoubted(g, 99, r)),
+    fault!("doubt one above the full", "a doubt", 8, ON_PHOTO, |g, plan, r| *any(&mut g.doubts, r) = full(plan) + 1),
+    fault!("first doubt one above the full", "a doubt", 8, ON_PHOTO, |g, plan, _| g.doubts[0] = full(plan) + 1),
+    fault!("last doubt one above the full", "a doubt", 8, ON_PHOTO, |g, plan, _| *last(&mut g.doubts) = full(plan) + 1),
+    fault!("doubt above the full", "a doubt", 8, ON_PHOTO, |g, plan, r| *any(&mut g.doubts, r) = above_full(plan, r)),
+    fault!("doubt 251", "a doubt", 8, ON_PHOTO, |g, _, r| *any(&mut g.doubts, r) = 251),
+    fault!("doubt 255", "a doubt", 8, ON_PHOTO, |g, _, r| *any(&mut g.doubts, r) = 255),
+    fault!("unread one below the full doubt", "a doubt", 8, ON_PHOTO, |g, plan, r| misdoubted(g, full(plan) - 1, r)),
+    fault!("unread one above the full doubt", "a doubt", 8, ON_PHOTO, |g, plan, r| misdoubted(g, full(plan) + 1, r)),
+    fault!("unread below the full doubt", "a doubt", 8, ON_PHOTO, |g, plan, r| misdoubted(g, below_full(plan, r), r)),
     fault!("unread with doubt 0", "a doubt", 8, ON_PHOTO, |g, _, r| misdoubted(g, 0, r)),
-    fault!("unread with doubt 101", "a doubt", 8, ON_PHOTO, |g, _, r| misdoubted(g, 101, r)),
+    fault!("unread as in the other age", "a doubt", 8, ON_PHOTO, |g, plan, r| misdoubted(g, other_full(plan), r)),
+    fault!("all unread as in the other age", "a doubt", 8, ON_PHOTO, |g, plan, _| all_unread(g, other_full(plan))),
     fault!("coefficient p", "a coefficient", 9, GIVEN_RECORD, |g, plan, r| *any(&mut g.record, r) = plan.p as u8),
     fault!("first coefficient p", "a coefficient", 9, GIVEN_RECORD, |g, plan, _| g.record[0] = plan.p as u8),
     fault!("last coefficient p", "a coefficient", 9, GIVEN_RECORD, |g, plan, _| *last(&mut g.record) = plan.p as u8),
@@ -245,10 +250,37 @@ fn large(plan: &Plan, random: &mut Random) -> u8 {
     random.between(plan.p, 255) as u8
 }
 
+/// The full doubt of the plan's season, and that of the other age's.
+fn full(plan: &Plan) -> u8 {
+    plan.full_doubt() as u8
+}
+
+fn other_full(plan: &Plan) -> u8 {
+    match full(plan) {
+        100 => 250,
+        _ => 100,
+    }
+}
+
+/// Any doubt above the full one, and any below it.
+fn above_full(plan: &Plan, random: &mut Random) -> u8 {
+    random.between(plan.full_doubt() + 1, 255) as u8
+}
+
+fn below_full(plan: &Plan, random: &mut Random) -> u8 {
+    random.between(0, plan.full_doubt() - 1) as u8
+}
+
+/// An unread cell, and all of them, with that doubt.
 fn misdoubted(given: &mut Arguments, doubt: u8, random: &mut Random) {
     let cell = random.below(given.symbols.len());
     given.symbols[cell] = 255;
     given.doubts[cell] = doubt;
+}
+
+fn all_unread(given: &mut Arguments, doubt: u8) {
+    given.symbols.fill(255);
+    given.doubts.fill(doubt);
 }
 
 fn any<'a>(items: &'a mut [u8], random: &mut Random) -> &'a mut u8 {

@@ -4,7 +4,7 @@
 use independent::{check_plan, find_plan, PLAN};
 use traymark_tests::counts::Counts;
 use traymark_tests::library;
-use traymark_tests::plans::{plan, shapes};
+use traymark_tests::plans::{self, plan, shapes};
 use traymark_tests::random::Random;
 
 pub fn case(_: u64, random: &mut Random, counts: &mut Counts) -> Result<(), String> {
@@ -50,7 +50,7 @@ fn season(file: &[u8], random: &mut Random) -> u16 {
         0 if file.len() >= PLAN => two(random.below(file.len() / PLAN) * PLAN),
         1 if file.len() >= PLAN => two(random.below(file.len() / PLAN) * PLAN).swap_bytes(),
         2 if file.len() >= 2 => two(random.below(file.len() - 1)),
-        _ => random.number() as u16,
+        _ => plans::season(random),
     }
 }
 
@@ -66,7 +66,7 @@ pub fn placed(seed: u64, random: &mut Random, counts: &mut Counts) -> Result<(),
     let plans = PLANS[seed % 6];
     let first = [0, plans - 1, random.below(plans)][seed / 6 % 3];
     let sound = (seed / 18).is_multiple_of(2);
-    let season = random.number() as u16;
+    let season = plans::season(random);
     let made = |season: u16, sound: bool, random: &mut Random| {
         let mut bytes = plan(random.pick(shapes()), random).bytes();
         bytes[..2].copy_from_slice(&season.to_be_bytes());

@@ -38,18 +38,20 @@ fn of_any_length(code: Code, random: &mut Random) -> Arguments {
     Arguments { code, plan, record, symbols, doubts, mark, other }
 }
 
-/// Bytes near the bounds of p and of the doubts are frequent.
+/// Bytes near the bounds of p and of the doubts of either age are frequent; the others are mostly below p, doubts at most the
+/// full doubt.
 fn of_right_length(code: Code, sound: &Plan, plan: Vec<u8>, random: &mut Random) -> Arguments {
     let p = sound.p as u8;
-    let mut any = |length: usize| -> Vec<u8> {
+    let mut any = |length: usize, most: u32| -> Vec<u8> {
         let byte = |_| match random.below(16) {
-            0 => random.pick(&[0, p - 1, p, 99, 100, 101, 254, 255]),
+            0 => random.pick(&[0, p - 1, p, 99, 100, 101, 249, 250, 251, 254, 255]),
             1 => random.byte(),
-            _ => random.below(p.min(101).into()) as u8,
+            _ => random.between(0, most) as u8,
         };
         (0..length).map(byte).collect()
     };
     let (cells, size) = (code.cells(sound), code.size(sound));
-    let [record, symbols, doubts, mark, other] = [size, cells, cells, cells, size].map(&mut any);
+    let doubts = any(cells, sound.full_doubt());
+    let [record, symbols, mark, other] = [size, cells, cells, size].map(|length| any(length, sound.p - 1));
     Arguments { code, plan, record, symbols, doubts, mark, other }
 }
