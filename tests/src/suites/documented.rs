@@ -1,35 +1,23 @@
 //! Cases a to l of document 01, with unread cells counted apart from changed ones, the table of oblong marks, and some more
-//! whose answers were worked out by hand, explanations among them.
+//! whose answers were worked out by hand, explanations among them: all as they always were, in season 12 and in other seasons
+//! before 30.
 
-use independent::Code::{self, Mark, Strip};
-use independent::{Reading, Reason, PLAN};
+use super::rows::Why::{Answer, Nothing, Other, Refused};
+use super::rows::*;
+use independent::Code::{Mark, Strip};
 use std::array::from_fn;
 use std::ops::Range;
-use traymark_tests::calls::{hold, Arguments, Call, Outcome};
 use traymark_tests::counts::Counts;
 use traymark_tests::random::Random;
-use Why::{Answer, Nothing, Other, Refused};
 
 pub const CASES: u64 = 142;
-
-/// A call and its outcome as the document says it.
-struct Row {
-    call: Call,
-    given: Arguments,
-    outcome: Outcome,
-}
 
 pub fn case(seed: u64, random: &mut Random, counts: &mut Counts) -> Result<(), String> {
     let rows = rows();
     if rows.len() as u64 != CASES {
         return Err(format!("there are {} rows", rows.len()));
     }
-    let Row { call, given, outcome } = &rows[seed as usize];
-    let answer = hold(*call, given, random, counts)?;
-    if answer != *outcome {
-        return Err(format!("{call:?} gave {answer:?}, the document says {outcome:?}; {given:?}"));
-    }
-    Ok(())
+    rows[seed as usize].hold_at(&EARLIER, random, counts)
 }
 
 fn rows() -> Vec<Row> {
@@ -39,9 +27,6 @@ fn rows() -> Vec<Row> {
     rows.extend(explanations());
     rows
 }
-
-const MARK: [u8; 9] = [6, 1, 5, 0, 2, 6, 2, 4, 1];
-const SURE: [u8; 9] = [0; 9];
 
 /// Cases a to l.
 #[rustfmt::skip]
@@ -269,124 +254,7 @@ fn explanations() -> Vec<Row> {
     ]
 }
 
-/// A plan of season 12 with these rows, columns and d.
-fn fields(p: u8, [rows, columns, d]: [u8; 3], row_points: &[u8], column_points: &[u8]) -> Vec<u8> {
-    let mut plan = vec![0; PLAN];
-    plan[..6].copy_from_slice(&[0, 12, p, rows, columns, d]);
-    plan[6..6 + row_points.len()].copy_from_slice(row_points);
-    plan[22..22 + column_points.len()].copy_from_slice(column_points);
-    plan
-}
-
-/// The rows and columns are as many as their points.
-fn oblong(p: u8, d: u8, row_points: &[u8], column_points: &[u8]) -> Vec<u8> {
-    fields(p, [row_points.len() as u8, column_points.len() as u8, d], row_points, column_points)
-}
-
-/// A square with the same points each way.
-fn plan(p: u8, n: u8, d: u8, points: &[u8]) -> Vec<u8> {
-    fields(p, [n, n, d], points, points)
-}
-
-/// The plan with these values at these places.
-fn with(plan: &[u8], changes: &[(usize, u8)]) -> Vec<u8> {
-    let mut plan = plan.to_vec();
-    changes.iter().for_each(|&(place, value)| plan[place] = value);
-    plan
-}
-
-fn plan_a() -> Vec<u8> {
-    plan(7, 3, 1, &[1, 2, 4])
-}
-
-fn plan_w() -> Vec<u8> {
-    oblong(7, 1, &[1, 3], &[0, 2, 5])
-}
-
-fn plan_t() -> Vec<u8> {
-    oblong(7, 1, &[0, 2, 5], &[1, 3])
-}
-
-const SIXTEEN: [u8; 16] = [0, 1, 2, 3, 5, 8, 13, 21, 34, 55, 89, 144, 233, 240, 249, 250];
-
-/// p 251, sixteen points.
-fn plan_16(d: u8) -> Vec<u8> {
-    plan(251, 16, d, &SIXTEEN)
-}
-
 /// Symbols with some cells unread, and their doubts: 100 for these and 0 for the others.
-fn unread<const N: usize>(mut symbols: [u8; N], cells: Range<usize>) -> ([u8; N], [u8; N]) {
-    let mut doubts = [0; N];
-    symbols[cells.clone()].fill(255);
-    doubts[cells].fill(100);
-    (symbols, doubts)
-}
-
-/// Buffers are filled with 9s, so that "unchanged" is seen.
-fn nines(length: usize) -> Vec<u8> {
-    vec![9; length]
-}
-
-fn given(code: Code, plan: &[u8]) -> Arguments {
-    let [record, symbols, doubts, mark, other] = [const { Vec::new() }; 5];
-    Arguments { code, plan: plan.to_vec(), record, symbols, doubts, mark, other }
-}
-
-fn said([cost, margin, changed, unread, class]: [i32; 5]) -> Reading {
-    let [cost, changed, unread, class] = [cost, changed, unread, class].map(|number| number as u32);
-    Reading { number: 0, cost, margin, changed, unread, class }
-}
-
-fn check(plan: &[u8], number: u32) -> Row {
-    let outcome = Outcome::numbered(number, Vec::new());
-    Row { call: Call::Check, given: given(Code::Mark, plan), outcome }
-}
-
-fn write(code: Code, plan: &[u8], record: &[u8], room: usize, result: Result<&[u8], u32>) -> Row {
-    let outcome = match result {
-        Ok(mark) => Outcome::numbered(0, mark.to_vec()),
-        Err(number) => Outcome::numbered(number, nines(room)),
-    };
-    let given = Arguments { record: record.to_vec(), mark: nines(room), ..given(code, plan) };
-    Row { call: Call::Write, given, outcome }
-}
-
-/// The answer is D, margin, changed, unread and class.
-fn measure(code: Code, plan: &[u8], record: &[u8], symbols: &[u8], doubts: &[u8], answer: [i32; 5]) -> Row {
-    let outcome = Outcome::read(said(answer), Vec::new());
-    let [record, symbols, doubts] = [record, symbols, doubts].map(<[u8]>::to_vec);
-    Row { call: Call::Measure, given: Arguments { record, symbols, doubts, ..given(code, plan) }, outcome }
-}
-
-/// The record and its answer; or the refusal and the length of the buffer, which is then unchanged.
-type Said<'a> = Result<(&'a [u8], [i32; 5]), (u32, usize)>;
-
-fn read(code: Code, plan: &[u8], symbols: &[u8], doubts: &[u8], result: Said) -> Row {
-    let outcome = match result {
-        Ok((record, answer)) => Outcome::read(said(answer), record.to_vec()),
-        Err((number, room)) => Outcome::numbered(number, nines(room)),
-    };
-    let [symbols, doubts] = [symbols, doubts].map(<[u8]>::to_vec);
-    let record = nines(outcome.buffer.len());
-    Row { call: Call::Read, given: Arguments { record, symbols, doubts, ..given(code, plan) }, outcome }
-}
-
-/// What explaining says: of another answer its record and the place, of none the excess.
-enum Why<'a> {
-    Answer,
-    Other(&'a [u8], usize),
-    Nothing(u32),
-    Refused(u32),
-}
-
-fn explain(code: Code, plan: &[u8], record: &[u8], symbols: &[u8], doubts: &[u8], why: Why) -> Row {
-    let other = nines(record.len());
-    let outcome = match why {
-        Answer => Outcome::explained(Reason::answer(), other.clone()),
-        Other(record, place) => Outcome::explained(Reason::other(place), record.to_vec()),
-        Nothing(excess) => Outcome::explained(Reason::nothing(excess), other.clone()),
-        Refused(number) => Outcome::explained(Reason::refused(number), other.clone()),
-    };
-    let [record, symbols, doubts] = [record, symbols, doubts].map(<[u8]>::to_vec);
-    Row { call: Call::Explain, given: Arguments { record, symbols, doubts, other, ..given(code, plan) }, outcome }
+fn unread<const N: usize>(symbols: [u8; N], cells: Range<usize>) -> ([u8; N], [u8; N]) {
+    unread_in(100, symbols, cells)
 }

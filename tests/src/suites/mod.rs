@@ -1,5 +1,6 @@
 //! The suites. Each case is made from its seed alone.
 
+mod ages;
 mod coefficients;
 mod decoding;
 mod documented;
@@ -7,8 +8,10 @@ mod explaining;
 mod extremes;
 mod faults;
 mod files;
+mod finer;
 mod lengths;
 mod plans;
+mod rows;
 mod rubbish;
 mod swapped;
 mod widening;
@@ -20,6 +23,10 @@ pub fn all() -> Vec<Suite> {
     let shapes = shapes().len() as u64;
     vec![
         Suite { name: "documented", cases: documented::CASES, case: documented::case },
+        Suite { name: "finer", cases: finer::CASES, case: finer::case },
+        Suite { name: "pairs", cases: finer::PAIRS, case: finer::pair },
+        Suite { name: "every-season", cases: 256, case: finer::every_season },
+        Suite { name: "ages", cases: shapes, case: ages::case },
         Suite { name: "extremes", cases: extremes::shapes().len() as u64, case: extremes::case },
         Suite { name: "coefficients", cases: shapes_of(251).count() as u64, case: coefficients::case },
         Suite { name: "explaining", cases: shapes, case: explaining::case },
