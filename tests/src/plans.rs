@@ -93,6 +93,11 @@ pub fn season_12(p: u32, degree: usize, row_points: &[u32], column_points: &[u32
     Plan { season: 12, p, degree, row_points, column_points }.bytes().to_vec()
 }
 
+/// The bytes of a plan with another season.
+pub fn with_season(plan: &[u8], season: u16) -> Vec<u8> {
+    [&season.to_be_bytes(), &plan[2..]].concat()
+}
+
 /// Plan A of document 01: season 12, p 7, points 1 2 4 each way, d 1.
 pub fn plan_a() -> Vec<u8> {
     season_12(7, 1, &[1, 2, 4], &[1, 2, 4])

@@ -1,4 +1,4 @@
-//! Runs the program `trayread` over some 1,500 inputs, good and bad, and compares what it prints byte for byte; then looks at
+//! Runs the program `trayread` over some 1,800 inputs, good and bad, and compares what it prints byte for byte; then looks at
 //! its conduct.
 //!
 //! `program PATH`, where PATH is the program. A failure names the input; inputs are the same in every run.

@@ -1,16 +1,18 @@
-//! The inputs: document 01's cases with expected records and a few more, with what they print, worked out by hand, and others
-//! with what the independent decoder says.
+//! The inputs: document 01's cases with expected records and a few more, with what they print, worked out by hand, of seasons
+//! before 30 and from it on, and others with what the independent decoder says.
 
 use crate::printed::printed;
 use independent::calls::bytes;
 use independent::{Code, Plan, PLAN};
 use traymark_tests::photo::{agreeing, noise, photograph, rival, Photo};
-use traymark_tests::plans::{self, plan_a, season_12, Shape, LARGE_OBLONGS, LARGE_SQUARES};
+use traymark_tests::plans::{self, plan_a, season_12, with_season, Shape, LARGE_OBLONGS, LARGE_SQUARES};
 use traymark_tests::program::{all_lengths, changed, rubbish, Input};
 use traymark_tests::random::Random;
 
 pub fn inputs() -> Vec<Input> {
     let mut inputs = documented();
+    inputs.extend(in_two_seasons());
+    inputs.extend(largest());
     inputs.extend(half_trays());
     inputs.extend(lengths());
     inputs.extend(every_length());
@@ -71,6 +73,80 @@ fn documented() -> Vec<Input> {
     ]
 }
 
+/// Of the last season before 30, and of 30: the same cases with the doubts of each, and bytes that are told otherwise.
+#[rustfmt::skip]
+fn in_two_seasons() -> Vec<Input> {
+    let mark = [6, 1, 5, 0, 2, 6, 2, 4, 1];
+    let (three_wrong, two_marks) = ([0, 0, 0, 0, 2, 6, 2, 4, 1], [6, 1, 5, 1, 3, 0, 5, 4, 1]);
+    let (five, six) = ([255, 255, 255, 255, 255, 6, 2, 4, 1], [255, 255, 255, 255, 255, 255, 2, 4, 1]);
+    let four_doubts = [0, 0, 0, 100, 100, 100, 100, 0, 0];
+    let full = |cells: usize, doubt: u8| std::array::from_fn(|cell| if cell < cells { doubt } else { 0 });
+    let said = |season: u16, record: [u8; 3], symbols: [u8; 9], doubts: [u8; 9], printed: &str| {
+        let bytes = [&with_season(&plan_a(), season)[..], &record, &symbols, &doubts].concat();
+        Input::new(format!("season {season}, {record:?}, {symbols:?}, {doubts:?}"), bytes, printed)
+    };
+    let small = |season: u16, rest: [u8; 3], printed: &str| {
+        let bytes = [&with_season(&season_12(2, 0, &[0], &[0]), season)[..], &rest].concat();
+        Input::new(format!("season {season}, p 2, {rest:?}"), bytes, printed)
+    };
+    vec![
+        said(30, [3, 1, 2], mark, [0; 9], "ANSWER 0 1500\n"),
+        said(30, [2, 2, 2], mark, [0; 9], "OTHER 3\nRECORD 3 1 2\n"),
+        said(30, [3, 1, 2], three_wrong, [0; 9], "NONE 0\n"),
+        said(30, [2, 2, 2], three_wrong, [0; 9], "NONE 3000\n"),
+        said(30, [0, 0, 0], three_wrong, [0; 9], "NONE 1000\n"),
+        said(30, [3, 1, 2], three_wrong, full(3, 1), "ANSWER 1497 3\n"),
+        said(30, [3, 1, 2], five, full(5, 250), "ANSWER 1250 250\n"),
+        said(30, [3, 1, 3], five, full(5, 250), "OTHER 0\nRECORD 3 1 2\n"),
+        said(30, [3, 1, 2], six, full(6, 250), "NONE 0\n"),
+        said(268, [3, 1, 2], three_wrong, full(3, 1), "ANSWER 1497 3\n"),
+        said(7_680, [3, 1, 2], three_wrong, full(3, 1), "ANSWER 1497 3\n"),
+        said(65_535, [3, 1, 2], three_wrong, full(3, 1), "ANSWER 1497 3\n"),
+        small(30, [1, 1, 249], "ANSWER 249 1\n"),
+        small(30, [0, 1, 249], "OTHER 0\nRECORD 1\n"),
+        small(30, [1, 1, 250], "NONE 0\n"),
+        small(30, [1, 1, 251], "REFUSED 8\n"),
+        small(29, [1, 1, 99], "ANSWER 99 1\n"),
+        small(29, [1, 1, 101], "REFUSED 8\n"),
+        // six cells in doubt 100; one unread, with the full doubt of each season
+        said(29, [3, 1, 2], mark, full(6, 100), "NONE 0\n"),
+        said(30, [3, 1, 2], mark, full(6, 100), "ANSWER 600 900\n"),
+        said(29, [3, 1, 2], five, full(5, 100), "ANSWER 500 100\n"),
+        said(30, [3, 1, 2], five, full(5, 100), "REFUSED 8\n"),
+        said(29, [3, 1, 2], five, full(5, 250), "REFUSED 8\n"),
+        // one photograph of which another record is the answer
+        said(29, [3, 1, 2], two_marks, four_doubts, "ANSWER 400 200\n"),
+        said(30, [3, 1, 2], two_marks, four_doubts, "OTHER 3\nRECORD 2 2 2\n"),
+        said(29, [2, 2, 2], two_marks, four_doubts, "OTHER 3\nRECORD 3 1 2\n"),
+        said(30, [2, 2, 2], two_marks, four_doubts, "ANSWER 1400 100\n"),
+    ]
+}
+
+/// The largest numbers, of 16 by 16 cells with p 251: with d 0 all cells right, or one read, almost in full doubt; with d 15 all
+/// cells wrong, eight of them so that no record is the answer.
+fn largest() -> Vec<Input> {
+    let points: Vec<u32> = (0..16).collect();
+    let said = |season: u16, degree: usize, photo: [[u8; 256]; 2], record: u8, printed: &str| {
+        let plan = with_season(&season_12(251, degree, &points, &points), season);
+        let record = vec![record; (degree + 1) * (degree + 2) / 2];
+        Input::new(format!("season {season}, d {degree}, {printed}"), [plan, record, photo.concat()].concat(), printed)
+    };
+    let one_read = |full: u8| {
+        let mut photo = [[255; 256], [full; 256]];
+        (photo[0][77], photo[1][77]) = (250, full - 1);
+        photo
+    };
+    let eight_8s = [std::array::from_fn(|cell| if cell < 8 { 8 } else { 7 }), [0; 256]];
+    vec![
+        said(29, 0, [[250; 256], [0; 256]], 250, "ANSWER 0 25600\n"),
+        said(65_535, 0, [[250; 256], [0; 256]], 250, "ANSWER 0 64000\n"),
+        said(29, 0, one_read(100), 250, "ANSWER 25599 1\n"),
+        said(65_535, 0, one_read(250), 250, "ANSWER 63999 1\n"),
+        said(29, 15, eight_8s, 0, "NONE 49600\n"),
+        said(65_535, 15, eight_8s, 0, "NONE 124000\n"),
+    ]
+}
+
 /// 3 + X + 2Y with three rows and two columns, and with two rows and three columns, its mark clean. Another record has the same
 /// first row, the same first column, or no cell the same.
 fn half_trays() -> Vec<Input> {
@@ -128,7 +204,8 @@ fn asked(plan: &Plan, expected: &[u32], photo: &Photo) -> Vec<u8> {
     [plan.bytes().to_vec(), bytes(expected), bytes(&photo.symbols), bytes(&photo.doubts)].concat()
 }
 
-/// Case c with one byte changed; with another degree the plan is sound, and the count of bytes is wrong.
+/// Case c with one byte changed, and of a later season with another doubt; with another degree the plan is sound, and the count
+/// of bytes is wrong.
 fn unsound() -> Vec<Input> {
     let fields = [(38, 1, 1), (39, 9, 1), (2, 9, 2), (2, 252, 2), (2, 1, 2), (5, 3, 4), (5, 255, 4)];
     let sides = [(3, 0, 3), (3, 17, 3), (3, 8, 3), (3, 1, 4), (4, 0, 13), (4, 17, 13), (4, 8, 13), (4, 1, 4)];
@@ -136,45 +213,61 @@ fn unsound() -> Vec<Input> {
     let counts = [(3, 2, 5), (3, 4, 5), (4, 2, 5), (4, 4, 5), (5, 0, 6), (5, 2, 6)];
     let record = [(40, 7, 9), (41, 255, 9), (42, 8, 9)];
     let photo = [(43, 7, 7), (51, 254, 7), (52, 101, 8), (60, 255, 8), (43, 255, 8)];
-    changed("case c", &case_c(), &[&fields[..], &sides, &points, &counts, &record, &photo].concat())
+    let all = [&fields[..], &sides, &points, &counts, &record, &photo].concat();
+    let later = [(52, 251, 8), (60, 255, 8), (43, 255, 8)];
+    let season_30 = with_season(&case_c(), 30);
+    [changed("case c", &case_c(), &all), changed("case c, season 30", &season_30, &later)]
+        .into_iter()
+        .flatten()
+        .collect()
 }
 
-/// Large trays with one byte changed: the first and the last coefficient, symbol and doubt among them.
+/// Large trays of both ages with one byte changed: the first and the last coefficient, symbol and doubt among them.
 fn unsound_large() -> Vec<Input> {
     let plan = [(39, 1, 1), (2, 9, 2), (3, 17, 3), (4, 0, 13), (5, 16, 4), (6, 251, 5), (22, 251, 5)];
-    let large = |shape: &Shape| {
-        let (good, cells) = (clean(*shape), shape.1 * shape.2);
+    let large = |shape: &Shape, season: u16, above: u8| {
+        let (good, cells) = (with_season(&clean(*shape), season), shape.1 * shape.2);
         let doubts = good.len() - cells;
         let symbols = doubts - cells;
         let record = [(PLAN, 251, 9), (symbols - 1, 251, 9)];
-        let photo = [(symbols, 251, 7), (doubts - 1, 251, 7), (doubts, 101, 8), (good.len() - 1, 101, 8)];
-        changed(&format!("{shape:?}"), &good, &[&plan[..], &record, &photo].concat())
+        let photo = [(symbols, 251, 7), (doubts - 1, 251, 7), (doubts, above, 8), (good.len() - 1, above, 8)];
+        changed(&format!("{shape:?}, season {season}"), &good, &[&plan[..], &record, &photo].concat())
     };
-    [&LARGE_SQUARES[..], &LARGE_OBLONGS].concat().iter().flat_map(large).collect()
+    let of_both = |shape: &Shape| [large(shape, 29, 101), large(shape, 30, 251)];
+    [&LARGE_SQUARES[..], &LARGE_OBLONGS].concat().iter().flat_map(of_both).flatten().collect()
 }
 
-/// Photographs of all sizes whose cost is clean, around the radius, or anything below it, and of nothing; with the record
-/// itself expected, a rival of it, and any record.
+/// Photographs of all sizes and both ages whose cost is clean, around the radius, or anything below it, and of nothing; with the
+/// record itself expected, a rival of it, and any record.
 fn photographs() -> Vec<Input> {
     let mut inputs = Vec::new();
     for (k, shape) in plans::all_sizes().into_iter().enumerate() {
         let random = &mut Random::new(k as u64);
-        let radius = Code::Mark.radius(&plans::plan(shape, random));
-        for cost in [0, radius / 2, radius - 1, radius, radius + 1] {
-            let plan = plans::plan(shape, random);
-            let record = plans::record(Code::Mark, &plan, random);
-            let near = rival(Code::Mark, &plan, &record, random);
-            let any = plans::record(Code::Mark, &plan, random);
-            let words = [&record, &near].map(|record| Code::Mark.word(&plan, record));
-            let photo = photograph(&plan, &words[0], &words[1], cost, random);
-            for (j, expected) in [&record, &near, &any].into_iter().enumerate() {
-                let name = format!("{plan:?} at cost {cost}, {expected:?} expected");
-                inputs.push(Input { pieces: 1 + j % 2 * 4, ..input(name, asked(&plan, expected, &photo)) });
+        for j in 0..5 {
+            for season in plans::seasons(random) {
+                let plan = Plan { season, ..plans::plan(shape, random) };
+                let radius = Code::Mark.radius(&plan);
+                inputs.extend(expected(&plan, [0, radius / 2, radius - 1, radius, radius + 1][j], random));
             }
-            let nothing = noise(Code::Mark, &plan, random);
-            inputs.push(input(format!("{plan:?}, a photograph of nothing"), asked(&plan, &any, &nothing)));
         }
     }
+    inputs
+}
+
+/// The same of one plan and cost.
+fn expected(plan: &Plan, cost: u32, random: &mut Random) -> Vec<Input> {
+    let record = plans::record(Code::Mark, plan, random);
+    let near = rival(Code::Mark, plan, &record, random);
+    let any = plans::record(Code::Mark, plan, random);
+    let words = [&record, &near].map(|record| Code::Mark.word(plan, record));
+    let photo = photograph(plan, &words[0], &words[1], cost, random);
+    let mut inputs = Vec::new();
+    for (j, expected) in [&record, &near, &any].into_iter().enumerate() {
+        let name = format!("{plan:?} at cost {cost}, {expected:?} expected");
+        inputs.push(Input { pieces: 1 + j % 2 * 4, ..input(name, asked(plan, expected, &photo)) });
+    }
+    let nothing = noise(Code::Mark, plan, random);
+    inputs.push(input(format!("{plan:?}, a photograph of nothing"), asked(plan, &any, &nothing)));
     inputs
 }
 

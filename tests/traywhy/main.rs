@@ -1,4 +1,4 @@
-//! Runs the program `traywhy` over some 2,000 inputs, good and bad, and compares what it prints byte for byte; then looks at its
+//! Runs the program `traywhy` over some 2,900 inputs, good and bad, and compares what it prints byte for byte; then looks at its
 //! conduct.
 //!
 //! `explainer PATH`, where PATH is the program. A failure names the input; inputs are the same in every run.

@@ -84,10 +84,9 @@ fn alike(call: Call, given: &Arguments, random: &mut Random, counts: &mut Counts
 
 /// The arguments with a season of the one age and the doubts of the other.
 fn aged(given: &Arguments, [of_season, of_doubts]: [usize; 2], random: &mut Random) -> Arguments {
-    let mut given = given.clone();
-    given.plan[..2].copy_from_slice(&plans::seasons(random)[of_season].to_be_bytes());
-    given.doubts.iter_mut().for_each(|doubt| *doubt *= TIMES[of_doubts]);
-    given
+    let season = plans::seasons(random)[of_season];
+    let doubts = given.doubts.iter().map(|doubt| doubt * TIMES[of_doubts]).collect();
+    Arguments { plan: plans::with_season(&given.plan, season), doubts, ..given.clone() }
 }
 
 /// The outcome with its sums divided by so much.

@@ -6,6 +6,7 @@ use independent::{Reading, Reason, PLAN};
 use std::ops::Range;
 use traymark_tests::calls::{hold, Arguments, Call, Outcome};
 use traymark_tests::counts::Counts;
+use traymark_tests::plans::with_season;
 use traymark_tests::random::Random;
 use Why::{Answer, Nothing, Other, Refused};
 
@@ -31,9 +32,7 @@ impl Row {
 
     /// Its arguments with that season.
     pub fn at(&self, season: u16) -> Arguments {
-        let mut given = self.given.clone();
-        given.plan[..2].copy_from_slice(&season.to_be_bytes());
-        given
+        Arguments { plan: with_season(&self.given.plan, season), ..self.given.clone() }
     }
 
     /// The answer is the outcome that was written down.
