@@ -16,10 +16,11 @@
  *            the j-th column point, both counted from 0.
  *   strip    N = rows bytes: at i the polynomial's value modulo p for X the i-th row point. The plan is checked whole.
  *   symbols  N bytes of a photograph: each below p, or 255 for an unread cell.
- *   doubts   N bytes of a photograph: each 0 to 100, and exactly 100 where the cell is unread.
- *   cost     D, the sum over the cells: the doubt where the symbol is the record's value, else 200 less the doubt.
- *   radius   R, of a mark 100 * the larger side * (the smaller side - d), of a strip 100 * (rows - d). At most one record
- *            costs under R.
+ *   doubts   N bytes of a photograph: each 0 to the full doubt, and exactly that where the cell is unread. The full doubt F is
+ *            100 for plans of seasons before 30, and 250 for plans of season 30 and later.
+ *   cost     D, the sum over the cells: the doubt where the symbol is the record's value, else 2 * F less the doubt.
+ *   radius   R, of a mark F * the larger side * (the smaller side - d), of a strip F * (rows - d). At most one record costs
+ *            under R.
  *
  * Buffers
  *   A buffer is a pointer and a length, in that order. The pointer is not null and points to that many bytes; where the
@@ -41,7 +42,7 @@
  *       either set is not 0
  *    6  a lent buffer (symbols, doubts, record, another record, mark, strip or widened plans) has not its exact length
  *    7  a symbol is p or more and not 255
- *    8  a doubt is above 100, or that of an unread cell is not 100
+ *    8  a doubt is above the full doubt, or that of an unread cell is not the full doubt
  *    9  a coefficient of a given record is p or more
  *   10  reading only: no record costs under R
  *   11  the plan file's length is no multiple of 40; widening: more than 1,000 plans, or a length no multiple of 24
@@ -61,7 +62,8 @@ extern "C" {
 typedef struct {
     uint32_t number;  /* 0, or the refusal */
     uint32_t cost;    /* D */
-    int32_t margin;   /* R - D: from -49600 to 25600 for marks; above 0 where the record is within the radius */
+    int32_t margin;   /* R - D: for marks from -124000 to 64000, before season 30 from -49600 to 25600; above 0 where the
+                         record is within the radius */
     uint32_t changed; /* cells that were read and whose symbol is not the record's value */
     uint32_t unread;  /* cells that were not read, their symbol being 255; none of them is counted in changed */
     uint32_t class_;  /* by changed alone: 0 is class 0, 1 to 3 class 1, 4 to 15 class 2, 16 and more class 3 */
@@ -169,7 +171,7 @@ traymark_reason traymark_explain_mark(const uint8_t *plan, size_t plan_len,
                                       uint8_t *other, size_t other_len);
 
 /*
- * The same four for a strip, a cell for each row point: its record has d + 1 bytes and its radius is 100 * (rows - d).
+ * The same four for a strip, a cell for each row point: its record has d + 1 bytes and its radius is F * (rows - d).
  *
  * Writes the strip of a record.
  *
