@@ -3,6 +3,9 @@
 //! Plans, records, marks, strips and photographs are plain bytes; `include/traymark.h` says what each holds. A call
 //! that writes takes the buffer to write into, of the exact length; a refusal changes no byte of it.
 //!
+//! A doubt is 0 to the full doubt, which is 100 for plans of seasons before 30 and 250 for plans of season 30 and later; that
+//! of an unread cell is the full doubt.
+//!
 //! The package links `libtraymark.a` from the folder that the variable `TRAYMARK_LIB_DIR` names when it is built,
 //! else from the repository's `target/staticlib`, where `make lib` writes it.
 //!
@@ -44,7 +47,8 @@ pub const OLD_PLAN_LENGTH: usize = 24;
 /// What measuring and reading say of a record against a photograph. A cell is right, changed or unread.
 #[derive(Clone, Copy, Debug, PartialEq, Eq)]
 pub struct Reading {
-    /// D: the sum over the cells of the doubt where the symbol is the record's value, else of 200 less the doubt.
+    /// D: the sum over the cells of the doubt where the symbol is the record's value, else of twice the full doubt less the
+    /// doubt.
     pub cost: u32,
     /// The radius less the cost: above 0 exactly where the record is within the radius.
     pub margin: i32,

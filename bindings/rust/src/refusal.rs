@@ -64,7 +64,7 @@ impl Refusal {
             }
             Refusal::BufferLength => "a lent buffer has not its exact length",
             Refusal::Symbol => "a symbol is p or more and not 255",
-            Refusal::Doubt => "a doubt is above 100, or that of an unread cell is not 100",
+            Refusal::Doubt => "a doubt is above the full doubt, or that of an unread cell is not the full doubt",
             Refusal::Coefficient => "a coefficient of the given record is p or more",
             Refusal::NoRecord => "no record is within the radius",
             Refusal::FileLength => {

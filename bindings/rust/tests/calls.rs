@@ -1,6 +1,6 @@
-//! Each call through the wrapper: cases a, c and f of document 01, wrong and unread cells at once, strips, oblong marks, the
-//! three reasons, and a refusal of each call. Buffers that are to be written hold 9s before, so that it is seen when a refusal
-//! changes one.
+//! Each call through the wrapper: cases a, c and f of document 01, wrong and unread cells at once, strips, oblong marks, doubts
+//! in 250ths, the three reasons, and a refusal of each call. Buffers that are to be written hold 9s before, so that it is seen
+//! when a refusal changes one.
 
 use traymark::{Reading, Reason, Refusal, OLD_PLAN_LENGTH, PLAN_LENGTH};
 
@@ -35,6 +35,19 @@ const PHOTOS: [([u8; 9], [u8; 9], Reading); 4] = [
         [0, 0, 0, 100, 0, 0, 0, 0, 0],
         Reading { cost: 100, margin: 500, changed: 0, unread: 1, class: 0 },
     ),
+];
+
+/// Plan A in season 30, and photographs with doubts in 250ths: cases e and f, and a right cell in a doubt that earlier seasons
+/// don't have.
+const LATER_PLAN: [u8; PLAN_LENGTH] = plan([0, 30, 7, 3, 3, 1], [1, 2, 4], [1, 2, 4]);
+const LATER_PHOTOS: [([u8; 9], [u8; 9], Reading); 3] = [
+    (CASE_D, [1, 1, 1, 0, 0, 0, 0, 0, 0], Reading { cost: 1_497, margin: 3, changed: 3, unread: 0, class: 1 }),
+    (
+        CASE_F,
+        [250, 250, 250, 250, 250, 0, 0, 0, 0],
+        Reading { cost: 1_250, margin: 250, changed: 0, unread: 5, class: 0 },
+    ),
+    (MARK, [101, 0, 0, 0, 0, 0, 0, 0, 0], Reading { cost: 101, margin: 1_399, changed: 0, unread: 0, class: 0 }),
 ];
 
 /// Plan A with degree 0, and a strip of the record 5: its second cell is unread, its last wrong.
@@ -189,6 +202,39 @@ fn read_mark() {
         assert_eq!(traymark::read_mark(&PLAN, &symbols, &doubts, &mut record), Ok(reading));
         assert_eq!(record, RECORD);
     }
+}
+
+#[test]
+fn later_marks() {
+    for (symbols, doubts, reading) in LATER_PHOTOS {
+        let mut record = [9; 3];
+        assert_eq!(traymark::measure_mark(&LATER_PLAN, &RECORD, &symbols, &doubts), Ok(reading));
+        assert_eq!(traymark::read_mark(&LATER_PLAN, &symbols, &doubts, &mut record), Ok(reading));
+        assert_eq!(record, RECORD);
+        assert_eq!(traymark::explain_mark(&LATER_PLAN, &RECORD, &symbols, &doubts, &mut record), Ok(Reason::Answer));
+    }
+    let mut record = [9; 3];
+    let (symbols, unread_100, _) = PHOTOS[1];
+    assert_eq!(traymark::read_mark(&LATER_PLAN, &symbols, &unread_100, &mut record), Err(Refusal::Doubt));
+    assert_eq!(traymark::read_mark(&LATER_PLAN, &MARK, &[251; 9], &mut record), Err(Refusal::Doubt));
+    assert_eq!(traymark::read_mark(&PLAN, &MARK, &[101; 9], &mut record), Err(Refusal::Doubt));
+    assert_eq!(record, [9; 3]);
+    let reason = traymark::explain_mark(&LATER_PLAN, &[1, 0, 0], &CASE_D, &SURE, &mut record);
+    assert_eq!(reason, Ok(Reason::Nothing { excess: 2_500 }));
+}
+
+#[test]
+fn later_strips() {
+    let mut record = [9; 2];
+    let one_unread = Reading { cost: 250, margin: 250, changed: 0, unread: 1, class: 0 };
+    assert_eq!(traymark::read_strip(&LATER_PLAN, &[4, 5, 255], &[0, 0, 100], &mut record), Err(Refusal::Doubt));
+    assert_eq!(record, [9; 2]);
+    assert_eq!(traymark::read_strip(&LATER_PLAN, &[4, 5, 255], &[0, 0, 250], &mut record), Ok(one_unread));
+    assert_eq!(record, [3, 1]);
+    let beyond = Reading { cost: 1_050, margin: -550, changed: 2, unread: 0, class: 1 };
+    assert_eq!(traymark::measure_strip(&LATER_PLAN, &[0, 0], &[4, 5, 0], &[0, 0, 50]), Ok(beyond));
+    let reason = traymark::explain_strip(&LATER_PLAN, &[0, 0], &[4, 5, 1], &[0; 3], &mut record);
+    assert_eq!(reason, Ok(Reason::Nothing { excess: 1_000 }));
 }
 
 #[test]
