@@ -1,5 +1,5 @@
 /* The eleven calls from C: the layout of the answers, the cases of document 01, wrong and unread cells at once, oblong
-   marks and strips beside them, plans widened, the three reasons, and the refusals at empty buffers. */
+   marks and strips beside them, doubts in 250ths, plans widened, the three reasons, and the refusals at empty buffers. */
 #include <stdio.h>
 #include <stdlib.h>
 #include <string.h>
@@ -83,13 +83,19 @@ static int refused(traymark_reading r, uint32_t number)
     return r.number == number && r.cost == 0 && r.margin == 0 && r.changed == 0 && r.unread == 0 && r.class_ == 0;
 }
 
-/* reads a photograph under plan A into a record of 9s, and says whether it is the record of case a, or still the 9s */
-static traymark_reading read_a(const uint8_t symbols[9], const uint8_t doubts[9])
+/* reads a photograph under plan A, or plan A of another season, into a record of 9s, and says whether it is the record of
+   case a, or still the 9s */
+static traymark_reading read_by(const uint8_t plan[40], const uint8_t symbols[9], const uint8_t doubts[9])
 {
     uint8_t record[3] = {9, 9, 9};
-    traymark_reading r = traymark_read_mark(ALL(plan_a), symbols, 9, doubts, 9, ALL(record));
+    traymark_reading r = traymark_read_mark(plan, 40, symbols, 9, doubts, 9, ALL(record));
     EXPECT(memcmp(record, r.number == 0 ? record_a : (const uint8_t[3]){9, 9, 9}, 3) == 0);
     return r;
+}
+
+static traymark_reading read_a(const uint8_t symbols[9], const uint8_t doubts[9])
+{
+    return read_by(plan_a, symbols, doubts);
 }
 
 static void check_plan(void)
@@ -239,6 +245,55 @@ static void read_strips(void)
     EXPECT(record[0] == 5 && record[1] == 1);
 }
 
+/* a plan with another season */
+static void in_season(const uint8_t plan[40], uint16_t season, uint8_t changed[40])
+{
+    memcpy(changed, plan, 40);
+    changed[0] = (uint8_t)(season >> 8), changed[1] = (uint8_t)season;
+}
+
+/* seasons from 30 on, one with a low byte below 30, and one with a low byte of 0: doubts are in 250ths */
+static void read_later(void)
+{
+    const uint16_t seasons[4] = {30, 256 + 12, 30 * 256, 65535};
+    const uint8_t wrong_doubts[9] = {1, 1, 1}, doubt_250[9] = {250}, doubt_251[9] = {251}, one[1] = {1}, doubt[2] = {249, 250};
+    const uint8_t strip[3] = {4, 5, 255}, strip_doubts[3] = {0, 0, 250}, strip_100[3] = {0, 0, 100};
+    for (size_t k = 0; k < 4; k++) {
+        uint8_t plan[40], small[40], symbols[9], doubts[9] = {0}, record[2] = {9, 9};
+        in_season(plan_a, seasons[k], plan), in_season(plan_h, seasons[k], small);
+        EXPECT(is(read_by(plan, case_d, wrong_doubts), 1497, 3, 3, 0, 1)); /* e */
+        memcpy(symbols, mark_a, 9), memset(symbols, 255, 5), memset(doubts, 250, 5);
+        EXPECT(is(read_by(plan, symbols, doubts), 1250, 250, 0, 5, 0)); /* f */
+        symbols[5] = 255, doubts[5] = 250;
+        EXPECT(refused(read_by(plan, symbols, doubts), 10)); /* g */
+        doubts[5] = 100;
+        EXPECT(refused(read_by(plan, symbols, doubts), 8));
+        EXPECT(is(read_by(plan, mark_a, doubt_250), 250, 1250, 0, 0, 0));
+        EXPECT(refused(read_by(plan, mark_a, doubt_251), 8));
+        EXPECT(refused(traymark_read_mark(ALL(small), one, 1, doubt + 1, 1, record, 1), 10) && record[0] == 9); /* i */
+        EXPECT(is(traymark_read_mark(ALL(small), one, 1, doubt, 1, record, 1), 249, 1, 0, 0, 0) && record[0] == 1); /* h */
+        EXPECT(is(traymark_read_strip(ALL(plan), ALL(strip), ALL(strip_doubts), record, 2), 250, 250, 0, 1, 0));
+        EXPECT(record[0] == 3 && record[1] == 1);
+        EXPECT(refused(traymark_read_strip(ALL(plan), ALL(strip), ALL(strip_100), record, 2), 8));
+        EXPECT(is(traymark_measure_mark(ALL(plan), ALL(record_a), ALL(case_d), ALL(sure)), 1500, 0, 3, 0, 1)); /* k */
+    }
+}
+
+/* the same bytes in season 29 and in season 30 */
+static void two_seasons(void)
+{
+    /* six right cells in doubt 100; two cells of the mark of 3 1 2, sure, and four of that of 2 2 2, in doubt */
+    const uint8_t six[9] = {100, 100, 100, 100, 100, 100}, doubt_101[9] = {101};
+    const uint8_t two_marks[9] = {6, 1, 5, 1, 3, 0, 5, 4, 1}, four[9] = {0, 0, 0, 100, 100, 100, 100}, other[3] = {2, 2, 2};
+    uint8_t last[40], first[40], record[3] = {9, 9, 9};
+    in_season(plan_a, 29, last), in_season(plan_a, 30, first);
+    EXPECT(refused(read_by(last, mark_a, six), 10) && is(read_by(first, mark_a, six), 600, 900, 0, 0, 0));
+    EXPECT(refused(read_by(last, mark_a, doubt_101), 8) && is(read_by(first, mark_a, doubt_101), 101, 1399, 0, 0, 0));
+    EXPECT(is(read_by(last, two_marks, four), 400, 200, 4, 0, 2));
+    EXPECT(is(traymark_read_mark(ALL(first), ALL(two_marks), ALL(four), ALL(record)), 1400, 100, 2, 0, 1));
+    EXPECT(memcmp(record, other, 3) == 0);
+}
+
 /* whether these are the numbers of a reason; of a refusal all but the first are 0 */
 static int gives(traymark_reason r, uint32_t number, uint32_t reason, uint32_t place, uint32_t excess)
 {
@@ -360,6 +415,22 @@ static void explain_oblongs(void)
     EXPECT(memcmp(other, record_a, 3) == 0);
 }
 
+/* 16 by 16 cells from season 30 on: the highest margin, the lowest, as much as an answer costs, and the largest excess */
+static void largest(void)
+{
+    static const uint8_t zeros[256], points[16] = {0, 1, 2, 3, 4, 5, 6, 7, 8, 9, 10, 11, 12, 13, 14, 15};
+    uint8_t plan[40] = {0, 30, 251, 16, 16, 0}, symbols[256], doubts[256], record[136] = {9};
+    memcpy(plan + 6, points, 16), memcpy(plan + 22, points, 16);
+    memset(symbols, 7, 256), memset(doubts, 250, 256);
+    EXPECT(is(traymark_read_mark(ALL(plan), ALL(symbols), ALL(zeros), record, 1), 0, 64000, 0, 0, 0) && record[0] == 7);
+    EXPECT(refused(traymark_read_mark(ALL(plan), ALL(symbols), ALL(doubts), record, 1), 10));
+    memset(symbols + 1, 255, 255), doubts[0] = 249;
+    EXPECT(is(traymark_read_mark(ALL(plan), ALL(symbols), ALL(doubts), record, 1), 63999, 1, 0, 255, 0));
+    plan[5] = 15, memset(symbols, 8, 8), memset(symbols + 8, 7, 248);
+    EXPECT(is(traymark_measure_mark(ALL(plan), zeros, 136, ALL(symbols), ALL(zeros)), 128000, -124000, 256, 0, 3));
+    EXPECT(gives(traymark_explain_mark(ALL(plan), zeros, 136, ALL(symbols), ALL(zeros), ALL(record)), 0, 3, 0, 124000));
+}
+
 /* a mark of radius 300, its last cell misread as 4 and its first in doubt; a strip of as many cells as rows, its last cell in
    doubt 99 */
 static void oblong(const uint8_t plan[40], const uint8_t mark[6], const uint8_t *strip, size_t rows, int32_t strip_margin)
@@ -388,12 +459,15 @@ int main(void)
     write_and_measure();
     read_marks();
     read_strips();
+    read_later();
+    two_seasons();
     oblong(plan_w, mark_w, ALL(strip_w), 1);   /* the strip's radius is 100 */
     oblong(plan_t, mark_t, ALL(strip_t), 101); /* and here 200 */
     explain_marks();
     explain_strips();
     explain_refused();
     explain_oblongs();
+    largest();
     printf("calls.c: ok: %d tests\n", tests);
     return 0;
 }
