@@ -3,8 +3,8 @@
 //! points mostly differ each way, so that it shows where X takes a column point or Y a row point.
 
 use independent::field::power;
-use independent::{Code, Plan};
-use traymark_tests::calls::{Arguments, Call};
+use independent::{Code, Plan, Reading};
+use traymark_tests::calls::{Arguments, Call, Outcome};
 use traymark_tests::counts::Counts;
 use traymark_tests::library::outcome;
 use traymark_tests::plans;
@@ -39,13 +39,16 @@ fn alone(plan: &Plan, k: usize, j: usize, random: &mut Random, counts: &mut Coun
         other: random.bytes(record.len()),
     };
     let to_read = Arguments { record: random.bytes(record.len()), ..given.clone() };
-    for (call, given, buffer) in
-        [(Call::Write, &given, mark), (Call::Measure, &given, Vec::new()), (Call::Read, &to_read, record)]
-    {
+    let clean = Reading { margin: Code::Mark.radius(plan) as i32, ..Reading::default() };
+    for (call, given, expected) in [
+        (Call::Write, &given, Outcome::numbered(0, mark)),
+        (Call::Measure, &given, Outcome::read(clean, Vec::new())),
+        (Call::Read, &to_read, Outcome::read(clean, record)),
+    ] {
         let answer = outcome(call, given, random)?;
         counts.answer(call, given, &answer);
-        if answer.reading.number != 0 || answer.reading.cost != 0 || answer.buffer != buffer {
-            return Err(format!("{call:?} gave {answer:?}, expected {buffer:?}; {given:?}"));
+        if answer != expected {
+            return Err(format!("{call:?} gave {answer:?}, expected {expected:?}; {given:?}"));
         }
     }
     Ok(())

@@ -26,12 +26,14 @@ pub fn strip(seed: u64, random: &mut Random, counts: &mut Counts) -> Result<(), 
 /// How often the seeds go through all shapes of marks, each time at another cost.
 pub const COSTS: u64 = 3;
 
-/// Marks of every shape, at R - 1, R and R + 1.
+/// Marks of every shape, at R - 1, R and R + 1, before season 30 and from it on in turn.
 pub fn oblong(seed: u64, random: &mut Random, counts: &mut Counts) -> Result<(), String> {
     let shapes = plans::shapes();
-    let plan = plans::plan(shapes[seed as usize % shapes.len()], random);
+    let (shape, turn) = (seed as usize % shapes.len(), seed as usize / shapes.len());
+    let season = plans::seasons(random)[(shape + turn) % 2];
+    let plan = Plan { season, ..plans::plan(shapes[shape], random) };
     let radius = Code::Mark.radius(&plan);
-    let cost = [radius - 1, radius, radius + 1][seed as usize / shapes.len()];
+    let cost = [radius - 1, radius, radius + 1][turn];
     counts.cost(&plan, cost, radius);
     costing(Code::Mark, &plan, Some(cost), random, counts)
 }
