@@ -217,7 +217,8 @@ fn later_marks() {
     let (symbols, unread_100, _) = PHOTOS[1];
     assert_eq!(traymark::read_mark(&LATER_PLAN, &symbols, &unread_100, &mut record), Err(Refusal::Doubt));
     assert_eq!(traymark::read_mark(&LATER_PLAN, &MARK, &[251; 9], &mut record), Err(Refusal::Doubt));
-    assert_eq!(traymark::read_mark(&PLAN, &MARK, &[101; 9], &mut record), Err(Refusal::Doubt));
+    let last_earlier = plan([0, 29, 7, 3, 3, 1], [1, 2, 4], [1, 2, 4]);
+    assert_eq!(traymark::read_mark(&last_earlier, &MARK, &[101; 9], &mut record), Err(Refusal::Doubt));
     assert_eq!(record, [9; 3]);
     let reason = traymark::explain_mark(&LATER_PLAN, &[1, 0, 0], &CASE_D, &SURE, &mut record);
     assert_eq!(reason, Ok(Reason::Nothing { excess: 2_500 }));

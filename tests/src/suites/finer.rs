@@ -10,7 +10,7 @@ use traymark_tests::counts::Counts;
 use traymark_tests::library::outcome;
 use traymark_tests::random::Random;
 
-pub const CASES: u64 = 69;
+pub const CASES: u64 = 73;
 
 /// Rows of seasons from 30 on.
 pub fn case(seed: u64, random: &mut Random, counts: &mut Counts) -> Result<(), String> {
@@ -191,6 +191,11 @@ fn explanations() -> Vec<Row> {
         explain(Mark, &plan_16(0), &[0], &halves, &[0; 256], Nothing(64_000)),
         explain(Mark, &plan_16(15), &[0; 136], &eight_8s, &[0; 256], Nothing(124_000)),
         explain(Strip, &plan_16(15), &[0; 16], &[255; 16], &[250; 16], Nothing(3_750)),
+        // refusals: 7 before 8, and 8 before 9
+        explain(Mark, &a, &[3, 1, 7], &[7; 9], &[251; 9], Refused(7)),
+        explain(Mark, &a, &[3, 1, 7], &case_d, &[251; 9], Refused(8)),
+        explain(Mark, &a, &[3, 1, 7], &case_d, &[250; 9], Refused(9)),
+        explain(Strip, &a, &[3, 7], &[4, 5, 255], &[0, 0, 249], Refused(8)),
     ]
 }
 
