@@ -103,7 +103,7 @@ fn damaged_in(
 /// A photograph of nothing: any symbols, some of them unread, and any doubts or none.
 pub fn noise(code: Code, plan: &Plan, random: &mut Random) -> Photo {
     let full = plan.full_doubt();
-    let most = random.pick(&[0, 1, full / 2, 100, full]);
+    let most = random.pick(&[0, 1, full / 2, full]);
     let unread = random.between(2, 20) as usize;
     let cell = |_| match random.one_in(unread) {
         true => (UNREAD, full),

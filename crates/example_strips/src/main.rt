@@ -1,7 +1,7 @@
 // Photographed strips around the radius, read. Standard input is cases of 72 bytes: a plan, sixteen symbols, sixteen doubts, of
 // which as many count as the plan has rows, n. Each line says p, n and d, the number, the reading, and the record. The file stdin
-// has costs R - 1, R and R + 1, unread cells and doubts from 0 to the full doubt over several primes, in seasons of both scales;
-// the file stdout is what another decoder makes of it.
+// has costs R - 1, R and R + 1, unread cells and doubts from 0 to the full doubt over several primes, in seasons before 30 and
+// from 30 on; the file stdout is what another decoder makes of it.
 use traymark::read::traymark_read_strip;
 ghost use mathlib.Core.Path.{_≡_};
 ghost use lib.ListN.{length};
