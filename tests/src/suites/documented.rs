@@ -31,19 +31,14 @@ fn rows() -> Vec<Row> {
 /// Cases a to l.
 #[rustfmt::skip]
 fn lettered() -> Vec<Row> {
-    let plan_a = plan_a();
-    let plan_h = plan(2, 1, 0, &[0]);
-    let plan_j = plan(2, 2, 1, &[0, 1]);
-    let case_c = [0, 1, 5, 0, 2, 6, 2, 4, 0];
-    let case_d = [0, 0, 0, 0, 2, 6, 2, 4, 1];
-    let case_e = [1, 1, 1, 0, 0, 0, 0, 0, 0];
+    let (plan_a, plan_h, plan_j) = (plan_a(), plan_h(), plan_j());
     let (unread_5, unread_6) = (unread(MARK, 0..5), unread(MARK, 0..6));
     vec![
         write(Mark, &plan_a, &[3, 1, 2], 9, Ok(&MARK)), // a
         read(Mark, &plan_a, &MARK, &SURE, Ok((&[3, 1, 2], [0, 600, 0, 0, 0]))), // b
-        read(Mark, &plan_a, &case_c, &SURE, Ok((&[3, 1, 2], [400, 200, 2, 0, 1]))), // c
-        read(Mark, &plan_a, &case_d, &SURE, Err((10, 3))), // d
-        read(Mark, &plan_a, &case_d, &case_e, Ok((&[3, 1, 2], [597, 3, 3, 0, 1]))), // e
+        read(Mark, &plan_a, &CASE_C, &SURE, Ok((&[3, 1, 2], [400, 200, 2, 0, 1]))), // c
+        read(Mark, &plan_a, &CASE_D, &SURE, Err((10, 3))), // d
+        read(Mark, &plan_a, &CASE_D, &CASE_E, Ok((&[3, 1, 2], [597, 3, 3, 0, 1]))), // e
         read(Mark, &plan_a, &unread_5.0, &unread_5.1, Ok((&[3, 1, 2], [500, 100, 0, 5, 0]))), // f
         read(Mark, &plan_a, &unread_6.0, &unread_6.1, Err((10, 3))), // g
         read(Mark, &plan_h, &[1], &[99], Ok((&[1], [99, 1, 0, 0, 0]))), // h
@@ -51,7 +46,7 @@ fn lettered() -> Vec<Row> {
         read(Mark, &plan_j, &[1, 0, 0, 0], &[0; 4], Err((10, 3))), // j
         measure(Mark, &plan_j, &[0, 0, 0], &[1, 0, 0, 0], &[0; 4], [200, 0, 1, 0, 1]),
         measure(Mark, &plan_j, &[1, 1, 0], &[1, 0, 0, 0], &[0; 4], [200, 0, 1, 0, 1]),
-        measure(Mark, &plan_a, &[3, 1, 2], &case_d, &SURE, [600, 0, 3, 0, 1]), // k
+        measure(Mark, &plan_a, &[3, 1, 2], &CASE_D, &SURE, [600, 0, 3, 0, 1]), // k
         check(&plan(9, 3, 1, &[1, 2, 4]), 2), // l
         check(&plan(7, 3, 3, &[1, 2, 4]), 4),
         check(&plan(7, 3, 1, &[1, 1, 4]), 5),
@@ -188,30 +183,27 @@ fn more() -> Vec<Row> {
 #[rustfmt::skip]
 fn explanations() -> Vec<Row> {
     let (a, w, t) = (plan_a(), plan_w(), plan_t());
-    let (plan_h, plan_j) = (plan(2, 1, 0, &[0]), plan(2, 2, 1, &[0, 1]));
+    let (plan_h, plan_j) = (plan_h(), plan_j());
     let plan_d2 = plan(7, 3, 2, &[1, 2, 4]);
-    let case_c = [0, 1, 5, 0, 2, 6, 2, 4, 0];
-    let case_d = [0, 0, 0, 0, 2, 6, 2, 4, 1];
-    let case_e = [1, 1, 1, 0, 0, 0, 0, 0, 0];
     let (unread_5, unread_6) = (unread(MARK, 0..5), unread(MARK, 0..6));
     let halves = from_fn::<u8, 256, _>(|cell| if cell < 128 { 8 } else { 7 });
     let eight_8s = from_fn::<u8, 256, _>(|cell| if cell < 8 { 8 } else { 7 });
     vec![
         // case c: the answer; the same first row, the same first column, the same diagonal, another first cell
-        explain(Mark, &a, &[3, 1, 2], &case_c, &SURE, Answer),
-        explain(Mark, &a, &[2, 2, 2], &case_c, &SURE, Other(&[3, 1, 2], 3)),
-        explain(Mark, &a, &[1, 1, 4], &case_c, &SURE, Other(&[3, 1, 2], 1)),
-        explain(Mark, &a, &[3, 2, 1], &case_c, &SURE, Other(&[3, 1, 2], 1)),
-        explain(Mark, &a, &[0, 0, 0], &case_c, &SURE, Other(&[3, 1, 2], 0)),
+        explain(Mark, &a, &[3, 1, 2], &CASE_C, &SURE, Answer),
+        explain(Mark, &a, &[2, 2, 2], &CASE_C, &SURE, Other(&[3, 1, 2], 3)),
+        explain(Mark, &a, &[1, 1, 4], &CASE_C, &SURE, Other(&[3, 1, 2], 1)),
+        explain(Mark, &a, &[3, 2, 1], &CASE_C, &SURE, Other(&[3, 1, 2], 1)),
+        explain(Mark, &a, &[0, 0, 0], &CASE_C, &SURE, Other(&[3, 1, 2], 0)),
         // the first coefficient is the answer's, or the last two are
-        explain(Mark, &a, &[3, 0, 0], &case_c, &SURE, Other(&[3, 1, 2], 0)),
-        explain(Mark, &a, &[4, 1, 2], &case_c, &SURE, Other(&[3, 1, 2], 0)),
+        explain(Mark, &a, &[3, 0, 0], &CASE_C, &SURE, Other(&[3, 1, 2], 0)),
+        explain(Mark, &a, &[4, 1, 2], &CASE_C, &SURE, Other(&[3, 1, 2], 0)),
         // case d costs the radius, case e three less
-        explain(Mark, &a, &[3, 1, 2], &case_d, &SURE, Nothing(0)),
-        explain(Mark, &a, &[0, 0, 0], &case_d, &SURE, Nothing(400)),
-        explain(Mark, &a, &[1, 0, 0], &case_d, &SURE, Nothing(1_000)),
-        explain(Mark, &a, &[3, 1, 2], &case_d, &case_e, Answer),
-        explain(Mark, &a, &[0, 0, 0], &case_d, &case_e, Other(&[3, 1, 2], 0)),
+        explain(Mark, &a, &[3, 1, 2], &CASE_D, &SURE, Nothing(0)),
+        explain(Mark, &a, &[0, 0, 0], &CASE_D, &SURE, Nothing(400)),
+        explain(Mark, &a, &[1, 0, 0], &CASE_D, &SURE, Nothing(1_000)),
+        explain(Mark, &a, &[3, 1, 2], &CASE_D, &CASE_E, Answer),
+        explain(Mark, &a, &[0, 0, 0], &CASE_D, &CASE_E, Other(&[3, 1, 2], 0)),
         // cases f and g: five cells unread, and six
         explain(Mark, &a, &[3, 1, 2], &unread_5.0, &unread_5.1, Answer),
         explain(Mark, &a, &[2, 2, 2], &unread_5.0, &unread_5.1, Other(&[3, 1, 2], 3)),
@@ -248,8 +240,8 @@ fn explanations() -> Vec<Row> {
         // refusals: 6 before 7, then 7, 8 and 9; never 10
         explain(Mark, &a, &[3, 1], &[7; 9], &SURE, Refused(6)),
         explain(Mark, &a, &[3, 1, 7], &[7; 9], &[101; 9], Refused(7)),
-        explain(Mark, &a, &[3, 1, 7], &case_d, &[101; 9], Refused(8)),
-        explain(Mark, &a, &[3, 1, 7], &case_d, &SURE, Refused(9)),
+        explain(Mark, &a, &[3, 1, 7], &CASE_D, &[101; 9], Refused(8)),
+        explain(Mark, &a, &[3, 1, 7], &CASE_D, &SURE, Refused(9)),
         explain(Strip, &with(&t, &[(4, 17)]), &[3, 1], &[3, 5, 1], &[0; 3], Refused(13)),
     ]
 }

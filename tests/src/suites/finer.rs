@@ -56,20 +56,15 @@ pub fn every_season(seed: u64, random: &mut Random, counts: &mut Counts) -> Resu
 /// Cases a to l of document 01.
 #[rustfmt::skip]
 fn lettered() -> Vec<Row> {
-    let plan_a = plan_a();
-    let plan_h = plan(2, 1, 0, &[0]);
-    let plan_j = plan(2, 2, 1, &[0, 1]);
-    let case_c = [0, 1, 5, 0, 2, 6, 2, 4, 0];
-    let case_d = [0, 0, 0, 0, 2, 6, 2, 4, 1];
-    let case_e = [1, 1, 1, 0, 0, 0, 0, 0, 0];
+    let (plan_a, plan_h, plan_j) = (plan_a(), plan_h(), plan_j());
     let (unread_5, unread_6) = (unread(MARK, 0..5), unread(MARK, 0..6));
     let wrong_and_unread = unread([0, 1, 5, 0, 2, 6, 2, 4, 1], 1..2);
     vec![
         write(Mark, &plan_a, &[3, 1, 2], 9, Ok(&MARK)), // a
         read(Mark, &plan_a, &MARK, &SURE, Ok((&[3, 1, 2], [0, 1_500, 0, 0, 0]))), // b
-        read(Mark, &plan_a, &case_c, &SURE, Ok((&[3, 1, 2], [1_000, 500, 2, 0, 1]))), // c
-        read(Mark, &plan_a, &case_d, &SURE, Err((10, 3))), // d
-        read(Mark, &plan_a, &case_d, &case_e, Ok((&[3, 1, 2], [1_497, 3, 3, 0, 1]))), // e
+        read(Mark, &plan_a, &CASE_C, &SURE, Ok((&[3, 1, 2], [1_000, 500, 2, 0, 1]))), // c
+        read(Mark, &plan_a, &CASE_D, &SURE, Err((10, 3))), // d
+        read(Mark, &plan_a, &CASE_D, &CASE_E, Ok((&[3, 1, 2], [1_497, 3, 3, 0, 1]))), // e
         read(Mark, &plan_a, &unread_5.0, &unread_5.1, Ok((&[3, 1, 2], [1_250, 250, 0, 5, 0]))), // f
         read(Mark, &plan_a, &unread_6.0, &unread_6.1, Err((10, 3))), // g
         read(Mark, &plan_h, &[1], &[249], Ok((&[1], [249, 1, 0, 0, 0]))), // h
@@ -77,7 +72,7 @@ fn lettered() -> Vec<Row> {
         read(Mark, &plan_j, &[1, 0, 0, 0], &[0; 4], Err((10, 3))), // j
         measure(Mark, &plan_j, &[0, 0, 0], &[1, 0, 0, 0], &[0; 4], [500, 0, 1, 0, 1]),
         measure(Mark, &plan_j, &[1, 1, 0], &[1, 0, 0, 0], &[0; 4], [500, 0, 1, 0, 1]),
-        measure(Mark, &plan_a, &[3, 1, 2], &case_d, &SURE, [1_500, 0, 3, 0, 1]), // k
+        measure(Mark, &plan_a, &[3, 1, 2], &CASE_D, &SURE, [1_500, 0, 3, 0, 1]), // k
         check(&plan(9, 3, 1, &[1, 2, 4]), 2), // l
         check(&plan(7, 3, 3, &[1, 2, 4]), 4),
         check(&plan(7, 3, 1, &[1, 1, 4]), 5),
@@ -175,13 +170,12 @@ fn around_16_bits() -> Vec<Row> {
 #[rustfmt::skip]
 fn explanations() -> Vec<Row> {
     let (a, w) = (plan_a(), plan_w());
-    let plan_h = plan(2, 1, 0, &[0]);
-    let case_d = [0, 0, 0, 0, 2, 6, 2, 4, 1];
+    let plan_h = plan_h();
     let halves = from_fn::<u8, 256, _>(|cell| if cell < 128 { 8 } else { 7 });
     let eight_8s = from_fn::<u8, 256, _>(|cell| if cell < 8 { 8 } else { 7 });
     vec![
         // cases d, h and i
-        explain(Mark, &a, &[1, 0, 0], &case_d, &SURE, Nothing(2_500)),
+        explain(Mark, &a, &[1, 0, 0], &CASE_D, &SURE, Nothing(2_500)),
         explain(Mark, &plan_h, &[0], &[1], &[249], Other(&[1], 0)),
         explain(Mark, &plan_h, &[0], &[1], &[250], Nothing(0)),
         // one beyond the radius
@@ -193,8 +187,8 @@ fn explanations() -> Vec<Row> {
         explain(Strip, &plan_16(15), &[0; 16], &[255; 16], &[250; 16], Nothing(3_750)),
         // refusals: 7 before 8, and 8 before 9
         explain(Mark, &a, &[3, 1, 7], &[7; 9], &[251; 9], Refused(7)),
-        explain(Mark, &a, &[3, 1, 7], &case_d, &[251; 9], Refused(8)),
-        explain(Mark, &a, &[3, 1, 7], &case_d, &[250; 9], Refused(9)),
+        explain(Mark, &a, &[3, 1, 7], &CASE_D, &[251; 9], Refused(8)),
+        explain(Mark, &a, &[3, 1, 7], &CASE_D, &[250; 9], Refused(9)),
         explain(Strip, &a, &[3, 7], &[4, 5, 255], &[0, 0, 249], Refused(8)),
     ]
 }
@@ -202,13 +196,12 @@ fn explanations() -> Vec<Row> {
 /// One pair for each of reading, measuring and explaining, marks and strips, and for each way in which the ages differ.
 fn telling() -> Vec<Pair> {
     let a = plan_a();
-    let case_d = [0, 0, 0, 0, 2, 6, 2, 4, 1];
     let six_doubts = [100, 100, 100, 100, 100, 100, 0, 0, 0];
     vec![
         // six right cells in doubt 100: 600 of 600, and of 1,500
         read_pair(Mark, &a, &MARK, &six_doubts, Err((10, 3)), Ok((&[3, 1, 2], [600, 900, 0, 0, 0]))),
-        measure_pair(Mark, &a, &[3, 1, 2], &case_d, &SURE, [600, 0, 3, 0, 1], [1_500, 0, 3, 0, 1]),
-        explain_pair(Mark, &a, &[0, 0, 0], &case_d, &SURE, Nothing(400), Nothing(1_000)),
+        measure_pair(Mark, &a, &[3, 1, 2], &CASE_D, &SURE, [600, 0, 3, 0, 1], [1_500, 0, 3, 0, 1]),
+        explain_pair(Mark, &a, &[0, 0, 0], &CASE_D, &SURE, Nothing(400), Nothing(1_000)),
         // two right cells in doubt 100: 200 of 200, and of 500
         read_pair(Strip, &a, &[4, 5, 0], &[100, 100, 0], Err((10, 2)), Ok((&[3, 1], [200, 300, 0, 0, 0]))),
         measure_pair(Strip, &a, &[3, 1], &[4, 5, 1], &[0; 3], [200, 0, 1, 0, 1], [500, 0, 1, 0, 1]),

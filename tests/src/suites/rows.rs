@@ -48,6 +48,11 @@ impl Row {
 pub const MARK: [u8; 9] = [6, 1, 5, 0, 2, 6, 2, 4, 1];
 pub const SURE: [u8; 9] = [0; 9];
 
+/// The photographs of cases c and d, and the doubts of case e.
+pub const CASE_C: [u8; 9] = [0, 1, 5, 0, 2, 6, 2, 4, 0];
+pub const CASE_D: [u8; 9] = [0, 0, 0, 0, 2, 6, 2, 4, 1];
+pub const CASE_E: [u8; 9] = [1, 1, 1, 0, 0, 0, 0, 0, 0];
+
 /// A plan of season 12 with these rows, columns and d.
 pub fn fields(p: u8, [rows, columns, d]: [u8; 3], row_points: &[u8], column_points: &[u8]) -> Vec<u8> {
     let mut plan = vec![0; PLAN];
@@ -76,6 +81,14 @@ pub fn with(plan: &[u8], changes: &[(usize, u8)]) -> Vec<u8> {
 
 pub fn plan_a() -> Vec<u8> {
     plan(7, 3, 1, &[1, 2, 4])
+}
+
+pub fn plan_h() -> Vec<u8> {
+    plan(2, 1, 0, &[0])
+}
+
+pub fn plan_j() -> Vec<u8> {
+    plan(2, 2, 1, &[0, 1])
 }
 
 pub fn plan_w() -> Vec<u8> {
