@@ -14,7 +14,7 @@ use lib.ListN.{length}
 use Rattle.bounded.specs.Bounded.{at}
 use Rattle.distance.specs.Cost.{hamming}
 use Rattle.definitions.specs.Code.{Code, cells, value}
-use Rattle.definitions.specs.Cost.{full, radius}
+use Rattle.definitions.specs.Cost.{radius}
 use Rattle.definitions.specs.Calls.{costOf, changedOf, unreadOf, readingOf}
 use Rattle.definitions.specs.Photograph.{Photograph}
 use Rattle.definitions.proofs.Sound.{cells-most}

@@ -13,7 +13,7 @@ use lib.ListN.{length}
 use borrow.Author.Tests.{lt-ltb, le-ltb}
 use Rattle.definitions.specs.Refusals.{first, accepted}
 use Rattle.definitions.specs.Code.{Code, size, IsRecord}
-use Rattle.definitions.specs.Cost.{full, radius}
+use Rattle.definitions.specs.Cost.{radius}
 use Rattle.definitions.specs.Calls as calls
 use Rattle.definitions.specs.Calls.{photoRows, costOf, within, the, readingOf, readReading, readBuffer, readNumber}
 use Rattle.definitions.specs.Photograph.{Photograph}

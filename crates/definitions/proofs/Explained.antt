@@ -17,7 +17,7 @@ use Rattle.bounded.proofs.Index.{index-before, index-holds, index-within}
 use Rattle.definitions.specs.declared.Reason.{Reason}
 use Rattle.definitions.specs.declared.Reason.the-variants.{Answer, Other, Nothing}
 use Rattle.definitions.specs.Code.{Code, cells, IsRecord}
-use Rattle.definitions.specs.Cost.{full, radius}
+use Rattle.definitions.specs.Cost.{radius}
 use Rattle.definitions.specs.Sound.{Sound}
 use Rattle.definitions.specs.Calls.{costOf, nearest, readReading, readBuffer}
 use Rattle.definitions.specs.Explaining.{differingPlace, explainReason, explainBuffer, valuesOf}

@@ -24,7 +24,7 @@ use Rattle.definitions.specs.declared.Reason.the-variants.{Refused, Answ
 use Rattle.definitions.specs.Refusals.{accepted}
 use Rattle.definitions.specs.Plan.{modulus}
 use Rattle.definitions.specs.Code.{Code, size, IsRecord}
-use Rattle.definitions.specs.Cost.{full, radius}
+use Rattle.definitions.specs.Cost.{radius}
 use Rattle.definitions.specs.Calls.{costOf, within, nearest, the}
 use Rattle.definitions.specs.Explaining.{explainNumber, explainReason, explainBuffer}
 use Rattle.definitions.specs.Explaining.{different, differingPlace, reasonFor, leaves}

@@ -22,7 +22,7 @@ use Rattle.definitions.specs.declared.Reading.{Reading}
 use Rattle.definitions.specs.Refusals.{Refusal, _when_, first, accepted}
 use Rattle.definitions.specs.Plan.{modulus, planRows}
 use Rattle.definitions.specs.Code.{Code, size, IsRecord}
-use Rattle.definitions.specs.Cost.{full, radius}
+use Rattle.definitions.specs.Cost.{radius}
 use Rattle.definitions.specs.Calls.{photoRows, refused, costOf, readingOf, within, nearest, missing, the}
 use Rattle.definitions.specs.Calls.{readRows, readNumber, readReading, readBuffer}
 use Rattle.definitions.specs.Reads.{Reads}

@@ -18,7 +18,7 @@ use Rattle.bounded.specs.Bounded.{at, index}
 use Rattle.definitions.specs.declared.Reading.{Reading}
 use Rattle.definitions.specs.declared.Reason.the-variants.{Nothing}
 use Rattle.definitions.specs.Code.{Code, mark}
-use Rattle.definitions.specs.Cost.{full, radius}
+use Rattle.definitions.specs.Cost.{radius}
 use Rattle.definitions.specs.Calls.{costOf, readingOf}
 use Rattle.definitions.specs.Accepted.{Expecting}
 use Rattle.definitions.specs.Sound.{Sound}

@@ -7,7 +7,7 @@ ghost use mathlib.Core.Path.{_≡_};
 ghost use mathlib.Core.List.{List};
 ghost use Prim.Native.Nat.{ℕ};
 ghost use Rattle.definitions.specs.Code.{codeOf, IsRecord, mark as markOf};
-ghost use Rattle.definitions.specs.Cost.{full, radius as radiusOf};
+ghost use Rattle.definitions.specs.Cost.{radius as radiusOf};
 ghost use Rattle.definitions.specs.Calls.{readingOf};
 ghost use Rattle.definitions.specs.Photograph.{Photograph};
 ghost use Rattle.definitions.specs.Accepted.{Writing};

@@ -30,7 +30,7 @@ use Rattle.polynomial.proofs.Record.{value-strip}
 use Rattle.polynomial.proofs.Known.{value-strip-is, value-cell}
 use Rattle.definitions.specs.Plan.{modulus, rows, columns, side, degree, rowPoint, point}
 use Rattle.definitions.specs.Code.{strip, oblong, cells, value, mark, IsRecord}
-use Rattle.definitions.specs.Cost.{full, radius}
+use Rattle.definitions.specs.Cost.{radius}
 use Rattle.definitions.proofs.Plan.{strip-size, mark-size}
 use Rattle.plan.specs.declared.Plan.{Plan}
 use Rattle.plan.specs.Says.{Says}
