@@ -46,7 +46,7 @@ use Rattle.definitions.specs.Code.{oblong}
 use Rattle.definitions.specs.Demands.{Written}
 use Rattle.polynomial.specs.Record.{valueXY}
 use Rattle.definitions.specs.Cases.{gives, planWide, planTall, markWide, markTall, record₁}
-use Rattle.definitions.specs.Cases.{planA, mark₁, photoC, photoD, hidden, doubted, doubts, nines, new}
+use Rattle.definitions.specs.Cases.{planA, mark₁, photoC, photoD, hidden, doubted, doubts, nines, season30}
 
 pub cases-hold : map effect (map call cases) ≡ map expected cases
 unfolding effect
@@ -137,14 +137,14 @@ reading season others = 82 ∷ 69 ∷ 65 ∷ 68 ∷ 32 ∷ season ++ others ++ 1
 abbrev caseC : List ℕ
 caseC = 32 ∷ 50 ∷ 32 ∷ 48 ∷ 32 ∷ 49 ∷ 32 ∷ 52 ∷ 48 ∷ 48 ∷ 32 ∷ 50 ∷ 48 ∷ 48 ∷ []
 
-abbrev newC : List ℕ
-newC = 32 ∷ 50 ∷ 32 ∷ 48 ∷ 32 ∷ 49 ∷ 32 ∷ 49 ∷ 48 ∷ 48 ∷ 48 ∷ 32 ∷ 53 ∷ 48 ∷ 48 ∷ []
+abbrev finerC : List ℕ
+finerC = 32 ∷ 50 ∷ 32 ∷ 48 ∷ 32 ∷ 49 ∷ 32 ∷ 49 ∷ 48 ∷ 48 ∷ 48 ∷ 32 ∷ 53 ∷ 48 ∷ 48 ∷ []
 
 abbrev caseF : List ℕ
 caseF = 32 ∷ 48 ∷ 32 ∷ 53 ∷ 32 ∷ 48 ∷ 32 ∷ 53 ∷ 48 ∷ 48 ∷ 32 ∷ 49 ∷ 48 ∷ 48 ∷ []
 
-abbrev newF : List ℕ
-newF = 32 ∷ 48 ∷ 32 ∷ 53 ∷ 32 ∷ 48 ∷ 32 ∷ 49 ∷ 50 ∷ 53 ∷ 48 ∷ 32 ∷ 50 ∷ 53 ∷ 48 ∷ []
+abbrev finerF : List ℕ
+finerF = 32 ∷ 48 ∷ 32 ∷ 53 ∷ 32 ∷ 48 ∷ 32 ∷ 49 ∷ 50 ∷ 53 ∷ 48 ∷ 32 ∷ 50 ∷ 53 ∷ 48 ∷ []
 
 abbrev oblongClean : List ℕ
 oblongClean = 32 ∷ 48 ∷ 32 ∷ 48 ∷ 32 ∷ 48 ∷ 32 ∷ 48 ∷ 32 ∷ 51 ∷ 48 ∷ 48 ∷ []
@@ -157,12 +157,12 @@ refusal number = 82 ∷ 69 ∷ 70 ∷ 85 ∷ 83 ∷ 69 ∷ 68 ∷ 32 ∷ number 
 pub text-cases :
     map trayText (
     (planA ++ photoC ++ sure 9) ∷ (set planA 0 1 ++ photoC ++ sure 9) ∷ (planA ++ hidden 5 ++ doubts 5)
-    ∷ (new planA ++ hidden 5 ++ doubted 250 5)
+    ∷ (season30 planA ++ hidden 5 ++ doubted 250 5)
     ∷ (planA ++ photoD ++ sure 9) ∷ (planA ++ photoC ++ sure 8) ∷ (planA ++ photoC ++ sure 10) ∷ drop 1 planA
     ∷ (set planWide 4 0 ++ markWide) ∷ [] ∷ (planWide ++ markWide ++ sure 6) ∷ (planTall ++ markTall ++ sure 6) ∷ []
     )
-    ≡ reading (49 ∷ 50 ∷ []) caseC ∷ reading (50 ∷ 54 ∷ 56 ∷ []) newC ∷ reading (49 ∷ 50 ∷ []) caseF
-    ∷ reading (51 ∷ 48 ∷ []) newF
+    ≡ reading (49 ∷ 50 ∷ []) caseC ∷ reading (50 ∷ 54 ∷ 56 ∷ []) finerC ∷ reading (49 ∷ 50 ∷ []) caseF
+    ∷ reading (51 ∷ 48 ∷ []) finerF
     ∷ refusal (49 ∷ 48 ∷ []) ∷ refusal (54 ∷ []) ∷ refusal (54 ∷ []) ∷ refusal (49 ∷ [])
     ∷ refusal (49 ∷ 51 ∷ []) ∷ refusal (49 ∷ []) ∷ reading (49 ∷ 50 ∷ []) oblongClean ∷ reading (49 ∷ 50 ∷ []) oblongClean ∷ []
 unfolding effect trayReading trayRecord decimal signed spaced costs readLine recordLine numberLine answerText trayText

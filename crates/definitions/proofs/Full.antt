@@ -3,7 +3,7 @@
 --   full-before, full-from   it is 100 before season 30, and 250 from season 30 on
 --   full-some, full-most     so it is above 0, and at most 250
 --
--- What this file is for: every other law of costs is for any full doubt; these alone look at which it is. Assumes nothing.
+-- What this file is for: the laws of costs and limits are for any full doubt; these say what it is. Assumes nothing.
 use mathlib.Core.Path.{_≡_}
 use mathlib.Core.Logic.{_⊎_, inl, inr}
 use mathlib.Core.List.{List}

@@ -34,7 +34,6 @@ use Rattle.definitions.specs.Calls.{measureNumber, measureReading, readN
 use Rattle.definitions.specs.Cases.{effect}
 use Rattle.definitions.specs.Photograph.{Photograph, sure}
 use Rattle.definitions.specs.Demands.{InRange, Reached, MarkMargins}
-use Rattle.definitions.proofs.Sound.{sound}
 use Rattle.definitions.proofs.Accepted.{accepted-measuring, accepted-reading}
 
 -- the low end is 0 or below
@@ -121,7 +120,7 @@ widest y d = 0 ∷ y ∷ 17 ∷ 16 ∷ 16 ∷ d ∷ tab 16 (λ i. i) ++ tab 16 (
 -- measured without doubts
 reached : {Y : ℕ → Type 0} {z : ℤ} (P s F : List ℕ) → Y (season P) → measureNumber oblong P s (sure 256) F ≡ 0 →
     measureReading oblong P s (sure 256) F .margin ≡ z → Reached Y z
-reached P s F y a m = record { P = P; of = y; s = s; u = sure 256; F = F; accepted = a; margin = m }
+reached P s F y a m = record { P = P; inSeasons = y; s = s; u = sure 256; F = F; accepted = a; margin = m }
 
 pub lowest-before : Reached (λ y. y < 30) (negℤ (pos 49600))
 unfolding widest effect

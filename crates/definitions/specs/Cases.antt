@@ -136,11 +136,11 @@ abbrev pub inSeason : (high low : ℕ) → List ℕ → List ℕ
 inSeason high low P = high ∷ low ∷ drop 2 P
 
 -- plans of season 29, the last with doubts in 100ths, and of season 30, the first with 250ths
-abbrev pub old : List ℕ → List ℕ
-old = inSeason 0 29
+abbrev season29 : List ℕ → List ℕ
+season29 = inSeason 0 29
 
-abbrev pub new : List ℕ → List ℕ
-new = inSeason 0 30
+abbrev pub season30 : List ℕ → List ℕ
+season30 = inSeason 0 30
 
 -- the mark of 2 2 2 in four cells where it differs from that of 3 1 2, each in doubt 100, and the mark of 3 1 2 in the others
 abbrev photoBoth : List ℕ
@@ -238,44 +238,44 @@ oblongCases =
 -- record, another record, and a doubt of 251
 abbrev pub ageCases : List Case
 ageCases =
-    (read oblong (new planA) photoD (1 ∷ 1 ∷ 1 ∷ sure 6) (nines 3) ⟹ gives 1497 3 3 0 1 leaving record₁)  -- e
-    ∷ (read oblong (new planA) (hidden 5) (doubted 250 5) (nines 3) ⟹ gives 1250 250 0 5 0 leaving record₁)  -- f
-    ∷ (read oblong (new planA) (hidden 6) (doubted 250 6) (nines 3) ⟹ only 10 leaving nines 3)  -- g
-    ∷ (read oblong (new planH) (1 ∷ []) (249 ∷ []) (nines 1) ⟹ gives 249 1 0 0 0 leaving 1 ∷ [])  -- h
-    ∷ (read oblong (new planH) (1 ∷ []) (250 ∷ []) (nines 1) ⟹ only 10 leaving nines 1)  -- i
-    ∷ (read oblong (old planA) photoC (sure 9) (nines 3) ⟹ gives 400 200 2 0 1 leaving record₁)
-    ∷ (read oblong (new planA) photoC (sure 9) (nines 3) ⟹ gives 1000 500 2 0 1 leaving record₁)
-    ∷ (read oblong (old planA) (hidden 5) (doubts 5) (nines 3) ⟹ gives 500 100 0 5 0 leaving record₁)
-    ∷ (read oblong (new planA) (hidden 5) (doubts 5) (nines 3) ⟹ only 8 leaving nines 3)
-    ∷ (read oblong (old planA) mark₁ (doubts 6) (nines 3) ⟹ only 10 leaving nines 3)
-    ∷ (read oblong (new planA) mark₁ (doubts 6) (nines 3) ⟹ gives 600 900 0 0 0 leaving record₁)
-    ∷ (read oblong (old planA) photoBoth doubtsBoth (nines 3) ⟹ gives 400 200 4 0 2 leaving record₁)
-    ∷ (read oblong (new planA) photoBoth doubtsBoth (nines 3) ⟹ gives 1400 100 2 0 1 leaving 2 ∷ 2 ∷ 2 ∷ [])
-    ∷ (read oblong (old planA) mark₁ (doubted 101 1) (nines 3) ⟹ only 8 leaving nines 3)
-    ∷ (read oblong (new planA) mark₁ (doubted 101 1) (nines 3) ⟹ gives 101 1399 0 0 0 leaving record₁)
-    ∷ (measure oblong (old planA) mark₁ (doubted 250 1) record₁ ⟹ only 8 leaving record₁)
-    ∷ (measure oblong (new planA) mark₁ (doubted 250 1) record₁ ⟹ gives 250 1250 0 0 0 leaving record₁)
-    ∷ (read oblong (old planA) mark₁ (doubted 251 1) (nines 3) ⟹ only 8 leaving nines 3)
-    ∷ (read oblong (new planA) mark₁ (doubted 251 1) (nines 3) ⟹ only 8 leaving nines 3)
-    ∷ (read oblong (old planA) (hidden 1) (doubted 250 1) (nines 3) ⟹ only 8 leaving nines 3)
-    ∷ (read oblong (new planA) (hidden 1) (doubted 250 1) (nines 3) ⟹ gives 250 1250 0 1 0 leaving record₁)
-    ∷ (measure oblong (old planA) photoD (sure 9) record₁ ⟹ gives 600 0 3 0 1 leaving record₁)
-    ∷ (measure oblong (new planA) photoD (sure 9) record₁ ⟹ gives 1500 0 3 0 1 leaving record₁)
-    ∷ (read oblong (new planA) (hidden 1) (doubted 249 1) (nines 3) ⟹ only 8 leaving nines 3)
-    ∷ (read oblong (new planA) (hidden 1) (doubted 251 1) (nines 3) ⟹ only 8 leaving nines 3)
+    (read oblong (season30 planA) photoD (1 ∷ 1 ∷ 1 ∷ sure 6) (nines 3) ⟹ gives 1497 3 3 0 1 leaving record₁)  -- e
+    ∷ (read oblong (season30 planA) (hidden 5) (doubted 250 5) (nines 3) ⟹ gives 1250 250 0 5 0 leaving record₁)  -- f
+    ∷ (read oblong (season30 planA) (hidden 6) (doubted 250 6) (nines 3) ⟹ only 10 leaving nines 3)  -- g
+    ∷ (read oblong (season30 planH) (1 ∷ []) (249 ∷ []) (nines 1) ⟹ gives 249 1 0 0 0 leaving 1 ∷ [])  -- h
+    ∷ (read oblong (season30 planH) (1 ∷ []) (250 ∷ []) (nines 1) ⟹ only 10 leaving nines 1)  -- i
+    ∷ (read oblong (season29 planA) photoC (sure 9) (nines 3) ⟹ gives 400 200 2 0 1 leaving record₁)
+    ∷ (read oblong (season30 planA) photoC (sure 9) (nines 3) ⟹ gives 1000 500 2 0 1 leaving record₁)
+    ∷ (read oblong (season29 planA) (hidden 5) (doubts 5) (nines 3) ⟹ gives 500 100 0 5 0 leaving record₁)
+    ∷ (read oblong (season30 planA) (hidden 5) (doubts 5) (nines 3) ⟹ only 8 leaving nines 3)
+    ∷ (read oblong (season29 planA) mark₁ (doubts 6) (nines 3) ⟹ only 10 leaving nines 3)
+    ∷ (read oblong (season30 planA) mark₁ (doubts 6) (nines 3) ⟹ gives 600 900 0 0 0 leaving record₁)
+    ∷ (read oblong (season29 planA) photoBoth doubtsBoth (nines 3) ⟹ gives 400 200 4 0 2 leaving record₁)
+    ∷ (read oblong (season30 planA) photoBoth doubtsBoth (nines 3) ⟹ gives 1400 100 2 0 1 leaving 2 ∷ 2 ∷ 2 ∷ [])
+    ∷ (read oblong (season29 planA) mark₁ (doubted 101 1) (nines 3) ⟹ only 8 leaving nines 3)
+    ∷ (read oblong (season30 planA) mark₁ (doubted 101 1) (nines 3) ⟹ gives 101 1399 0 0 0 leaving record₁)
+    ∷ (measure oblong (season29 planA) mark₁ (doubted 250 1) record₁ ⟹ only 8 leaving record₁)
+    ∷ (measure oblong (season30 planA) mark₁ (doubted 250 1) record₁ ⟹ gives 250 1250 0 0 0 leaving record₁)
+    ∷ (read oblong (season29 planA) mark₁ (doubted 251 1) (nines 3) ⟹ only 8 leaving nines 3)
+    ∷ (read oblong (season30 planA) mark₁ (doubted 251 1) (nines 3) ⟹ only 8 leaving nines 3)
+    ∷ (read oblong (season29 planA) (hidden 1) (doubted 250 1) (nines 3) ⟹ only 8 leaving nines 3)
+    ∷ (read oblong (season30 planA) (hidden 1) (doubted 250 1) (nines 3) ⟹ gives 250 1250 0 1 0 leaving record₁)
+    ∷ (measure oblong (season29 planA) photoD (sure 9) record₁ ⟹ gives 600 0 3 0 1 leaving record₁)
+    ∷ (measure oblong (season30 planA) photoD (sure 9) record₁ ⟹ gives 1500 0 3 0 1 leaving record₁)
+    ∷ (read oblong (season30 planA) (hidden 1) (doubted 249 1) (nines 3) ⟹ only 8 leaving nines 3)
+    ∷ (read oblong (season30 planA) (hidden 1) (doubted 251 1) (nines 3) ⟹ only 8 leaving nines 3)
     ∷ (read oblong (inSeason 255 255 planA) (hidden 5) (doubted 250 5) (nines 3) ⟹ gives 1250 250 0 5 0 leaving record₁)
     ∷ (read oblong (inSeason 1 0 planA) (hidden 1) (doubted 250 1) (nines 3) ⟹ gives 250 1250 0 1 0 leaving record₁)
     ∷ (read oblong (inSeason 30 0 planA) (hidden 1) (doubted 250 1) (nines 3) ⟹ gives 250 1250 0 1 0 leaving record₁)
-    ∷ (read oblong (new planWide) (set markWide 5 4) (249 ∷ sure 5) (nines 3) ⟹ gives 749 1 1 0 1 leaving record₁)
-    ∷ (read oblong (new planTall) (set markTall 1 4) (set (sure 6) 4 250) (nines 3) ⟹ only 10 leaving nines 3)
-    ∷ (read strip (new planA) (4 ∷ 5 ∷ 255 ∷ []) (0 ∷ 0 ∷ 250 ∷ []) (nines 2) ⟹ gives 250 250 0 1 0 leaving 3 ∷ 1 ∷ [])
-    ∷ (read strip (new planA) (4 ∷ 5 ∷ 255 ∷ []) (0 ∷ 0 ∷ 100 ∷ []) (nines 2) ⟹ only 8 leaving nines 2)
-    ∷ (measure strip (new planA) (4 ∷ 5 ∷ 1 ∷ []) (sure 3) (3 ∷ 1 ∷ []) ⟹ gives 500 0 1 0 1 leaving 3 ∷ 1 ∷ [])
-    ∷ (explain oblong (new planA) photoD (1 ∷ 1 ∷ 1 ∷ sure 6) record₁ (nines 3) ⟹ tells 0 1 0 0 beside nines 3)  -- e
-    ∷ (explain oblong (new planH) (1 ∷ []) (250 ∷ []) (1 ∷ []) (nines 1) ⟹ tells 0 3 0 0 beside nines 1)  -- i
-    ∷ (explain oblong (new planA) photoD (sure 9) (1 ∷ 0 ∷ 0 ∷ []) (nines 3) ⟹ tells 0 3 0 2500 beside nines 3)
-    ∷ (explain oblong (new planA) mark₁ (doubted 250 5) (2 ∷ 2 ∷ 2 ∷ []) (nines 3) ⟹ tells 0 2 3 0 beside record₁)
-    ∷ (explain strip (new planA) (4 ∷ 5 ∷ 0 ∷ []) (251 ∷ 0 ∷ 0 ∷ []) (3 ∷ 1 ∷ []) (nines 2) ⟹ tells 8 0 0 0 beside nines 2)
+    ∷ (read oblong (season30 planWide) (set markWide 5 4) (249 ∷ sure 5) (nines 3) ⟹ gives 749 1 1 0 1 leaving record₁)
+    ∷ (read oblong (season30 planTall) (set markTall 1 4) (set (sure 6) 4 250) (nines 3) ⟹ only 10 leaving nines 3)
+    ∷ (read strip (season30 planA) (4 ∷ 5 ∷ 255 ∷ []) (0 ∷ 0 ∷ 250 ∷ []) (nines 2) ⟹ gives 250 250 0 1 0 leaving 3 ∷ 1 ∷ [])
+    ∷ (read strip (season30 planA) (4 ∷ 5 ∷ 255 ∷ []) (0 ∷ 0 ∷ 100 ∷ []) (nines 2) ⟹ only 8 leaving nines 2)
+    ∷ (measure strip (season30 planA) (4 ∷ 5 ∷ 1 ∷ []) (sure 3) (3 ∷ 1 ∷ []) ⟹ gives 500 0 1 0 1 leaving 3 ∷ 1 ∷ [])
+    ∷ (explain oblong (season30 planA) photoD (1 ∷ 1 ∷ 1 ∷ sure 6) record₁ (nines 3) ⟹ tells 0 1 0 0 beside nines 3)  -- e
+    ∷ (explain oblong (season30 planH) (1 ∷ []) (250 ∷ []) (1 ∷ []) (nines 1) ⟹ tells 0 3 0 0 beside nines 1)  -- i
+    ∷ (explain oblong (season30 planA) photoD (sure 9) (1 ∷ 0 ∷ 0 ∷ []) (nines 3) ⟹ tells 0 3 0 2500 beside nines 3)
+    ∷ (explain oblong (season30 planA) mark₁ (doubted 250 5) (2 ∷ 2 ∷ 2 ∷ []) (nines 3) ⟹ tells 0 2 3 0 beside record₁)
+    ∷ (explain strip (season30 planA) (4 ∷ 5 ∷ 0 ∷ []) (251 ∷ 0 ∷ 0 ∷ []) (3 ∷ 1 ∷ []) (nines 2) ⟹ tells 8 0 0 0 beside nines 2)
     ∷ []
 
 -- explaining: case c, its record expected, and records whose marks first differ from it in the second row, in the second column,

@@ -193,7 +193,7 @@ pub record Nearest (C : Code) (P s u B : List ℕ) : Type 0 where
   pub refuses : ((F : List ℕ) → IsRecord C P F → radius C P ≤ costOf C P s u F) →
       (readReading C P s u B ≡ calls.refused 10) × (readBuffer C P s u B ≡ B)
 
--- what a cell with the symbol s and the doubt u costs a record with the value v
+-- what a cell with the symbol s and the doubt u costs a record with the value v, in the customer's words
 abbrev pub cellCost : (k s u v : ℕ) → ℕ
 cellCost k s u v = cond (eqb s v) u (k - u)
 
@@ -201,6 +201,9 @@ pub record InScale (f k : ℕ) (P : List ℕ) : Type 0 where
   -- a doubt is 0 to f, and exactly f where the cell is unread; else the number is 8
   pub eight : (C : Code) (s u F : List ℕ) → LengthsFit C P s u F → SymbolsFit C P s → ¬ (DoubtsFit f C P s u) →
       (measureNumber C P s u F ≡ 8) × (readNumber C P s u F ≡ 8)
+  -- and where they fit, every record of the plan is measured
+  pub taken : (C : Code) (s u F : List ℕ) → LengthsFit C P s u F → SymbolsFit C P s → DoubtsFit f C P s u → IsRecord C P F →
+      measureNumber C P s u F ≡ 0
   -- a cell costs its doubt where its symbol is the record's value, else k less its doubt; and an unread one f
   pub cost : (C : Code) (s u F : List ℕ) → costOf C P s u F ≡ sum (cells C P) λ c. cellCost k (at s c) (at u c) (value C P F c)
   pub unread : (C : Code) (s u F : List ℕ) → DoubtsFit f C P s u → (c : ℕ) → c < cells C P → at s c ≡ 255 →
@@ -222,7 +225,7 @@ InRange low high z = (negℤ (pos low) ≤ℤ z) × (z ≤ℤ pos high)
 -- some record, measured against some mark under a plan of the seasons Y, has the margin z
 pub record Reached (Y : ℕ → Type 0) (z : ℤ) : Type 0 where
   pub P : List ℕ
-  pub of : Y (season P)
+  pub inSeasons : Y (season P)
   pub s : List ℕ
   pub u : List ℕ
   pub F : List ℕ

@@ -41,7 +41,7 @@ use Rattle.definitions.specs.Calls.{measureRows, measureNumber, measureReading,
 use Rattle.definitions.specs.Explaining.{explainRows, explainNumber, explainReason, explainBuffer, valuesOf}
 use Rattle.definitions.specs.Finder.{findRows, findNumber}
 use Rattle.definitions.specs.Sound.{Sound}
-use Rattle.definitions.specs.Photograph.{Photograph, sure}
+use Rattle.definitions.specs.Photograph.{SymbolsFit, DoubtsFit, Photograph, sure}
 use Rattle.polynomial.specs.Record.{start}
 use Rattle.definitions.specs.Widening.{narrowBytes, widenRows, widenNumber}
 use Rattle.definitions.specs.Accepted.{Writing, Expecting}
@@ -166,6 +166,7 @@ demand-2-cost-read C P s u B e =
 pub in-scale : (P : List ℕ) → Sound P → InScale (full P) (2 * full P) P
 in-scale P S = record {
   eight = λ C s u F. taken-exactly C P s u F S .eight;
+  taken = λ C s u F (a, (b, l)) f h. measuring-accepted C P s u F (photo a b f h);
   cost = λ C s u F. refl;
   unread = λ C s u F h c l e. rw (h c l .1 e) (cell-full (full P) (at s c) (value C P F c));
   stripLimit = omega arith;
@@ -173,9 +174,12 @@ in-scale P S = record {
   written = λ C F B B′. demand-2 C P F B B′;
   measured = λ C s u F. demand-2-cost C P s u F;
   read = λ C s u B. demand-2-cost-read C P s u B;
-  nearest = λ C s u B (a, (b, l)) f h.
-      demand-3 C P s u B (record { sound = S; symbols = a; doubts = b; symbol = f; doubt = h }) l;
+  nearest = λ C s u B (a, (b, l)) f h. demand-3 C P s u B (photo a b f h) l;
 }
+  where
+    photo : {C : Code} {s u : List ℕ} → length s ≡ cells C P → length u ≡ cells C P → SymbolsFit C P s →
+        DoubtsFit (full P) C P s u → Photograph C P s u
+    photo a b f h = record { sound = S; symbols = a; doubts = b; symbol = f; doubt = h }
 
 -- The same in the customer's numbers. For seasons before 30 a doubt is 0 to 100, a wrong cell costs 200 less its doubt, the
 -- limits have 100, and costs are 200 times the published distance.

@@ -22,11 +22,12 @@ loop-holds c = (omega arith, refl, refl, omega arith)
 
 loop-again : tie.Need-loop-again Inv-loop μ-loop
 loop-again c =
-    let l = c .before .before .loop in (
+    let l = c .before .before .loop in
+    let byte = c .shared-slice-known .given (l .i) in (
       omega arith,
       refl,
-      omega (arith, l .inv .2, sum-more (l .i) (at (c .before .before .before .args .doubts .now))),
-      omega (arith, c .shared-slice-known .given (l .i)),
+      omega (arith, byte, l .inv .2, sum-more (l .i) (at (c .before .before .before .args .doubts .now))),
+      omega (arith, byte),
     )
 
 returns : tie.Need-returns Inv-loop μ-loop
