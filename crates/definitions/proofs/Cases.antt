@@ -2,8 +2,8 @@
 --
 --   cases-hold                    cases a to l
 --   oblong-cases-hold             the cases of oblong marks
---   age-cases-hold                the cases of doubts in 250ths
 --   explain-cases-hold            the cases of explaining
+--   age-cases-hold                the cases of doubts in 250ths
 --   more-cases-hold               the further cases
 --   class-bounds                  the class at each of its bounds
 --   index-cases                   the first number that passes a test
@@ -40,7 +40,7 @@ use Rattle.definitions.specs.Why.{whyReason, whyOther, whyReading}
 use Rattle.definitions.specs.Printed.{decimal, signed, spaced, costs, readLine, recordLine, answerLine, numberLine}
 use Rattle.definitions.specs.Printed.{answerText, trayText, whyText}
 use Rattle.definitions.specs.Widening.{widened, widenedAll, widenRows, widenNumber, widenBuffer, widenText}
-use Rattle.definitions.specs.Cases.{effect, only, call, expected, cases, oblongCases, ageCases, explainCases, moreCases}
+use Rattle.definitions.specs.Cases.{effect, only, call, expected, cases, oblongCases, explainCases, ageCases, moreCases}
 use Rattle.definitions.specs.Refusals.{_when_, table, Earliest}
 use Rattle.definitions.specs.Code.{oblong}
 use Rattle.definitions.specs.Demands.{Written}
@@ -56,13 +56,13 @@ pub oblong-cases-hold : map effect (map call oblongCases) ≡ map expected oblon
 unfolding effect
 oblong-cases-hold = refl
 
-pub age-cases-hold : map effect (map call ageCases) ≡ map expected ageCases
-unfolding effect
-age-cases-hold = refl
-
 pub explain-cases-hold : map effect (map call explainCases) ≡ map expected explainCases
 unfolding effect
 explain-cases-hold = refl
+
+pub age-cases-hold : map effect (map call ageCases) ≡ map expected ageCases
+unfolding effect
+age-cases-hold = refl
 
 pub more-cases-hold : map effect (map call moreCases) ≡ map expected moreCases
 unfolding effect

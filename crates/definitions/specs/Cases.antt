@@ -1,5 +1,5 @@
 -- Cases a to l of the table "Edges" of document 01, with plans of 40 bytes and unread cells counted apart as document 02 asks, as
--- rows of one list; the cases of oblong marks as those of another, those of doubts in 250ths, those of explaining, and further
+-- rows of one list; the cases of oblong marks as those of another, those of explaining, those of doubts in 250ths, and further
 -- ones.
 --
 --   call ⟹ reading leaving bytes       a call, what it returns, and what its last buffer then holds
@@ -230,6 +230,45 @@ oblongCases =
     ∷ (read oblong planWide (drop 1 markWide) (sure 6) (nines 3) ⟹ only 6 leaving nines 3)
     ∷ []
 
+-- explaining: case c, its record expected, and records whose marks first differ from it in the second row, in the second column,
+-- and in the first cell; case d, which has no answer, its record on the radius, and a far one; cases e, g, h and i, and of h the
+-- other record, whose mark has one cell; strips, one of which differs from the answer in the last cell alone; oblong marks each
+-- way; 6 for each buffer, before 7; 7 before 8, 8 before 9, and 9; each number of the plan, 13 for strips and marks, before all
+abbrev pub explainCases : List Case
+explainCases =
+    (explain oblong planA photoC (sure 9) record₁ (nines 3) ⟹ tells 0 1 0 0 beside nines 3)
+    ∷ (explain oblong planA photoC (sure 9) (2 ∷ 2 ∷ 2 ∷ []) (nines 3) ⟹ tells 0 2 3 0 beside record₁)
+    ∷ (explain oblong planA photoC (sure 9) (1 ∷ 1 ∷ 4 ∷ []) (nines 3) ⟹ tells 0 2 1 0 beside record₁)
+    ∷ (explain oblong planA photoC (sure 9) (0 ∷ 0 ∷ 0 ∷ []) (nines 3) ⟹ tells 0 2 0 0 beside record₁)
+    ∷ (explain oblong planA photoD (sure 9) record₁ (nines 3) ⟹ tells 0 3 0 0 beside nines 3)
+    ∷ (explain oblong planA photoD (sure 9) (1 ∷ 0 ∷ 0 ∷ []) (nines 3) ⟹ tells 0 3 0 1000 beside nines 3)
+    ∷ (explain oblong planA photoD (1 ∷ 1 ∷ 1 ∷ sure 6) record₁ (nines 3) ⟹ tells 0 1 0 0 beside nines 3)  -- e
+    ∷ (explain oblong planA (hidden 6) (doubts 6) record₁ (nines 3) ⟹ tells 0 3 0 0 beside nines 3)  -- g
+    ∷ (explain oblong planH (1 ∷ []) (99 ∷ []) (1 ∷ []) (nines 1) ⟹ tells 0 1 0 0 beside nines 1)  -- h
+    ∷ (explain oblong planH (1 ∷ []) (99 ∷ []) (0 ∷ []) (nines 1) ⟹ tells 0 2 0 0 beside 1 ∷ [])
+    ∷ (explain oblong planH (1 ∷ []) (100 ∷ []) (1 ∷ []) (nines 1) ⟹ tells 0 3 0 0 beside nines 1)  -- i
+    ∷ (explain strip planA (4 ∷ 5 ∷ 255 ∷ []) (0 ∷ 0 ∷ 100 ∷ []) (3 ∷ 1 ∷ []) (nines 2) ⟹ tells 0 1 0 0 beside nines 2)
+    ∷ (explain strip planA (4 ∷ 5 ∷ 1 ∷ []) (sure 3) (0 ∷ 0 ∷ []) (nines 2) ⟹ tells 0 3 0 400 beside nines 2)
+    ∷ (explain strip (alike 5 3 2 (0 ∷ 1 ∷ 2 ∷ [])) (1 ∷ 1 ∷ 2 ∷ []) (sure 3) (1 ∷ 1 ∷ 4 ∷ []) (nines 3)
+    ⟹ tells 0 2 2 0 beside 1 ∷ 2 ∷ 3 ∷ [])
+    ∷ (explain oblong planWide markWide (sure 6) (2 ∷ 2 ∷ 2 ∷ []) (nines 3) ⟹ tells 0 2 3 0 beside record₁)
+    ∷ (explain oblong planTall markTall (sure 6) (3 ∷ 2 ∷ 2 ∷ []) (nines 3) ⟹ tells 0 2 2 0 beside record₁)
+    ∷ (explain oblong planA (7 ∷ drop 1 mark₁) (sure 9) record₁ (nines 4) ⟹ tells 6 0 0 0 beside nines 4)
+    ∷ (explain oblong planA (7 ∷ drop 1 mark₁) (sure 9) (3 ∷ 1 ∷ []) (nines 3) ⟹ tells 6 0 0 0 beside nines 3)
+    ∷ (explain oblong planA (7 ∷ drop 2 mark₁) (sure 9) record₁ (nines 3) ⟹ tells 6 0 0 0 beside nines 3)
+    ∷ (explain oblong planA (7 ∷ drop 1 mark₁) (sure 8) record₁ (nines 3) ⟹ tells 6 0 0 0 beside nines 3)
+    ∷ (explain oblong planA (7 ∷ drop 1 mark₁) (101 ∷ sure 8) record₁ (nines 3) ⟹ tells 7 0 0 0 beside nines 3)
+    ∷ (explain oblong planA mark₁ (101 ∷ sure 8) (3 ∷ 1 ∷ 7 ∷ []) (nines 3) ⟹ tells 8 0 0 0 beside nines 3)
+    ∷ (explain oblong planA mark₁ (sure 9) (3 ∷ 1 ∷ 7 ∷ []) (nines 3) ⟹ tells 9 0 0 0 beside nines 3)
+    ∷ (explain strip (set planWide 4 0) [] [] [] (nines 3) ⟹ tells 13 0 0 0 beside nines 3)
+    ∷ (explain oblong (set planWide 4 0) [] [] [] (nines 3) ⟹ tells 13 0 0 0 beside nines 3)
+    ∷ (explain oblong [] mark₁ (sure 9) record₁ (nines 3) ⟹ tells 1 0 0 0 beside nines 3)
+    ∷ (explain oblong (set planA 2 9) mark₁ (sure 9) record₁ (nines 3) ⟹ tells 2 0 0 0 beside nines 3)
+    ∷ (explain oblong (set planA 3 0) mark₁ (sure 9) record₁ (nines 3) ⟹ tells 3 0 0 0 beside nines 3)
+    ∷ (explain oblong (set planA 5 3) mark₁ (sure 9) record₁ (nines 3) ⟹ tells 4 0 0 0 beside nines 3)
+    ∷ (explain oblong (set planA 6 2) mark₁ (sure 9) record₁ (nines 3) ⟹ tells 5 0 0 0 beside nines 3)
+    ∷ []
+
 -- cases e to i in season 30, doubts in 250ths. In seasons 29 and 30 the same bytes: case c; case f, whose doubts of 100 are not
 -- those of unread cells in season 30; a right mark with six doubts of 100; a photograph that is read as one record in season 29
 -- and as another in season 30; doubts of 101, of 250 and of 251; an unread cell with the doubt 250; three wrong cells. An unread
@@ -276,45 +315,6 @@ ageCases =
     ∷ (explain oblong (season30 planA) photoD (sure 9) (1 ∷ 0 ∷ 0 ∷ []) (nines 3) ⟹ tells 0 3 0 2500 beside nines 3)
     ∷ (explain oblong (season30 planA) mark₁ (doubted 250 5) (2 ∷ 2 ∷ 2 ∷ []) (nines 3) ⟹ tells 0 2 3 0 beside record₁)
     ∷ (explain strip (season30 planA) (4 ∷ 5 ∷ 0 ∷ []) (251 ∷ 0 ∷ 0 ∷ []) (3 ∷ 1 ∷ []) (nines 2) ⟹ tells 8 0 0 0 beside nines 2)
-    ∷ []
-
--- explaining: case c, its record expected, and records whose marks first differ from it in the second row, in the second column,
--- and in the first cell; case d, which has no answer, its record on the radius, and a far one; cases e, g, h and i, and of h the
--- other record, whose mark has one cell; strips, one of which differs from the answer in the last cell alone; oblong marks each
--- way; 6 for each buffer, before 7; 7 before 8, 8 before 9, and 9; each number of the plan, 13 for strips and marks, before all
-abbrev pub explainCases : List Case
-explainCases =
-    (explain oblong planA photoC (sure 9) record₁ (nines 3) ⟹ tells 0 1 0 0 beside nines 3)
-    ∷ (explain oblong planA photoC (sure 9) (2 ∷ 2 ∷ 2 ∷ []) (nines 3) ⟹ tells 0 2 3 0 beside record₁)
-    ∷ (explain oblong planA photoC (sure 9) (1 ∷ 1 ∷ 4 ∷ []) (nines 3) ⟹ tells 0 2 1 0 beside record₁)
-    ∷ (explain oblong planA photoC (sure 9) (0 ∷ 0 ∷ 0 ∷ []) (nines 3) ⟹ tells 0 2 0 0 beside record₁)
-    ∷ (explain oblong planA photoD (sure 9) record₁ (nines 3) ⟹ tells 0 3 0 0 beside nines 3)
-    ∷ (explain oblong planA photoD (sure 9) (1 ∷ 0 ∷ 0 ∷ []) (nines 3) ⟹ tells 0 3 0 1000 beside nines 3)
-    ∷ (explain oblong planA photoD (1 ∷ 1 ∷ 1 ∷ sure 6) record₁ (nines 3) ⟹ tells 0 1 0 0 beside nines 3)  -- e
-    ∷ (explain oblong planA (hidden 6) (doubts 6) record₁ (nines 3) ⟹ tells 0 3 0 0 beside nines 3)  -- g
-    ∷ (explain oblong planH (1 ∷ []) (99 ∷ []) (1 ∷ []) (nines 1) ⟹ tells 0 1 0 0 beside nines 1)  -- h
-    ∷ (explain oblong planH (1 ∷ []) (99 ∷ []) (0 ∷ []) (nines 1) ⟹ tells 0 2 0 0 beside 1 ∷ [])
-    ∷ (explain oblong planH (1 ∷ []) (100 ∷ []) (1 ∷ []) (nines 1) ⟹ tells 0 3 0 0 beside nines 1)  -- i
-    ∷ (explain strip planA (4 ∷ 5 ∷ 255 ∷ []) (0 ∷ 0 ∷ 100 ∷ []) (3 ∷ 1 ∷ []) (nines 2) ⟹ tells 0 1 0 0 beside nines 2)
-    ∷ (explain strip planA (4 ∷ 5 ∷ 1 ∷ []) (sure 3) (0 ∷ 0 ∷ []) (nines 2) ⟹ tells 0 3 0 400 beside nines 2)
-    ∷ (explain strip (alike 5 3 2 (0 ∷ 1 ∷ 2 ∷ [])) (1 ∷ 1 ∷ 2 ∷ []) (sure 3) (1 ∷ 1 ∷ 4 ∷ []) (nines 3)
-    ⟹ tells 0 2 2 0 beside 1 ∷ 2 ∷ 3 ∷ [])
-    ∷ (explain oblong planWide markWide (sure 6) (2 ∷ 2 ∷ 2 ∷ []) (nines 3) ⟹ tells 0 2 3 0 beside record₁)
-    ∷ (explain oblong planTall markTall (sure 6) (3 ∷ 2 ∷ 2 ∷ []) (nines 3) ⟹ tells 0 2 2 0 beside record₁)
-    ∷ (explain oblong planA (7 ∷ drop 1 mark₁) (sure 9) record₁ (nines 4) ⟹ tells 6 0 0 0 beside nines 4)
-    ∷ (explain oblong planA (7 ∷ drop 1 mark₁) (sure 9) (3 ∷ 1 ∷ []) (nines 3) ⟹ tells 6 0 0 0 beside nines 3)
-    ∷ (explain oblong planA (7 ∷ drop 2 mark₁) (sure 9) record₁ (nines 3) ⟹ tells 6 0 0 0 beside nines 3)
-    ∷ (explain oblong planA (7 ∷ drop 1 mark₁) (sure 8) record₁ (nines 3) ⟹ tells 6 0 0 0 beside nines 3)
-    ∷ (explain oblong planA (7 ∷ drop 1 mark₁) (101 ∷ sure 8) record₁ (nines 3) ⟹ tells 7 0 0 0 beside nines 3)
-    ∷ (explain oblong planA mark₁ (101 ∷ sure 8) (3 ∷ 1 ∷ 7 ∷ []) (nines 3) ⟹ tells 8 0 0 0 beside nines 3)
-    ∷ (explain oblong planA mark₁ (sure 9) (3 ∷ 1 ∷ 7 ∷ []) (nines 3) ⟹ tells 9 0 0 0 beside nines 3)
-    ∷ (explain strip (set planWide 4 0) [] [] [] (nines 3) ⟹ tells 13 0 0 0 beside nines 3)
-    ∷ (explain oblong (set planWide 4 0) [] [] [] (nines 3) ⟹ tells 13 0 0 0 beside nines 3)
-    ∷ (explain oblong [] mark₁ (sure 9) record₁ (nines 3) ⟹ tells 1 0 0 0 beside nines 3)
-    ∷ (explain oblong (set planA 2 9) mark₁ (sure 9) record₁ (nines 3) ⟹ tells 2 0 0 0 beside nines 3)
-    ∷ (explain oblong (set planA 3 0) mark₁ (sure 9) record₁ (nines 3) ⟹ tells 3 0 0 0 beside nines 3)
-    ∷ (explain oblong (set planA 5 3) mark₁ (sure 9) record₁ (nines 3) ⟹ tells 4 0 0 0 beside nines 3)
-    ∷ (explain oblong (set planA 6 2) mark₁ (sure 9) record₁ (nines 3) ⟹ tells 5 0 0 0 beside nines 3)
     ∷ []
 
 -- not of the table: a strip written and read, a plan with several faults at once, records of total degree 2, and of 3; each

@@ -211,12 +211,12 @@ pub record InScale (f k : ℕ) (P : List ℕ) : Type 0 where
   -- the limits
   pub stripLimit : radius strip P ≡ f * (rows P - degree P)
   pub markLimit : radius oblong P ≡ f * (max (rows P) (columns P) * (min (rows P) (columns P) - degree P))
-  -- demand 2
+  -- demand 2: a mark that was written is read back; costs are k times the published distance
   pub written : (C : Code) (F B B′ : List ℕ) → writeNumber C P F B ≡ 0 → length B′ ≡ size C P → RoundTrip C P F B B′
   pub measured : (C : Code) (s u F : List ℕ) → measureNumber C P s u F ≡ 0 → Weighed f k C P s u F (measureReading C P s u F)
   pub read : (C : Code) (s u B : List ℕ) → readNumber C P s u B ≡ 0 →
       Weighed f k C P s u (readBuffer C P s u B) (readReading C P s u B)
-  -- demand 3
+  -- demand 3, for every photograph in buffers of the right lengths
   pub nearest : (C : Code) (s u B : List ℕ) → LengthsFit C P s u B → SymbolsFit C P s → DoubtsFit f C P s u → Nearest C P s u B
 
 abbrev pub InRange : (low high : ℕ) → ℤ → Type 0
