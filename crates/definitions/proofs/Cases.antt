@@ -182,13 +182,15 @@ none excess = 78 ∷ 79 ∷ 78 ∷ 69 ∷ 32 ∷ excess ++ 10 ∷ []
 abbrev asked : (F s : List ℕ) → List ℕ
 asked F s = planA ++ F ++ s ++ sure 9
 
--- case c with 3 1 2 expected, with 2 2 2 and with 0 0 0; case d with 3 1 2, which costs the radius, and with 2 2 2; case c a byte
--- short, a byte too long, and without the record; symbols, doubts and coefficients that are too large, in their order; an oblong
--- mark each way, the second with 3 0 2 expected; no columns; a plan a byte short; nothing
+-- case c with 3 1 2 expected, with 2 2 2 and with 0 0 0; case d with 3 1 2, which costs the radius, and with 2 2 2; in season 30
+-- case c with 3 1 2, and case d with 2 2 2; case c a byte short, a byte too long, and without the record; symbols, doubts and
+-- coefficients that are too large, in their order; an oblong mark each way, the second with 3 0 2 expected; no columns; a plan a
+-- byte short; nothing
 pub why-texts :
     map whyText (
     asked record₁ photoC ∷ asked (2 ∷ 2 ∷ 2 ∷ []) photoC ∷ asked (0 ∷ 0 ∷ 0 ∷ []) photoC
     ∷ asked record₁ photoD ∷ asked (2 ∷ 2 ∷ 2 ∷ []) photoD
+    ∷ season30 (asked record₁ photoC) ∷ season30 (asked (2 ∷ 2 ∷ 2 ∷ []) photoD)
     ∷ (planA ++ record₁ ++ photoC ++ sure 8) ∷ (planA ++ record₁ ++ photoC ++ sure 10) ∷ (planA ++ photoC ++ sure 9)
     ∷ (planA ++ nines 3 ++ nines 9 ++ nines 8 ++ 101 ∷ []) ∷ (planA ++ nines 3 ++ mark₁ ++ sure 8 ++ 101 ∷ [])
     ∷ asked (3 ∷ 1 ∷ 7 ∷ []) mark₁
@@ -197,6 +199,7 @@ pub why-texts :
     )
     ≡ answer (52 ∷ 48 ∷ 48 ∷ 32 ∷ 50 ∷ 48 ∷ 48 ∷ []) ∷ other 51 ∷ other 48
     ∷ none (48 ∷ []) ∷ none (49 ∷ 50 ∷ 48 ∷ 48 ∷ [])
+    ∷ answer (49 ∷ 48 ∷ 48 ∷ 48 ∷ 32 ∷ 53 ∷ 48 ∷ 48 ∷ []) ∷ none (51 ∷ 48 ∷ 48 ∷ 48 ∷ [])
     ∷ refusal (54 ∷ []) ∷ refusal (54 ∷ []) ∷ refusal (54 ∷ [])
     ∷ refusal (55 ∷ []) ∷ refusal (56 ∷ [])
     ∷ refusal (57 ∷ [])

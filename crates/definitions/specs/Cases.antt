@@ -269,12 +269,12 @@ explainCases =
     ∷ (explain oblong (set planA 6 2) mark₁ (sure 9) record₁ (nines 3) ⟹ tells 5 0 0 0 beside nines 3)
     ∷ []
 
--- cases e to i in season 30, doubts in 250ths. In seasons 29 and 30 the same bytes: case c; case f, whose doubts of 100 are not
--- those of unread cells in season 30; a right mark with six doubts of 100; a photograph that is read as one record in season 29
--- and as another in season 30; doubts of 101, of 250 and of 251; an unread cell with the doubt 250; three wrong cells. An unread
--- cell with the doubt 249 and 251. Seasons 65535, 256, whose low byte is 0, and 7680, whose high byte is 30. Oblong marks one
--- under the radius and on it. Strips read and measured, an unread cell's doubt in each scale. Explaining: cases e and i, a far
--- record, another record, and a doubt of 251
+-- cases e to i in season 30, doubts in 250ths. In seasons 29 and 30 the same bytes: the record of case c; case f, whose doubts of
+-- 100 are not those of unread cells in season 30; a right mark with six doubts of 100; a photograph that is read as one record in
+-- season 29 and as another in season 30; doubts of 101, of 250 and of 251; an unread cell with the doubt 250; three wrong cells.
+-- An unread cell with the doubt 249 and 251. Case h in the seasons 65535, 256, whose low byte is 0, and 7680, whose high byte is
+-- 30. Oblong marks one under the radius and on it. Strips read and measured, an unread cell's doubt in each scale. Explaining:
+-- cases e and i, a far record, another record, and a doubt of 251
 abbrev pub ageCases : List Case
 ageCases =
     (read oblong (season30 planA) photoD (1 ∷ 1 ∷ 1 ∷ sure 6) (nines 3) ⟹ gives 1497 3 3 0 1 leaving record₁)  -- e
@@ -282,29 +282,29 @@ ageCases =
     ∷ (read oblong (season30 planA) (hidden 6) (doubted 250 6) (nines 3) ⟹ only 10 leaving nines 3)  -- g
     ∷ (read oblong (season30 planH) (1 ∷ []) (249 ∷ []) (nines 1) ⟹ gives 249 1 0 0 0 leaving 1 ∷ [])  -- h
     ∷ (read oblong (season30 planH) (1 ∷ []) (250 ∷ []) (nines 1) ⟹ only 10 leaving nines 1)  -- i
-    ∷ (read oblong (season29 planA) photoC (sure 9) (nines 3) ⟹ gives 400 200 2 0 1 leaving record₁)
-    ∷ (read oblong (season30 planA) photoC (sure 9) (nines 3) ⟹ gives 1000 500 2 0 1 leaving record₁)
+    ∷ (measure oblong (season29 planA) photoC (sure 9) record₁ ⟹ gives 400 200 2 0 1 leaving record₁)
+    ∷ (measure oblong (season30 planA) photoC (sure 9) record₁ ⟹ gives 1000 500 2 0 1 leaving record₁)
     ∷ (read oblong (season29 planA) (hidden 5) (doubts 5) (nines 3) ⟹ gives 500 100 0 5 0 leaving record₁)
     ∷ (read oblong (season30 planA) (hidden 5) (doubts 5) (nines 3) ⟹ only 8 leaving nines 3)
     ∷ (read oblong (season29 planA) mark₁ (doubts 6) (nines 3) ⟹ only 10 leaving nines 3)
     ∷ (read oblong (season30 planA) mark₁ (doubts 6) (nines 3) ⟹ gives 600 900 0 0 0 leaving record₁)
     ∷ (read oblong (season29 planA) photoBoth doubtsBoth (nines 3) ⟹ gives 400 200 4 0 2 leaving record₁)
     ∷ (read oblong (season30 planA) photoBoth doubtsBoth (nines 3) ⟹ gives 1400 100 2 0 1 leaving 2 ∷ 2 ∷ 2 ∷ [])
-    ∷ (read oblong (season29 planA) mark₁ (doubted 101 1) (nines 3) ⟹ only 8 leaving nines 3)
-    ∷ (read oblong (season30 planA) mark₁ (doubted 101 1) (nines 3) ⟹ gives 101 1399 0 0 0 leaving record₁)
+    ∷ (measure oblong (season29 planA) mark₁ (doubted 101 1) record₁ ⟹ only 8 leaving record₁)
+    ∷ (measure oblong (season30 planA) mark₁ (doubted 101 1) record₁ ⟹ gives 101 1399 0 0 0 leaving record₁)
     ∷ (measure oblong (season29 planA) mark₁ (doubted 250 1) record₁ ⟹ only 8 leaving record₁)
     ∷ (measure oblong (season30 planA) mark₁ (doubted 250 1) record₁ ⟹ gives 250 1250 0 0 0 leaving record₁)
     ∷ (read oblong (season29 planA) mark₁ (doubted 251 1) (nines 3) ⟹ only 8 leaving nines 3)
     ∷ (read oblong (season30 planA) mark₁ (doubted 251 1) (nines 3) ⟹ only 8 leaving nines 3)
-    ∷ (read oblong (season29 planA) (hidden 1) (doubted 250 1) (nines 3) ⟹ only 8 leaving nines 3)
-    ∷ (read oblong (season30 planA) (hidden 1) (doubted 250 1) (nines 3) ⟹ gives 250 1250 0 1 0 leaving record₁)
+    ∷ (measure oblong (season29 planA) (hidden 1) (doubted 250 1) record₁ ⟹ only 8 leaving record₁)
+    ∷ (measure oblong (season30 planA) (hidden 1) (doubted 250 1) record₁ ⟹ gives 250 1250 0 1 0 leaving record₁)
     ∷ (measure oblong (season29 planA) photoD (sure 9) record₁ ⟹ gives 600 0 3 0 1 leaving record₁)
     ∷ (measure oblong (season30 planA) photoD (sure 9) record₁ ⟹ gives 1500 0 3 0 1 leaving record₁)
     ∷ (read oblong (season30 planA) (hidden 1) (doubted 249 1) (nines 3) ⟹ only 8 leaving nines 3)
     ∷ (read oblong (season30 planA) (hidden 1) (doubted 251 1) (nines 3) ⟹ only 8 leaving nines 3)
-    ∷ (read oblong (inSeason 255 255 planA) (hidden 5) (doubted 250 5) (nines 3) ⟹ gives 1250 250 0 5 0 leaving record₁)
-    ∷ (read oblong (inSeason 1 0 planA) (hidden 1) (doubted 250 1) (nines 3) ⟹ gives 250 1250 0 1 0 leaving record₁)
-    ∷ (read oblong (inSeason 30 0 planA) (hidden 1) (doubted 250 1) (nines 3) ⟹ gives 250 1250 0 1 0 leaving record₁)
+    ∷ (read oblong (inSeason 255 255 planH) (1 ∷ []) (249 ∷ []) (nines 1) ⟹ gives 249 1 0 0 0 leaving 1 ∷ [])
+    ∷ (read oblong (inSeason 1 0 planH) (1 ∷ []) (249 ∷ []) (nines 1) ⟹ gives 249 1 0 0 0 leaving 1 ∷ [])
+    ∷ (read oblong (inSeason 30 0 planH) (1 ∷ []) (249 ∷ []) (nines 1) ⟹ gives 249 1 0 0 0 leaving 1 ∷ [])
     ∷ (read oblong (season30 planWide) (set markWide 5 4) (249 ∷ sure 5) (nines 3) ⟹ gives 749 1 1 0 1 leaving record₁)
     ∷ (read oblong (season30 planTall) (set markTall 1 4) (set (sure 6) 4 250) (nines 3) ⟹ only 10 leaving nines 3)
     ∷ (read strip (season30 planA) (4 ∷ 5 ∷ 255 ∷ []) (0 ∷ 0 ∷ 250 ∷ []) (nines 2) ⟹ gives 250 250 0 1 0 leaving 3 ∷ 1 ∷ [])
