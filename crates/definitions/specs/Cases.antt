@@ -269,12 +269,12 @@ explainCases =
     ∷ (explain oblong (set planA 6 2) mark₁ (sure 9) record₁ (nines 3) ⟹ tells 5 0 0 0 beside nines 3)
     ∷ []
 
--- cases e to i in season 30, doubts in 250ths. In seasons 29 and 30 the same bytes: the record of case c; case f, whose doubts of
--- 100 are not those of unread cells in season 30; a right mark with six doubts of 100; a photograph that is read as one record in
--- season 29 and as another in season 30; doubts of 101, of 250 and of 251; an unread cell with the doubt 250; three wrong cells.
--- An unread cell with the doubt 249 and 251. Case h in the seasons 65535, 256, whose low byte is 0, and 7680, whose high byte is
--- 30. Oblong marks one under the radius and on it. Strips read and measured, an unread cell's doubt in each scale. Explaining:
--- cases e and i, a far record, another record, and a doubt of 251
+-- cases e to i in season 30, doubts in 250ths. In seasons 29 and 30 the same bytes: the records of cases c and f, the doubts of
+-- whose unread cells are 100; a right mark with six doubts of 100, and one of one cell with one; a photograph that is read as one
+-- record in season 29 and as another in season 30; doubts of 101, of 250 and of 251; an unread cell with the doubt 250; three
+-- wrong cells. An unread cell with the doubt 249 and 251. Case h in the seasons 65535, 256, whose low byte is 0, and 7680, whose
+-- high byte is 30. Oblong marks one under the radius and on it. Strips read and measured, an unread cell's doubt in each scale.
+-- Explaining: cases h and i, and strips with a far record, another record, and a doubt of 251
 abbrev pub ageCases : List Case
 ageCases =
     (read oblong (season30 planA) photoD (1 ∷ 1 ∷ 1 ∷ sure 6) (nines 3) ⟹ gives 1497 3 3 0 1 leaving record₁)  -- e
@@ -284,10 +284,12 @@ ageCases =
     ∷ (read oblong (season30 planH) (1 ∷ []) (250 ∷ []) (nines 1) ⟹ only 10 leaving nines 1)  -- i
     ∷ (measure oblong (season29 planA) photoC (sure 9) record₁ ⟹ gives 400 200 2 0 1 leaving record₁)
     ∷ (measure oblong (season30 planA) photoC (sure 9) record₁ ⟹ gives 1000 500 2 0 1 leaving record₁)
-    ∷ (read oblong (season29 planA) (hidden 5) (doubts 5) (nines 3) ⟹ gives 500 100 0 5 0 leaving record₁)
-    ∷ (read oblong (season30 planA) (hidden 5) (doubts 5) (nines 3) ⟹ only 8 leaving nines 3)
-    ∷ (read oblong (season29 planA) mark₁ (doubts 6) (nines 3) ⟹ only 10 leaving nines 3)
-    ∷ (read oblong (season30 planA) mark₁ (doubts 6) (nines 3) ⟹ gives 600 900 0 0 0 leaving record₁)
+    ∷ (measure oblong (season29 planA) (hidden 5) (doubts 5) record₁ ⟹ gives 500 100 0 5 0 leaving record₁)
+    ∷ (measure oblong (season30 planA) (hidden 5) (doubts 5) record₁ ⟹ only 8 leaving record₁)
+    ∷ (measure oblong (season29 planA) mark₁ (doubts 6) record₁ ⟹ gives 600 0 0 0 0 leaving record₁)
+    ∷ (measure oblong (season30 planA) mark₁ (doubts 6) record₁ ⟹ gives 600 900 0 0 0 leaving record₁)
+    ∷ (read oblong (season29 planH) (1 ∷ []) (100 ∷ []) (nines 1) ⟹ only 10 leaving nines 1)
+    ∷ (read oblong (season30 planH) (1 ∷ []) (100 ∷ []) (nines 1) ⟹ gives 100 150 0 0 0 leaving 1 ∷ [])
     ∷ (read oblong (season29 planA) photoBoth doubtsBoth (nines 3) ⟹ gives 400 200 4 0 2 leaving record₁)
     ∷ (read oblong (season30 planA) photoBoth doubtsBoth (nines 3) ⟹ gives 1400 100 2 0 1 leaving 2 ∷ 2 ∷ 2 ∷ [])
     ∷ (measure oblong (season29 planA) mark₁ (doubted 101 1) record₁ ⟹ only 8 leaving record₁)
@@ -310,10 +312,11 @@ ageCases =
     ∷ (read strip (season30 planA) (4 ∷ 5 ∷ 255 ∷ []) (0 ∷ 0 ∷ 250 ∷ []) (nines 2) ⟹ gives 250 250 0 1 0 leaving 3 ∷ 1 ∷ [])
     ∷ (read strip (season30 planA) (4 ∷ 5 ∷ 255 ∷ []) (0 ∷ 0 ∷ 100 ∷ []) (nines 2) ⟹ only 8 leaving nines 2)
     ∷ (measure strip (season30 planA) (4 ∷ 5 ∷ 1 ∷ []) (sure 3) (3 ∷ 1 ∷ []) ⟹ gives 500 0 1 0 1 leaving 3 ∷ 1 ∷ [])
-    ∷ (explain oblong (season30 planA) photoD (1 ∷ 1 ∷ 1 ∷ sure 6) record₁ (nines 3) ⟹ tells 0 1 0 0 beside nines 3)  -- e
+    ∷ (explain oblong (season30 planH) (1 ∷ []) (249 ∷ []) (1 ∷ []) (nines 1) ⟹ tells 0 1 0 0 beside nines 1)  -- h
     ∷ (explain oblong (season30 planH) (1 ∷ []) (250 ∷ []) (1 ∷ []) (nines 1) ⟹ tells 0 3 0 0 beside nines 1)  -- i
-    ∷ (explain oblong (season30 planA) photoD (sure 9) (1 ∷ 0 ∷ 0 ∷ []) (nines 3) ⟹ tells 0 3 0 2500 beside nines 3)
-    ∷ (explain oblong (season30 planA) mark₁ (doubted 250 5) (2 ∷ 2 ∷ 2 ∷ []) (nines 3) ⟹ tells 0 2 3 0 beside record₁)
+    ∷ (explain strip (season30 planA) (4 ∷ 5 ∷ 1 ∷ []) (sure 3) (0 ∷ 0 ∷ []) (nines 2) ⟹ tells 0 3 0 1000 beside nines 2)
+    ∷ (explain strip (season30 planA) (4 ∷ 5 ∷ 255 ∷ []) (0 ∷ 0 ∷ 250 ∷ []) (2 ∷ 2 ∷ []) (nines 2)
+    ⟹ tells 0 2 1 0 beside 3 ∷ 1 ∷ [])
     ∷ (explain strip (season30 planA) (4 ∷ 5 ∷ 0 ∷ []) (251 ∷ 0 ∷ 0 ∷ []) (3 ∷ 1 ∷ []) (nines 2) ⟹ tells 8 0 0 0 beside nines 2)
     ∷ []
 
