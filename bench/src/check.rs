@@ -14,23 +14,15 @@ use traymark_tests::run::Suite;
 
 /// Every shape with doubts in 100ths, and every shape with doubts in 250ths.
 pub const SUITES: [Suite; 2] = [
-    Suite {
-        name: "ports before season 30",
-        cases: 7_000,
-        case: |seed, random, counts| case(&[0, 12, 29], seed, random, counts),
-    },
-    Suite {
-        name: "ports from season 30 on",
-        cases: 7_000,
-        case: |seed, random, counts| case(&[30, 31, 256, u16::MAX], seed, random, counts),
-    },
+    Suite { name: "ports before season 30", cases: 7_000, case: |seed, random, counts| case(0, seed, random, counts) },
+    Suite { name: "ports from season 30 on", cases: 7_000, case: |seed, random, counts| case(1, seed, random, counts) },
 ];
 
-/// One plan of these seasons and a photograph; every fourth time something lent is spoiled.
-fn case(seasons: &[u16], seed: u64, random: &mut Random, counts: &mut Counts) -> Result<(), String> {
+/// One plan of a season of that age, before 30 or from 30 on, and a photograph; every fourth time something lent is spoiled.
+fn case(age: usize, seed: u64, random: &mut Random, counts: &mut Counts) -> Result<(), String> {
     let shapes = plans::shapes();
     let plan = plans::plan(shapes[seed as usize % shapes.len()], random);
-    let plan = Plan { season: random.pick(seasons), ..plan };
+    let plan = Plan { season: plans::seasons(random)[age], ..plan };
     let mut given = arguments(&plan, random);
     if random.one_in(4) {
         spoil(&mut given, random);

@@ -119,6 +119,14 @@ pub fn unread(code: Code, plan: &Plan) -> Photo {
     Photo { symbols: vec![UNREAD; cells], doubts: vec![plan.full_doubt(); cells] }
 }
 
+/// Symbols and doubts of 256 cells, of which one was read, as 250 and in one below the full doubt. With d 0 the record 250 costs
+/// one below the radius.
+pub fn one_cell_read(full: u8) -> [[u8; 256]; 2] {
+    let mut photo = [[255; 256], [full; 256]];
+    (photo[0][77], photo[1][77]) = (250, full - 1);
+    photo
+}
+
 /// Another record whose mark, or strip, is at a small distance: a multiple of a product of d factors (X - x) and (Y - y) more.
 /// With factors along the smaller side alone the marks differ in as few cells as two can.
 pub fn rival(code: Code, plan: &Plan, record: &[u32], random: &mut Random) -> Vec<u32> {

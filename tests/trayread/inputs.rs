@@ -4,7 +4,7 @@
 use crate::printed::printed;
 use independent::calls::bytes;
 use independent::{Code, Plan, PLAN};
-use traymark_tests::photo::{photograph, rival};
+use traymark_tests::photo::{one_cell_read, photograph, rival};
 use traymark_tests::plans::{self, plan_a, season_12, with_season, Shape, LARGE_OBLONGS, LARGE_SQUARES};
 use traymark_tests::program::{all_lengths, changed, rubbish, Input};
 use traymark_tests::random::Random;
@@ -294,7 +294,6 @@ fn photographed(plan: &Plan, cost: u32, random: &mut Random) -> Vec<u8> {
 
 /// 16 by 16 cells, d 0: one read cell is enough, though it is almost in full doubt.
 fn one_read(season: u16, full: u8) -> Vec<u8> {
-    let (mut symbols, mut doubts) = ([255; 256], [full; 256]);
-    (symbols[77], doubts[77]) = (250, full - 1);
+    let [symbols, doubts] = one_cell_read(full);
     joined(&[&sixteen(season).bytes(), &symbols, &doubts])
 }

@@ -4,7 +4,7 @@
 use crate::printed::printed;
 use independent::calls::bytes;
 use independent::{Code, Plan, PLAN};
-use traymark_tests::photo::{agreeing, noise, photograph, rival, Photo};
+use traymark_tests::photo::{agreeing, noise, one_cell_read, photograph, rival, Photo};
 use traymark_tests::plans::{self, plan_a, season_12, with_season, Shape, LARGE_OBLONGS, LARGE_SQUARES};
 use traymark_tests::program::{all_lengths, changed, rubbish, Input};
 use traymark_tests::random::Random;
@@ -131,17 +131,12 @@ fn largest() -> Vec<Input> {
         let record = vec![record; (degree + 1) * (degree + 2) / 2];
         Input::new(format!("season {season}, d {degree}, {printed}"), [plan, record, photo.concat()].concat(), printed)
     };
-    let one_read = |full: u8| {
-        let mut photo = [[255; 256], [full; 256]];
-        (photo[0][77], photo[1][77]) = (250, full - 1);
-        photo
-    };
     let eight_8s = [std::array::from_fn(|cell| if cell < 8 { 8 } else { 7 }), [0; 256]];
     vec![
         said(29, 0, [[250; 256], [0; 256]], 250, "ANSWER 0 25600\n"),
         said(65_535, 0, [[250; 256], [0; 256]], 250, "ANSWER 0 64000\n"),
-        said(29, 0, one_read(100), 250, "ANSWER 25599 1\n"),
-        said(65_535, 0, one_read(250), 250, "ANSWER 63999 1\n"),
+        said(29, 0, one_cell_read(100), 250, "ANSWER 25599 1\n"),
+        said(65_535, 0, one_cell_read(250), 250, "ANSWER 63999 1\n"),
         said(29, 15, eight_8s, 0, "NONE 49600\n"),
         said(65_535, 15, eight_8s, 0, "NONE 124000\n"),
     ]

@@ -200,14 +200,15 @@ fn telling() -> Vec<Pair> {
     vec![
         // six right cells in doubt 100: 600 of 600, and of 1,500
         read_pair(Mark, &a, &MARK, &six_doubts, Err((10, 3)), Ok((&[3, 1, 2], [600, 900, 0, 0, 0]))),
-        measure_pair(Mark, &a, &[3, 1, 2], &CASE_D, &SURE, [600, 0, 3, 0, 1], [1_500, 0, 3, 0, 1]),
-        explain_pair(Mark, &a, &[0, 0, 0], &CASE_D, &SURE, Nothing(400), Nothing(1_000)),
+        [[600, 0, 3, 0, 1], [1_500, 0, 3, 0, 1]].map(|said| measure(Mark, &a, &[3, 1, 2], &CASE_D, &SURE, said)),
+        [Nothing(400), Nothing(1_000)].map(|said| explain(Mark, &a, &[0, 0, 0], &CASE_D, &SURE, said)),
         // two right cells in doubt 100: 200 of 200, and of 500
         read_pair(Strip, &a, &[4, 5, 0], &[100, 100, 0], Err((10, 2)), Ok((&[3, 1], [200, 300, 0, 0, 0]))),
-        measure_pair(Strip, &a, &[3, 1], &[4, 5, 1], &[0; 3], [200, 0, 1, 0, 1], [500, 0, 1, 0, 1]),
-        explain_pair(Strip, &a, &[0, 0], &[4, 5, 1], &[0; 3], Nothing(400), Nothing(1_000)),
+        [[200, 0, 1, 0, 1], [500, 0, 1, 0, 1]].map(|said| measure(Strip, &a, &[3, 1], &[4, 5, 1], &[0; 3], said)),
+        [Nothing(400), Nothing(1_000)].map(|said| explain(Strip, &a, &[0, 0], &[4, 5, 1], &[0; 3], said)),
         // a cell that is unread
-        explain_pair(Mark, &a, &[3, 1, 2], &unread(MARK, 0..1).0, &unread(MARK, 0..1).1, Refused(8), Answer),
+        [Refused(8), Answer]
+            .map(|said| explain(Mark, &a, &[3, 1, 2], &unread(MARK, 0..1).0, &unread(MARK, 0..1).1, said)),
     ]
 }
 
@@ -259,9 +260,9 @@ fn another_answer() -> Vec<Pair> {
     let (one, other) = ([3, 1, 2], [2, 2, 2]);
     vec![
         read_pair(Mark, &a, &symbols, &doubts, Ok((&one, [400, 200, 4, 0, 2])), Ok((&other, [1_400, 100, 2, 0, 1]))),
-        measure_pair(Mark, &a, &other, &symbols, &doubts, [800, -200, 2, 0, 1], [1_400, 100, 2, 0, 1]),
-        explain_pair(Mark, &a, &one, &symbols, &doubts, Answer, Other(&other, 3)),
-        explain_pair(Mark, &a, &other, &symbols, &doubts, Other(&one, 3), Answer),
+        [[800, -200, 2, 0, 1], [1_400, 100, 2, 0, 1]].map(|said| measure(Mark, &a, &other, &symbols, &doubts, said)),
+        [Answer, Other(&other, 3)].map(|said| explain(Mark, &a, &one, &symbols, &doubts, said)),
+        [Other(&one, 3), Answer].map(|said| explain(Mark, &a, &other, &symbols, &doubts, said)),
         // a strip of one value: a sure cell has 5, two in doubt have 4, or 4 and 3, and then nothing is read any more
         read_pair(Strip, &plan_d0, &[5, 4, 4], &[0, 100, 100], Ok((&[5], [200, 100, 2, 0, 1])), Ok((&[4], [700, 50, 1, 0, 1]))),
         read_pair(Strip, &plan_d0, &[5, 4, 3], &[0, 100, 100], Ok((&[5], [200, 100, 2, 0, 1])), Err((10, 1))),
@@ -275,28 +276,4 @@ fn unread<const N: usize>(symbols: [u8; N], cells: Range<usize>) -> ([u8; N], [u
 
 fn read_pair(code: Code, plan: &[u8], symbols: &[u8], doubts: &[u8], earlier: Said, later: Said) -> Pair {
     [earlier, later].map(|result| read(code, plan, symbols, doubts, result))
-}
-
-fn measure_pair(
-    code: Code,
-    plan: &[u8],
-    record: &[u8],
-    symbols: &[u8],
-    doubts: &[u8],
-    earlier: [i32; 5],
-    later: [i32; 5],
-) -> Pair {
-    [earlier, later].map(|answer| measure(code, plan, record, symbols, doubts, answer))
-}
-
-fn explain_pair(
-    code: Code,
-    plan: &[u8],
-    record: &[u8],
-    symbols: &[u8],
-    doubts: &[u8],
-    earlier: Why,
-    later: Why,
-) -> Pair {
-    [earlier, later].map(|why| explain(code, plan, record, symbols, doubts, why))
 }
