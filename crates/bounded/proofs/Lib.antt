@@ -1,4 +1,5 @@
 -- The laws of sums, tests, tables and first places.
+pub mod Parts
 pub mod Sum
 pub mod Any
 pub mod Tab

@@ -17,6 +17,7 @@ use lib.ListN.{length}
 use borrow.Author.Tests.{eqb-true, ltb-false, leb-false, eq-eqb, le-ltb, lt-leb, not-false}
 use Rattle.bounded.specs.Bounded.{at}
 use Rattle.bounded.proofs.Any.{any-none, none-any}
+use Rattle.bounded.proofs.Parts.{both-false, not-both, neither}
 use Rattle.definitions.specs.Refusals.{Refusal, first, accepted}
 use Rattle.definitions.specs.Plan.{modulus, planRows, checkNumber}
 use Rattle.definitions.specs.Code.{Code, cells, size}
@@ -24,15 +25,7 @@ use Rattle.definitions.specs.Cost.{full, unread}
 use Rattle.definitions.specs.Calls.{strange, misdoubted, photoTests, photoRows}
 use Rattle.definitions.specs.Photograph.{SymbolsFit, DoubtsFit, Photograph}
 use Rattle.definitions.proofs.Sound.{checked, sound}
-use Rattle.definitions.proofs.Refusals.{first-append, first-at, first-clear, testAt, equal, neither}
-
-both-false : (a b : Bool) → (a ≡ true → b ≡ false) → a && b ≡ false
-both-false true b h = h refl
-both-false false b h = refl
-
-not-both : (a b : Bool) → a && b ≡ false → a ≡ true → b ≡ false
-not-both true b e h = e
-not-both false b e h = absurd (true≢false (sym h))
+use Rattle.definitions.proofs.Refusals.{first-append, first-at, first-clear, testAt, equal}
 
 module _ (C : Code) (P s u : List ℕ) where
   pub symbols-fit : strange (modulus P) s (cells C P) ≡ false → SymbolsFit C P s

@@ -16,13 +16,12 @@
 --   answered, answered-not        a test that a function has answered
 --   holds                         a test that is not false is true
 --   not-true, turned-true         a test turned round
---   neither, nor                  a test of two parts that fails
 --
 -- What this file is for: a call tests row by row and stops at the first that refuses: its number is the definition's, and of
 -- those that apply the first in the table's order. Assumes nothing.
 use mathlib.Core.Path.{_≡_, refl, sym, ap, _∙_}
 use mathlib.Core.Logic.{_≢_, inl, inr}
-use mathlib.Core.Bool.{Bool, true, false, not, _&&_, _||_, false≢true, true≢false}
+use mathlib.Core.Bool.{Bool, true, false, not, _&&_, false≢true}
 use mathlib.Core.List.{List, [], _∷_, _++_}
 use Prim.Native.Nat.{ℕ, zero, suc, _≤_, _<_}
 use native.Mathlib.Omega.{arith}
@@ -30,6 +29,7 @@ use native.Mathlib.Nat.{le-of-eq}
 use lib.Dec.{eqb, ltb, leb}
 use lib.ListN.{length}
 use borrow.Author.Tests.{eq-eqb, ne-eqb, leb-true, ltb-true}
+use Rattle.bounded.proofs.Parts.{both}
 use Rattle.definitions.specs.Refusals.{Refusal, _when_, first, rank, Applies, Earliest, accepted}
 
 -- no row has the number 0
@@ -109,10 +109,6 @@ unfolding first
 first-applies [] n = n refl
 first-applies ((k when true) ∷ rows) n = inl (refl, refl)
 first-applies ((k when false) ∷ rows) n = inr (first-applies rows n)
-
-both : (a b : Bool) → a && b ≡ true → (a ≡ true) × (b ≡ true)
-both true b e = (refl, e)
-both false b e = absurd (false≢true e)
 
 module _ (order : List ℕ) where
   -- the numbers of the rows stand in the order, from its m-th on: none is before the one ahead of it
@@ -195,10 +191,3 @@ not-true e = rw e
 
 pub turned-true : {b : Bool} → b ≡ false → not b ≡ true
 turned-true e = rw e
-
-pub neither : (a b : Bool) → a || b ≡ false → (a ≡ false) × (b ≡ false)
-neither true b e = absurd (true≢false e)
-neither false b e = (refl, e)
-
-pub nor : {a b : Bool} → a ≡ false → b ≡ false → a || b ≡ false
-nor e h = rw (e, h)

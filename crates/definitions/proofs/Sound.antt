@@ -22,6 +22,7 @@ use lib.ListN.{length}
 use borrow.Author.Tests.{leb-false, ltb-false, eqb-true, eqb-false, not-false, lt-leb, lt-ltb, le-ltb, le-leb, ne-eqb}
 use Rattle.bounded.specs.Bounded.{at}
 use Rattle.bounded.proofs.Any.{any-none, none-any}
+use Rattle.bounded.proofs.Parts.{neither, nor}
 use Rattle.field.specs.Prime.{isPrime}
 use Rattle.field.proofs.Prime.{is-prime, prime-is}
 use Rattle.definitions.specs.Plan.{planBytes, modulus, rows, columns, degree, filled, unfit, unrisen, wrongPoint, misplaced}
@@ -30,7 +31,7 @@ use Rattle.definitions.specs.Code.{Code, strip, oblong, cells}
 use Rattle.definitions.specs.Sound.{IsSide, PointsFrom, Sound}
 use Rattle.definitions.specs.Demands.{CheckedExactly, Whole, IsModulus}
 use Rattle.definitions.proofs.Refusals.{testAt, first-clear, Stops, numberAt, first-at, _&_}
-use Rattle.definitions.proofs.Refusals.{equal, holds, not-true, neither, nor}
+use Rattle.definitions.proofs.Refusals.{equal, holds, not-true}
 
 -- the n bytes from byte a on are 0
 zeros : (P : List ℕ) (a n : ℕ) → filled P a n ≡ false → (i : ℕ) → a ≤ i → i < a + n → at P i ≡ 0

@@ -8,6 +8,7 @@ pub mod Search
 pub mod Calls
 pub mod Explaining
 pub mod Finder
+pub mod Windows
 pub mod Room
 pub mod Tray
 pub mod Why
@@ -18,4 +19,5 @@ pub mod Sound
 pub mod Photograph
 pub mod Reads
 pub mod Demands
+pub mod Seasons
 pub mod Accepted

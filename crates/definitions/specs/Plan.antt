@@ -1,6 +1,7 @@
 -- "The season plan": a record of 40 bytes, here P. X takes the row points, and every other coordinate the column points.
 --
 --   planBytes                 the length of a plan
+--   pair P a                  the number in two bytes from byte a on, the high one first
 --   season, modulus, degree   the season, p and d
 --   rows, columns             how many points there are each way
 --   rowPoint, columnPoint     the i-th row point and the j-th column point, counted from 0
@@ -26,8 +27,11 @@ use Rattle.definitions.specs.Refusals.{Refusal, _when_, first}
 abbrev pub planBytes : ℕ
 planBytes = 40
 
+abbrev pub pair : List ℕ → ℕ → ℕ
+pair P a = at P a * 256 + at P (a + 1)
+
 abbrev pub season : List ℕ → ℕ
-season P = at P 0 * 256 + at P 1
+season P = pair P 0
 
 abbrev pub modulus : List ℕ → ℕ
 modulus P = at P 2

@@ -29,7 +29,7 @@ first ((k when true) ∷ rows) = k
 first ((k when false) ∷ rows) = first rows
 
 abbrev pub table : List ℕ
-table = 1 ∷ 2 ∷ 3 ∷ 13 ∷ 4 ∷ 5 ∷ 6 ∷ 7 ∷ 8 ∷ 9 ∷ 10 ∷ 11 ∷ 12 ∷ []
+table = 1 ∷ 2 ∷ 3 ∷ 13 ∷ 4 ∷ 5 ∷ 6 ∷ 7 ∷ 8 ∷ 9 ∷ 10 ∷ 11 ∷ 12 ∷ 14 ∷ 15 ∷ 16 ∷ []
 
 abbrev pub rank : (order : List ℕ) (k : ℕ) → ℕ
 rank order k = index (length order) λ i. eqb (at order i) k

@@ -1,10 +1,17 @@
-// Lent bytes as rows of numbers, numbers as bytes, and a test of bytes.
+// Bytes as numbers, lent bytes as rows of them, numbers as bytes, and a test of bytes.
 ghost use mathlib.Core.Path.{_≡_};
-ghost use Prim.Native.Nat.{ℕ, _≤_, _<_};
+ghost use Prim.Native.Nat.{ℕ, _+_, _*_, _≤_, _<_};
 ghost use lib.ListN.{length};
 ghost use Rattle.bounded.specs.Bounded.{at, tab};
 ghost use Rattle.field.specs.Row.{row as rowOf};
 ghost use Rattle.field.specs.Word.{reached};
+
+// Two bytes as a number, the high one first.
+pub fn pair(high: u8, low: u8) -> u16
+    ensures { λ r. ⌜ r ≡ high * 256 + low ⌝ }
+{
+    high as u16 * 256 + low as u16
+}
 
 // At most sixteen bytes as a row, 0 beyond their end.
 pub fn row(bytes: &[u8]) -> [u16; 16]

@@ -18,11 +18,12 @@ use lib.ListN.{length, take, drop}
 use borrow.Author.Tests.{leb-false, le-leb, lt-leb, lt-ltb, le-ltb}
 use Rattle.bounded.specs.Bounded.{at, any}
 use Rattle.bounded.proofs.Any.{any-none, none-any}
+use Rattle.bounded.proofs.Parts.{neither, nor}
 use Rattle.bounded.proofs.Part.{part-any}
 use Rattle.field.specs.Word.{reached}
 use Rattle.definitions.specs.Plan.{planBytes, modulus, filled, unfit, misplaced}
 use Rattle.definitions.specs.Sound.{PointsFrom}
-use Rattle.definitions.proofs.Refusals.{answered, neither, nor}
+use Rattle.definitions.proofs.Refusals.{answered}
 use Rattle.definitions.proofs.Sound.{fits, placed, in-place}
 
 pub low : {r m x : ℕ} → r ≡ m → r ≤ x → leb m x ≡ true

@@ -6,7 +6,7 @@ use field::rows::reciprocal;
 use polynomial::Grid;
 ghost use mathlib.Core.Path.{_≡_};
 ghost use mathlib.Core.Bool.{_&&_, _||_, cond};
-ghost use Prim.Native.Nat.{_+_, _*_, _≤_, _<_, min};
+ghost use Prim.Native.Nat.{_+_, _≤_, _<_, min};
 ghost use denote.Ref.{ptr};
 ghost use lib.Dec.{ltb, leb};
 ghost use lib.ListN.{length};
@@ -115,7 +115,7 @@ pub fn parse(plan: &[u8]) -> Plan
     requires { ⌜ Sound (now plan) ⌝ }
     ensures { λ r. ⌜ Says (now (plan .entry)) r ⌝ }
 {
-    let season = season_of(plan[0], plan[1]);
+    let season = bytes::pair(plan[0], plan[1]);
     let p = plan[2] as u16;
     let grid = Grid {
         p,
@@ -128,13 +128,6 @@ pub fn parse(plan: &[u8]) -> Plan
         full: full_doubt(season),
     };
     Plan { season, grid }
-}
-
-// A season's two bytes, the high one first.
-fn season_of(high: u8, low: u8) -> u16
-    ensures { λ r. ⌜ r ≡ high * 256 + low ⌝ }
-{
-    high as u16 * 256 + low as u16
 }
 
 // The full doubt of a season, which is the doubt of a cell of which nothing is known: the newer cameras report finer doubts.
@@ -161,7 +154,7 @@ pub fn locate(file: &[u8], season: u16, offset: &mut usize) -> u32
     let n = file.len() / PLAN_BYTES;
     for k in 0..n {
         let at = k * PLAN_BYTES;
-        if season_of(file[at], file[at + 1]) == season {
+        if bytes::pair(file[at], file[at + 1]) == season {
             *offset = at;
             return 0;
         }

@@ -36,7 +36,7 @@ returns-2 c =
     let k = b .loop .k in
     let l : k < plans file = omega arith in
     let s : season (planAt file k) ≡ b .before .before .before .args .season =
-    season-at _ k ∙ sym (c .before .season-of .ensures) ∙ c .if2 .taken in
+    season-at _ k ∙ sym (c .before .pair .ensures) ∙ c .if2 .taken in
     let e = find-at _ _ 2 (equal _ _ (b .before .if1 .left), (not-true (some-any _ _ k l (eq-eqb _ _ s)), tt)) in
     (e, offset-found _ _ k l (b .loop .inv .1) s e)
 
@@ -45,7 +45,7 @@ loop-again c =
     let b = c .before .before .before .before .before in (
       search needs,
       any-more _ _ (b .loop .inv .1)
-          (ne-eqb _ _ λ e. c .if2 .left (c .before .season-of .ensures ∙ sym (season-at _ (b .loop .k)) ∙ e)),
+          (ne-eqb _ _ λ e. c .if2 .left (c .before .pair .ensures ∙ sym (season-at _ (b .loop .k)) ∙ e)),
       b .loop .inv .2,
     )
 

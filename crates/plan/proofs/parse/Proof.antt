@@ -20,7 +20,7 @@ returns c =
       m = inverse .reciprocal .result;
       fields = rw (
         c .full-doubt .ensures,
-        season .season-of .ensures,
+        season .pair .ensures,
         points-loaded 6 P (rows .row .ensures),
         points-loaded 22 P (columns .row2 .ensures),
       ) refl;
