@@ -5,9 +5,10 @@
 --   index-within   it is below the bound where any number there passes
 --   index-is       a number that passes, none before it doing so, is the first
 --   index-none     it is the bound where none passes
+--   index-eq       tests that answer the same
 --
 -- What this file is for: a loop that stops at the first true answer has found the definition's place. Assumes nothing.
-use mathlib.Core.Path.{_≡_, refl, sym, ap, _∙_}
+use mathlib.Core.Path.{_≡_, refl, sym, ap, ap₂, _∙_}
 use mathlib.Core.Bool.{Bool, true, false, cond, false≢true}
 use Prim.Native.Nat.{ℕ, zero, suc, _<_}
 use native.Mathlib.Omega.{arith}
@@ -58,3 +59,8 @@ index-none zero f e = refl
 index-none (suc n) f e =
     let rest = none-any n (λ i. f (suc i)) λ i l. any-none (suc n) f e (suc i) (omega arith) in
     rw (any-none (suc n) f e 0 (omega arith)) (ap suc (index-none n (λ i. f (suc i)) rest))
+
+pub index-eq : (n : ℕ) {f g : ℕ → Bool} → ((i : ℕ) → i < n → f i ≡ g i) → index n f ≡ index n g
+unfolding index
+index-eq zero h = refl
+index-eq (suc n) h = ap₂ (λ b m. cond b 0 (suc m)) (h 0 (omega arith)) (index-eq n λ i l. h (suc i) (omega arith))

@@ -1,6 +1,6 @@
 -- Finding a plan in a file.
 --
---   season-at         the season of plan k is that of two bytes of the file
+--   season-at         the season of a part of the file is in its two bytes
 --   find-at           a search that stops at row i of its refusals has that row's number
 --   find-exactly      which number is given, by the bytes of the file
 --   nowhere           the offset and the bytes of a refusal
@@ -17,31 +17,35 @@ use mathlib.Core.List.{List, []}
 use Prim.Native.Nat.{ℕ, _+_, _*_, _-_, _≤_, _<_}
 use native.Mathlib.Omega.{arith}
 use native.Mathlib.Nat.{add-zero, add-sub-cancel-left}
-use lib.Dec.{T, ltb, ltb→lt}
+use lib.Dec.{lit<}
 use lib.ListN.{length, take, drop}
 use lib.Seq.{getD-take, getD-drop}
 use borrow.Author.Tests.{eq-eqb, ne-eqb, eqb-true, eqb-false, not-false as passed}
 use Rattle.bounded.specs.Bounded.{at, any}
 use Rattle.bounded.proofs.Any.{some-any, none-any}
 use Rattle.bounded.proofs.Index.{index-before, index-holds, index-within, index-is}
-use Rattle.definitions.specs.Plan.{planBytes, season}
+use Rattle.definitions.specs.Plan.{planBytes, pair, season}
 use Rattle.definitions.specs.Finder.{plans, planAt, ofSeason, firstPlan, findRows, findNumber, findOffset, findBytes}
 use Rattle.definitions.specs.Demands.{FoundExactly, FirstOfSeason}
 use Rattle.definitions.proofs.Refusals.{Stops, numberAt, first-at, first-clear, otherwise}
 use Rattle.definitions.proofs.Refusals.{equal, unequal, not-true, turned-true}
 
--- the season of plan k is in the bytes from its first on
-season-from : (file : List ℕ) (k : ℕ) → season (planAt file k) ≡ season (drop (k * planBytes) file)
-season-from file k = ap₂ (λ a b. a * 256 + b) (byte 0 tt) (byte 1 tt)
+-- the season of the n bytes from byte a on is in the bytes from byte a on
+season-from : (file : List ℕ) (a n : ℕ) → 1 < n → season (take n (drop a file)) ≡ season (drop a file)
+season-from file a n l = ap₂ (λ a b. a * 256 + b) (byte 0 (omega arith)) (byte 1 l)
   where
-    byte : (i : ℕ) → T (ltb i planBytes) → at (planAt file k) i ≡ at (drop (k * planBytes) file) i
-    byte i l = getD-take planBytes (drop (k * planBytes) file) i 0 (ltb→lt i planBytes l)
+    byte : (i : ℕ) → i < n → at (take n (drop a file)) i ≡ at (drop a file) i
+    byte i l = getD-take n (drop a file) i 0 l
 
-pub season-at : (file : List ℕ) (k : ℕ) → season (planAt file k) ≡ at file (k * planBytes) * 256 + at file (k * planBytes + 1)
-season-at file k = season-from file k ∙ ap₂ (λ a b. a * 256 + b) (byte 0 ∙ ap (at file) (add-zero (k * planBytes))) (byte 1)
+pub season-at : (file : List ℕ) (a n : ℕ) → 1 < n → season (take n (drop a file)) ≡ pair file a
+season-at file a n l = season-from file a n l ∙ ap₂ (λ a b. a * 256 + b) (byte 0 ∙ ap (at file) (add-zero a)) (byte 1)
   where
-    byte : (i : ℕ) → at (drop (k * planBytes) file) i ≡ at file (k * planBytes + i)
-    byte i = getD-drop (k * planBytes) file i 0
+    byte : (i : ℕ) → at (drop a file) i ≡ at file (a + i)
+    byte i = getD-drop a file i 0
+
+-- and that of plan k
+plan-season : (file : List ℕ) (k : ℕ) → season (planAt file k) ≡ season (drop (k * planBytes) file)
+plan-season file k = season-from file (k * planBytes) planBytes (lit< tt)
 
 module _ (file : List ℕ) (y : ℕ) where
   pub find-at : (i : ℕ) → Stops (findRows file y) i → numberAt (findRows file y) i ≡ findNumber file y
@@ -54,11 +58,11 @@ module _ (file : List ℕ) (y : ℕ) where
     broken = λ h. sym (find-at 0 (unequal _ _ h));
     found = λ e k l s. sym (find-at 2 (
       equal _ _ e,
-      (not-true (some-any _ _ k (omega arith) (eq-eqb _ _ (season-from file k ∙ s))), tt),
+      (not-true (some-any _ _ k (omega arith) (eq-eqb _ _ (plan-season file k ∙ s))), tt),
     ));
     absent = λ e h. sym (find-at 1 (
       equal _ _ e,
-      turned-true (none-any _ _ λ k l. ne-eqb _ _ λ s. h k (omega arith) (sym (season-from file k) ∙ s)),
+      turned-true (none-any _ _ λ k l. ne-eqb _ _ λ s. h k (omega arith) (sym (plan-season file k) ∙ s)),
     ));
   }
 
@@ -79,7 +83,7 @@ module _ (file : List ℕ) (y : ℕ) where
     inside = omega (arith, within);
     bytes = rw e;
     same = rw e (eqb-true _ _ (index-holds (plans file) (ofSeason file y) within));
-    before = λ i l s. eqb-false _ _ (index-before (plans file) (ofSeason file y) i l) (season-from file i ∙ s);
+    before = λ i l s. eqb-false _ _ (index-before (plans file) (ofSeason file y) i l) (plan-season file i ∙ s);
   }
     where
       within : firstPlan file y < plans file

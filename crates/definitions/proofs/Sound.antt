@@ -4,6 +4,7 @@
 --   check-at           the check that stops at row i gives that row's number
 --   checked-exactly    which number the check gives, by the first row of the table that the plan breaks
 --   fits               a side that its test does not find unfit
+--   zeros, filled-no   bytes that are 0, from their test to the facts, and back
 --   placed, in-place   points in their sixteen bytes, from their test to the facts, and back
 --   cells-most         strips and marks of a sound plan have at most 256 cells
 --
@@ -34,13 +35,13 @@ use Rattle.definitions.proofs.Refusals.{testAt, first-clear, Stops, num
 use Rattle.definitions.proofs.Refusals.{equal, holds, not-true}
 
 -- the n bytes from byte a on are 0
-zeros : (P : List ℕ) (a n : ℕ) → filled P a n ≡ false → (i : ℕ) → a ≤ i → i < a + n → at P i ≡ 0
+pub zeros : (P : List ℕ) (a n : ℕ) → filled P a n ≡ false → (i : ℕ) → a ≤ i → i < a + n → at P i ≡ 0
 zeros P a n h i l m =
     let e : a + (i - a) ≡ i = omega arith in
     let z : at P (a + (i - a)) ≤ 0 = ltb-false _ _ (any-none _ _ h (i - a) (omega arith)) in
     omega (arith, ap (at P) e)
 
-filled-no : (P : List ℕ) (a n : ℕ) → ((i : ℕ) → a ≤ i → i < a + n → at P i ≡ 0) → filled P a n ≡ false
+pub filled-no : (P : List ℕ) (a n : ℕ) → ((i : ℕ) → a ≤ i → i < a + n → at P i ≡ 0) → filled P a n ≡ false
 filled-no P a n h = none-any _ _ λ i l.
     let z : at P (a + i) ≤ 0 = omega (arith, h (a + i) (omega arith) (omega arith)) in
     le-ltb _ _ z

@@ -71,6 +71,7 @@ use lib.Signed.{_≤ℤ_}
 use lib.ListN.{length, take, drop}
 use Rattle.bounded.specs.Bounded.{at, sum}
 use Rattle.field.specs.Prime.{Prime}
+use Rattle.calendar.specs.declared.Date.{Date}
 use Rattle.definitions.specs.Sound.{IsSide, PointsFrom}
 use Rattle.definitions.specs.declared.Reading.{Reading}
 use Rattle.definitions.specs.declared.Reason.the-variants.{Refused, Answer, Other, Nothing}
@@ -92,6 +93,7 @@ use Rattle.definitions.specs.Finder.{findRows, findNumber, findOffset, f
 use Rattle.definitions.specs.Photograph.{SymbolsFit, DoubtsFit, Photograph, sure}
 use Rattle.definitions.specs.Widening.{widened, widenedAll, widenRows, widenNumber, widenBuffer}
 use Rattle.definitions.specs.Widening.{widenText, narrowNumber, cleared}
+use Rattle.definitions.specs.Windows.{seasonRows, seasonNumber, seasonFound}
 use Rattle.definitions.specs.Tray.{planOf, symbolsOf, doubtsOf}
 use Rattle.definitions.specs.Why.{expectedOf, shownSymbols, shownDoubts}
 use Rattle.definitions.specs.Printed.{refusedLine, trayText, whyText}
@@ -106,6 +108,7 @@ pub record RefusalsKeep : Type 0 where
       (explainReason C P s u F B ≡ Refused (explainNumber C P s u F B)) × (explainBuffer C P s u F B ≡ B)
   pub find : (file : List ℕ) (y : ℕ) → findNumber file y ≢ 0 → (findOffset file y ≡ 0) × (findBytes file y ≡ [])
   pub widen : (old wide : List ℕ) → widenNumber old wide ≢ 0 → widenBuffer old wide ≡ wide
+  pub season : (file : List ℕ) (t : Date) → seasonNumber file t ≢ 0 → seasonFound file t ≡ 0
 
 abbrev pub Whole : List ℕ → Type 0
 Whole P = (length P ≡ 40) × ((at P 38 ≡ 0) × (at P 39 ≡ 0))
@@ -246,6 +249,7 @@ pub record LowestGiven : Type 0 where
   pub explain : (C : Code) (P s u F B : List ℕ) → Earliest table (explainRows C P s u F B) (explainNumber C P s u F B)
   pub find : (file : List ℕ) (season : ℕ) → Earliest table (findRows file season) (findNumber file season)
   pub widen : (old wide : List ℕ) → Earliest (11 ∷ 6 ∷ []) (widenRows old wide) (widenNumber old wide)
+  pub season : (file : List ℕ) (t : Date) → Earliest table (seasonRows file t) (seasonNumber file t)
 
 pub record Measures (C : Code) (P s u F : List ℕ) : Type 0 where
   pub never : measureNumber C P s u F ≢ 10

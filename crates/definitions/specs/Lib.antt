@@ -13,6 +13,7 @@ pub mod Room
 pub mod Tray
 pub mod Why
 pub mod Printed
+pub mod Dated
 pub mod Widening
 pub mod Cases
 pub mod Sound

@@ -1,1 +1,5 @@
--- none
+-- The laws of windows.
+pub mod EndDays
+pub mod Rows
+pub mod Seasons
+pub mod Cases

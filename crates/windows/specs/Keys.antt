@@ -1,7 +1,7 @@
 -- Windows by the keys of their end days, as the code compares them.
 --
---   Sound file a n           of the first n windows of the file, the dates from byte a on are real
---   Keys file a n l          and the list l has their keys
+--   AllReal file a n         of the first n windows of the file, the dates from byte a on are real
+--   KeyAt file a k x         x is the key of that date of window k
 --   hasKey first last x k    window k, from the key `first` to the key `last`, has the day with the key x
 --   meetAny first last from to n
 --                            one of the first n windows meets the window from `from` to `to`
@@ -13,17 +13,15 @@ use mathlib.Core.Bool.{Bool, true, _&&_}
 use mathlib.Core.List.{List}
 use Prim.Native.Nat.{ℕ, _<_}
 use lib.Dec.{leb}
-use lib.ListN.{length}
 use Rattle.bounded.specs.Bounded.{at, any}
 use Rattle.calendar.specs.Dates.{real, key}
 use Rattle.definitions.specs.Windows.{windowAt, dateAt}
 
-abbrev pub Sound : (file : List ℕ) (a n : ℕ) → Type 0
-Sound file a n = (k : ℕ) → k < n → real (dateAt (windowAt file k) a) ≡ true
+abbrev pub AllReal : (file : List ℕ) (a n : ℕ) → Type 0
+AllReal file a n = (k : ℕ) → k < n → real (dateAt (windowAt file k) a) ≡ true
 
-pub record Keys (file : List ℕ) (a n : ℕ) (l : List ℕ) : Type 0 where
-  pub size : length l ≡ 64
-  pub each : (k : ℕ) → k < n → at l k ≡ key (dateAt (windowAt file k) a)
+abbrev pub KeyAt : (file : List ℕ) (a k x : ℕ) → Type 0
+KeyAt file a k x = x ≡ key (dateAt (windowAt file k) a)
 
 abbrev pub hasKey : (first last : List ℕ) (x k : ℕ) → Bool
 hasKey first last x k = leb (at first k) x && leb x (at last k)

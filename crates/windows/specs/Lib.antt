@@ -1,2 +1,3 @@
 -- What the crate's contracts say.
 pub mod Keys
+pub mod Cases

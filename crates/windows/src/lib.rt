@@ -4,14 +4,13 @@ use calendar::is_real;
 use calendar::key;
 use field::bytes;
 ghost use mathlib.Core.Path.{_≡_};
-ghost use mathlib.Core.Bool.{false, true, _&&_};
-ghost use Prim.Native.Nat.{ℕ, _+_, _*_, _≤_, _<_};
-ghost use lib.Dec.{leb};
+ghost use Prim.Native.Nat.{_+_, _*_, _≤_, _<_};
 ghost use lib.ListN.{length};
-ghost use Rattle.bounded.specs.Bounded.{at, any, index};
-ghost use Rattle.calendar.specs.Dates.{key as keyOf};
-ghost use Rattle.definitions.specs.Windows.{windows, windowAt, dateAt, faulty, seasonNumber, seasonFound};
-ghost use Rattle.windows.specs.Keys.{Sound, Keys, meetAny, meetTwo, hasKey};
+ghost use Rattle.bounded.specs.Bounded.{any, index};
+ghost use Rattle.calendar.specs.Calendar.{date};
+ghost use Rattle.field.specs.Loop.{Upto};
+ghost use Rattle.definitions.specs.Windows.{windowAt, dateAt, faulty, seasonNumber, seasonFound};
+ghost use Rattle.windows.specs.Keys.{AllReal, KeyAt, hasKey, meetAny, meetTwo};
 
 // The length of a window.
 pub const WINDOW_BYTES: usize = 12;
@@ -97,17 +96,24 @@ fn date_at(window: &[u8], a: usize) -> Date
     requires { ⌜ a + 3 < length (now window) ⌝ }
     ensures { λ r. ⌜ r ≡ dateAt (now (window .entry)) a ⌝ }
 {
+    date_of(window[a], window[a + 1], window[a + 2], window[a + 3])
+}
+
+// A date in its four bytes.
+fn date_of(high: u8, low: u8, month: u8, day: u8) -> Date
+    ensures { λ r. ⌜ r ≡ date (high * 256 + low) month day ⌝ }
+{
     Date {
-        year: bytes::pair(window[a], window[a + 1]) as u32,
-        month: window[a + 2] as u32,
-        day: window[a + 3] as u32,
+        year: bytes::pair(high, low) as u32,
+        month: month as u32,
+        day: day as u32,
     }
 }
 
 // The keys of the dates from byte a on of n windows without fault.
 fn keys(file: &[u8], a: usize, n: usize) -> [u32; 64]
-    requires { ⌜ (n * 12 ≤ length (now file)) × (n ≤ 64) × (a + 3 < 12) × Sound (now file) a n ⌝ }
-    ensures { λ r. ⌜ Keys (now (file .entry)) a n r ⌝ }
+    requires { ⌜ (n * 12 ≤ length (now file)) × (n ≤ 64) × (a + 3 < 12) × AllReal (now file) a n ⌝ }
+    ensures { λ r. ⌜ Upto 64 0 (KeyAt (now (file .entry)) a) r n ⌝ }
 {
     let mut out = [0u32; 64];
     for k in 0..n {

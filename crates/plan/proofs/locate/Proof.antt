@@ -1,8 +1,9 @@
 -- `plan::locate` meets its contract: none of the first k records has the season. Assumes nothing.
 use mathlib.Core.Path.{_≡_, sym, _∙_}
 use mathlib.Core.Bool.{false}
-use Prim.Native.Nat.{_-_, _≤_, _<_}
+use Prim.Native.Nat.{_*_, _-_, _≤_, _<_}
 use native.Mathlib.Omega.{arith}
+use lib.Dec.{lit<}
 use borrow.Author.Tests.{eq-eqb, ne-eqb}
 use Rattle.bounded.specs.Bounded.{any}
 use Rattle.bounded.proofs.Any.{some-any, any-more, any-start}
@@ -36,16 +37,17 @@ returns-2 c =
     let k = b .loop .k in
     let l : k < plans file = omega arith in
     let s : season (planAt file k) ≡ b .before .before .before .args .season =
-    season-at _ k ∙ sym (c .before .pair .ensures) ∙ c .if2 .taken in
+    season-at file (k * 40) 40 (lit< tt) ∙ sym (c .before .pair .ensures) ∙ c .if2 .taken in
     let e = find-at _ _ 2 (equal _ _ (b .before .if1 .left), (not-true (some-any _ _ k l (eq-eqb _ _ s)), tt)) in
     (e, offset-found _ _ k l (b .loop .inv .1) s e)
 
 loop-again : tie.Need-loop-again Inv-loop μ-loop
 loop-again c =
-    let b = c .before .before .before .before .before in (
+    let b = c .before .before .before .before .before in
+    let file = b .before .before .before .args .file .now in (
       search needs,
       any-more _ _ (b .loop .inv .1)
-          (ne-eqb _ _ λ e. c .if2 .left (c .before .pair .ensures ∙ sym (season-at _ (b .loop .k)) ∙ e)),
+          (ne-eqb _ _ λ e. c .if2 .left (c .before .pair .ensures ∙ sym (season-at file (b .loop .k * 40) 40 (lit< tt)) ∙ e)),
       b .loop .inv .2,
     )
 

@@ -1,79 +1,42 @@
+-- `windows::is_any_faulty` meets its contract: none of the windows before k is faulty. Assumes nothing.
+use mathlib.Core.Path.{_≡_, sym}
+use mathlib.Core.Bool.{false}
+use Prim.Native.Nat.{_-_, _≤_}
+use native.Mathlib.Omega.{arith}
 use borrow.Author.Needs.{needs}
+use Rattle.bounded.specs.Bounded.{any}
+use Rattle.bounded.proofs.Any.{any-start, any-more, some-any}
+use Rattle.definitions.specs.Windows.{windowAt, faulty}
+use Rattle.windows.proofs.EndDays.{faulty-part}
 use Rattle.windows.proofs.is_any_faulty.Statement.{statement}
 use Rattle.windows.proofs.is_any_faulty.Tie as tie
-use Rattle.windows.proofs.is_any_faulty.Reads as reads
-use Rattle.windows.proofs.is_any_faulty.Lts as lts
-use Rattle.windows.proofs.is_faulty.Reads as is-faulty-reads
 
 abbrev Inv-loop : tie.InvT-loop
-Inv-loop file n k₀ k = ?
+Inv-loop file n k₀ k = (k ≤ n) × (any k (λ i. faulty (windowAt file i)) ≡ false)
 
 abbrev μ-loop : tie.MeasureT-loop
-μ-loop file n k₀ k = ?
+μ-loop file n k₀ k = n - k
 
--- src/lib.rt:66:5
-loop-holds : tie.Need-loop-holds Inv-loop μ-loop
-loop-holds c = search needs
-
--- src/lib.rt:67:18
-mul-at : tie.Need-mul-at Inv-loop μ-loop
-mul-at c = search needs
-
--- src/lib.rt:68:32
-add-is-faulty : tie.Need-add-is-faulty Inv-loop μ-loop
-add-is-faulty c = search needs
-
--- src/lib.rt:68:22
-sub-is-faulty : tie.Need-sub-is-faulty Inv-loop μ-loop
-sub-is-faulty c = search needs
-
--- src/lib.rt:68:22
-part-is-faulty-start : tie.Need-part-is-faulty-start Inv-loop μ-loop
-part-is-faulty-start c = search needs
-
--- src/lib.rt:68:22
-part-is-faulty-end : tie.Need-part-is-faulty-end Inv-loop μ-loop
-part-is-faulty-end c = search needs
-
--- src/lib.rt:68:12
-is-faulty-requires : tie.Need-is-faulty-requires Inv-loop μ-loop
-is-faulty-requires c κs = search needs
-
--- src/lib.rt:69:13
 returns : tie.Need-returns Inv-loop μ-loop
-returns c = search needs
+returns c =
+    let k = c .before .before .before .before .loop .k in
+    sym (some-any _ _ k (omega arith) (faulty-part _ k (c .before .is-faulty .ensures) (c .if1 .taken)))
 
--- src/lib.rt:66:9
-add-k : tie.Need-add-k Inv-loop μ-loop
-add-k c = search needs
-
--- src/lib.rt:66:5
-loop-less : tie.Need-loop-less Inv-loop μ-loop
-loop-less c = search needs
-
--- src/lib.rt:66:5
 loop-again : tie.Need-loop-again Inv-loop μ-loop
-loop-again c = search needs
+loop-again c =
+    let l = c .before .before .before .before .loop in
+    (omega arith, any-more _ _ (l .inv .1) (faulty-part _ (l .k) (c .before .is-faulty .ensures) (c .if1 .left)))
 
--- src/lib.rt:62:1
 returns-2 : tie.Need-returns-2 Inv-loop μ-loop
-returns-2 c = search needs
+returns-2 c =
+    let e : c .before .loop .k ≡ c .before .before .before .args .n = omega arith in
+    sym (rw e at (c .before .loop .inv .1))
 
 pub is-any-faulty-spec : {M : Type 1} → statement M
-is-any-faulty-spec =
-    tie.close
-    (tie.spec
-    Inv-loop
-    μ-loop
-    loop-holds
-    mul-at
-    add-is-faulty
-    sub-is-faulty
-    part-is-faulty-start
-    part-is-faulty-end
-    is-faulty-requires
+is-any-faulty-spec = tie.close (tie.spec Inv-loop μ-loop
+    (λ c. (omega arith, any-start _))
+    (λ c. search needs) (λ c. search needs) (λ c. search needs) (λ c. search needs) (λ c. search needs) (λ c κs. search needs)
     returns
-    add-k
-    loop-less
+    (λ c. search needs) (λ c. search needs)
     loop-again
     returns-2)

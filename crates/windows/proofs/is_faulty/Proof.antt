@@ -1,84 +1,60 @@
+-- `windows::is_faulty` meets its contract: test by test. Assumes nothing.
+use mathlib.Core.Path.{_≡_, sym, ap, _∙_}
+use native.Mathlib.Omega.{arith}
 use borrow.Author.Needs.{needs}
+use borrow.Author.Tests.{not-false}
+use Rattle.calendar.specs.Dates.{real, key}
+use Rattle.definitions.proofs.Refusals.{answered-not}
+use Rattle.windows.proofs.EndDays.{found-real, fault-first, fault-last, fault-order, fault-zeros}
 use Rattle.windows.proofs.is_faulty.Statement.{statement}
 use Rattle.windows.proofs.is_faulty.Tie as tie
-use Rattle.windows.proofs.is_faulty.Reads as reads
-use Rattle.windows.proofs.is_faulty.Lts as lts
-use Rattle.calendar.proofs.is_real.Reads as is-real-reads
-use Rattle.calendar.proofs.key.Reads as key-reads
-use Rattle.field.proofs.bytes.reaches.Reads as reaches-reads
-use Rattle.windows.proofs.date_at.Reads as date-at-reads
 
--- src/lib.rt:80:9
-date-at-requires : tie.Need-date-at-requires
-date-at-requires c κs = search needs
-
--- src/lib.rt:81:9
-is-real-requires : tie.Need-is-real-requires
-is-real-requires c κs = search needs
-
--- src/lib.rt:82:9
 returns : tie.Need-returns
-returns c = search needs
+returns c =
+    let d = c .before .before in
+    fault-first (d .before .before .args .window .now) (answered-not (c .before .is-real .ensures ∙ ap real (d .date-at .ensures)) (c .if1 .taken))
 
--- src/lib.rt:84:9
-date-at-requires-2 : tie.Need-date-at-requires-2
-date-at-requires-2 c κs = search needs
-
--- src/lib.rt:85:9
-is-real-requires-2 : tie.Need-is-real-requires-2
-is-real-requires-2 c κs = search needs
-
--- src/lib.rt:86:9
 returns-2 : tie.Need-returns-2
-returns-2 c = search needs
+returns-2 c =
+    let d = c .before .before in
+    let b = d .before in
+    let r = found-real (b .before .before .date-at .ensures) (b .before .is-real .ensures) (b .if1 .left) in
+    fault-last (b .before .before .before .before .args .window .now) r (answered-not (c .before .is-real2 .ensures ∙ ap real (d .date-at2 .ensures)) (c .if2 .taken))
 
--- src/lib.rt:88:8
-key-requires : tie.Need-key-requires
-key-requires c κs = search needs
-
--- src/lib.rt:88:20
-key-requires-2 : tie.Need-key-requires-2
-key-requires-2 c κs = search needs
-
--- src/lib.rt:89:9
 returns-3 : tie.Need-returns-3
-returns-3 c = search needs
+returns-3 c =
+    let k = c .before .before in
+    let e = k .before in
+    let d = e .before .before in
+    let b = d .before in
+    let r = found-real (b .before .before .date-at .ensures) (b .before .is-real .ensures) (b .if1 .left) in
+    let s = found-real (d .date-at2 .ensures) (e .before .is-real2 .ensures) (e .if2 .left) in
+    let f = c .before .key2 .ensures ∙ ap key (b .before .before .date-at .ensures) in
+    let l = k .key .ensures ∙ ap key (d .date-at2 .ensures) in
+    fault-order (b .before .before .before .before .args .window .now) r s (omega (arith, f, l, c .if3 .taken))
 
--- src/lib.rt:91:20
-sub-reaches : tie.Need-sub-reaches
-sub-reaches c = search needs
-
--- src/lib.rt:91:20
-part-reaches-start : tie.Need-part-reaches-start
-part-reaches-start c = search needs
-
--- src/lib.rt:91:20
-part-reaches-end : tie.Need-part-reaches-end
-part-reaches-end c = search needs
-
--- src/lib.rt:91:5
-reaches-requires : tie.Need-reaches-requires
-reaches-requires c κs = search needs
-
--- src/lib.rt:76:1
 returns-4 : tie.Need-returns-4
-returns-4 c = search needs
+returns-4 c =
+    let o = c .before .before in
+    let k = o .before .before in
+    let e = k .before in
+    let d = e .before .before in
+    let b = d .before in
+    let r = found-real (b .before .before .date-at .ensures) (b .before .is-real .ensures) (b .if1 .left) in
+    let s = found-real (d .date-at2 .ensures) (e .before .is-real2 .ensures) (e .if2 .left) in
+    let f = o .before .key2 .ensures ∙ ap key (b .before .before .date-at .ensures) in
+    let l = k .key .ensures ∙ ap key (d .date-at2 .ensures) in
+    let start = b .before .before .before .before in
+    fault-zeros (start .args .window .now) r s (omega (arith, f, l, o .if3 .left)) (start .pre) (c .reaches .ensures)
 
 pub is-faulty-spec : {M : Type 1} → statement M
-is-faulty-spec =
-    tie.close
-    (tie.spec
-    date-at-requires
-    is-real-requires
+is-faulty-spec = tie.close (tie.spec
+    (λ c κs. search needs) (λ c κs. search needs)
     returns
-    date-at-requires-2
-    is-real-requires-2
+    (λ c κs. search needs) (λ c κs. search needs)
     returns-2
-    key-requires
-    key-requires-2
+    (λ c κs. sym (c .before .is-real2 .ensures) ∙ not-false _ (c .if2 .left))
+    (λ c κs. let b = c .before .before .before .before in sym (b .before .is-real .ensures) ∙ not-false _ (b .if1 .left))
     returns-3
-    sub-reaches
-    part-reaches-start
-    part-reaches-end
-    reaches-requires
+    (λ c. search needs) (λ c. search needs) (λ c. search needs) (λ c κs. search needs)
     returns-4)

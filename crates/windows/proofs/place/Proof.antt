@@ -1,68 +1,40 @@
+-- `windows::place` meets its contract: none of the windows before k has the day. Assumes nothing.
+use mathlib.Core.Path.{_≡_, sym}
+use mathlib.Core.Bool.{false}
+use Prim.Native.Nat.{_-_, _≤_}
+use native.Mathlib.Omega.{arith}
 use borrow.Author.Needs.{needs}
+use Rattle.bounded.specs.Bounded.{any}
+use Rattle.bounded.proofs.Any.{any-start, any-more}
+use Rattle.bounded.proofs.Index.{index-is, index-none}
+use Rattle.windows.specs.Keys.{hasKey}
 use Rattle.windows.proofs.place.Statement.{statement}
 use Rattle.windows.proofs.place.Tie as tie
-use Rattle.windows.proofs.place.Reads as reads
-use Rattle.windows.proofs.place.Lts as lts
 
 abbrev Inv-loop : tie.InvT-loop
-Inv-loop first last n day k₀ k = ?
+Inv-loop first last n day k₀ k = (k ≤ n) × (any k (hasKey first last day) ≡ false)
 
 abbrev μ-loop : tie.MeasureT-loop
-μ-loop first last n day k₀ k = ?
+μ-loop first last n day k₀ k = n - k
 
--- src/lib.rt:148:5
-loop-holds : tie.Need-loop-holds Inv-loop μ-loop
-loop-holds c = search needs
-
--- src/lib.rt:149:13
-mul-if1 : tie.Need-mul-if1 Inv-loop μ-loop
-mul-if1 c = search needs
-
--- src/lib.rt:149:13
-shared-slice-read-if1 : tie.Need-shared-slice-read-if1 Inv-loop μ-loop
-shared-slice-read-if1 c = search needs
-
--- src/lib.rt:149:40
-mul-if1-2 : tie.Need-mul-if1-2 Inv-loop μ-loop
-mul-if1-2 c = search needs
-
--- src/lib.rt:149:40
-shared-slice-read-if1-2 : tie.Need-shared-slice-read-if1-2 Inv-loop μ-loop
-shared-slice-read-if1-2 c = search needs
-
--- src/lib.rt:150:13
 returns : tie.Need-returns Inv-loop μ-loop
-returns c = search needs
+returns c =
+    let l = c .before .before .before .before .loop in
+    sym (index-is _ _ (l .k) (omega arith) (l .inv .1) (c .if1 .taken))
 
--- src/lib.rt:148:9
-add-k : tie.Need-add-k Inv-loop μ-loop
-add-k c = search needs
-
--- src/lib.rt:148:5
-loop-less : tie.Need-loop-less Inv-loop μ-loop
-loop-less c = search needs
-
--- src/lib.rt:148:5
 loop-again : tie.Need-loop-again Inv-loop μ-loop
-loop-again c = search needs
+loop-again c = (omega arith, any-more _ _ (c .before .before .before .before .loop .inv .1) (c .if1 .left))
 
--- src/lib.rt:144:1
 returns-2 : tie.Need-returns-2 Inv-loop μ-loop
-returns-2 c = search needs
+returns-2 c =
+    let e : c .before .loop .k ≡ c .before .before .args .n = omega arith in
+    sym (index-none _ _ (rw e at (c .before .loop .inv .1)))
 
 pub place-spec : {M : Type 1} → statement M
-place-spec =
-    tie.close
-    (tie.spec
-    Inv-loop
-    μ-loop
-    loop-holds
-    mul-if1
-    shared-slice-read-if1
-    mul-if1-2
-    shared-slice-read-if1-2
+place-spec = tie.close (tie.spec Inv-loop μ-loop
+    (λ c. (omega arith, any-start _))
+    (λ c. search needs) (λ c. search needs) (λ c. search needs) (λ c. search needs)
     returns
-    add-k
-    loop-less
+    (λ c. search needs) (λ c. search needs)
     loop-again
     returns-2)
