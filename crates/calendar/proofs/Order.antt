@@ -1,6 +1,7 @@
 -- The order of real dates, by their keys.
 --
 --   key-earlier, key-onOrBefore      two real dates are in the order of their keys
+--   same-date                        dates with the same year, month and day are one date
 --   key-same                         real dates with one key are one date
 --   earlier-key, onOrBefore-key      what the order says, in numbers
 --   earlier-by, onOrBefore-by        and back
@@ -8,7 +9,7 @@
 -- What this file is for: the code compares keys, and laws of the order are laws of numbers. Assumes nothing.
 use mathlib.Core.Path.{_≡_, sym, ap, _∙_}
 use mathlib.Core.Bool.{true, not, _&&_, _||_}
-use Prim.Native.Nat.{_≤_, _<_}
+use Prim.Native.Nat.{ℕ, _≤_, _<_}
 use native.Mathlib.Omega.{arith}
 use native.Mathlib.Decide.{decLt}
 use lib.Dec.{eqb, ltb, leb}
@@ -17,6 +18,9 @@ use Rattle.calendar.specs.Dates.{real, earlier, onOrBefore, key}
 use Rattle.calendar.specs.Calendar.{date}
 use Rattle.calendar.specs.declared.Date.{Date}
 use Rattle.calendar.proofs.Real.{IsReal, is-real}
+
+pub same-date : {y m d y′ m′ d′ : ℕ} → y ≡ y′ → m ≡ m′ → d ≡ d′ → date y m d ≡ date y′ m′ d′
+same-date y m d = rw (y, m, d)
 
 module _ (t u : Date) (r : real t ≡ true) (s : real u ≡ true) where
   abbrev a : IsReal t
@@ -59,7 +63,7 @@ module _ (t u : Date) (r : real t ≡ true) (s : real u ≡ true) where
       let y : t .year ≡ u .year = omega (arith, e, a .december, a .most, b .december, b .most) in
       let m : t .month ≡ u .month = omega (arith, e, y, a .most, b .most) in
       let d : t .day ≡ u .day = omega (arith, e, y, m) in
-      ap (λ n. date n (t .month) (t .day)) y ∙ ap (λ n. date (u .year) n (t .day)) m ∙ ap (date (u .year) (u .month)) d
+      same-date y m d
 
   -- as numbers
   pub earlier-key : earlier t u ≡ true → key t < key u

@@ -10,12 +10,12 @@
 --   seasonText w input   what is printed: the season or REFUSED, and nothing where the argument has not the form of a date
 --
 -- What this file is for: the one answer of `trayseason` is `seasonText` of its argument and of all that came in.
-use mathlib.Core.Bool.{Bool, cond, _&&_, not}
+use mathlib.Core.Bool.{Bool, true, cond, _&&_}
 use mathlib.Core.List.{List, [], _∷_, _++_}
 use Prim.Native.Nat.{ℕ, zero, suc, _+_, _*_, _-_}
 use lib.Dec.{eqb, leb}
 use lib.ListN.{length}
-use Rattle.bounded.specs.Bounded.{at, any}
+use Rattle.bounded.specs.Bounded.{at}
 use Rattle.calendar.specs.Calendar.{date}
 use Rattle.calendar.specs.declared.Date.{Date}
 use Rattle.definitions.specs.Refusals.{accepted}
@@ -26,7 +26,8 @@ abbrev pub isDigit : ℕ → Bool
 isDigit b = leb (digit 0) b && leb b (digit 9)
 
 abbrev pub digitsFrom : List ℕ → (a n : ℕ) → Bool
-digitsFrom w a n = not (any n λ i. not (isDigit (at w (a + i))))
+digitsFrom w a zero = true
+digitsFrom w a (suc n) = digitsFrom w a n && isDigit (at w (a + n))
 
 abbrev pub numberFrom : List ℕ → (a n : ℕ) → ℕ
 numberFrom w a zero = 0

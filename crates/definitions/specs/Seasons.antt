@@ -9,19 +9,25 @@
 --   SeasonExactly file t        which number is given: 14 where the file is not readable, else 15 where two windows share a day,
 --                               else 16 where the date is unreal or in no window, else 0 with the season of a window that has it
 --   OneWindow file t            exactly one window of the file has the day, and its season is returned
+--   shown, DateTaken            `trayseason` takes ten bytes, in the form of a date, for the numbers that they show
+--   SeasonPrinted w input       it prints the season's digits, or REFUSED and the number, and nothing where its argument has
+--                               not that form
 --
 -- What this file is for: the sentences of request 7 that a user relies on. The crate `traymark` proves them.
 use mathlib.Core.Path.{_≡_}
-use mathlib.Core.List.{List}
-use mathlib.Core.Bool.{true}
+use mathlib.Core.List.{List, [], _∷_, _++_}
+use mathlib.Core.Bool.{true, false}
 use mathlib.Core.Logic.{_≢_}
 use Prim.Native.Nat.{ℕ, _+_, _*_, _%_, _≤_, _<_}
 use lib.ListN.{length, take, drop}
 use Rattle.bounded.specs.Bounded.{at}
 use Rattle.calendar.specs.Dates.{real, onOrBefore}
+use Rattle.calendar.specs.Calendar.{date}
 use Rattle.calendar.specs.declared.Date.{Date}
 use Rattle.definitions.specs.Plan.{season}
 use Rattle.definitions.specs.Windows.{firstDay, lastDay, seasonNumber, seasonFound}
+use Rattle.definitions.specs.Printed.{decimal, refusedLine}
+use Rattle.definitions.specs.Dated.{dated, askedDate, seasonText}
 
 pub record Window (file : List ℕ) (k : ℕ) (W : List ℕ) : Type 0 where
   pub inside : k * 12 + 12 ≤ length file
@@ -63,3 +69,21 @@ pub record OneWindow (file : List ℕ) (t : Date) : Type 0 where
   pub only : (j : ℕ) (W′ : List ℕ) → Window file j W′ → HasDay W′ t → j ≡ k
   pub number : seasonNumber file t ≡ 0
   pub season : seasonFound file t ≡ season W
+
+-- digits as a date: the byte of a digit is 48 and more, and that of '-' is 45
+abbrev pub shown : (a b c d e f g h : ℕ) → List ℕ
+shown a b c d e f g h =
+    (48 + a) ∷ (48 + b) ∷ (48 + c) ∷ (48 + d) ∷ 45 ∷ (48 + e) ∷ (48 + f) ∷ 45 ∷ (48 + g) ∷ (48 + h) ∷ []
+
+pub record DateTaken : Type 0 where
+  pub form : (a b c d e f g h : ℕ) → a < 10 → b < 10 → c < 10 → d < 10 → e < 10 → f < 10 → g < 10 → h < 10 →
+      dated (shown a b c d e f g h) ≡ true
+  pub numbers : (a b c d e f g h : ℕ) →
+      askedDate (shown a b c d e f g h) ≡ date (a * 1000 + b * 100 + c * 10 + d) (e * 10 + f) (g * 10 + h)
+
+pub record SeasonPrinted (w input : List ℕ) : Type 0 where
+  pub season : dated w ≡ true → seasonNumber input (askedDate w) ≡ 0 →
+      seasonText w input ≡ decimal (seasonFound input (askedDate w)) ++ 10 ∷ []
+  pub refused : dated w ≡ true → seasonNumber input (askedDate w) ≢ 0 →
+      seasonText w input ≡ refusedLine (seasonNumber input (askedDate w))
+  pub usage : dated w ≡ false → seasonText w input ≡ []

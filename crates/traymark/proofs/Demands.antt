@@ -16,6 +16,10 @@
 --   explains, explains-exactly           document 02, request 5: when a record is explained, and what refuses it
 --   explained, handed                    that the reason given is the true one, and what C is handed of it
 --   found-exactly, first-found           document 02, request 2: when a plan of a season is found, and which
+--   season-exactly, one-window, season-given
+--                                        document 02, request 7: the season of a date
+--   shared-exactly                       what it means that two windows meet by their end days
+--   year-days, dates-in-order, next-day  the calendar
 --   groups-fill                          document 02, request 4: where the coefficients of a record stand
 --   tray-parts, tray-refused             what `trayread` takes of its input, and when it refuses it
 --   why-parts, why-refused               the same of `traywhy`
@@ -26,13 +30,18 @@
 -- What this file is for: the customer's sentences as theorems over the definitions that the calls' contracts repeat. The names in
 -- the statements are of `definitions/specs`. Assumes nothing.
 use mathlib.Core.Path.{_≡_, refl, sym, ap, _∙_}
-use mathlib.Core.Logic.{_↔_}
+use mathlib.Core.Logic.{_↔_, _≢_}
+use mathlib.Core.Bool.{true, cond}
 use mathlib.Core.List.{List, [], _∷_}
 use Prim.Native.Nat.{ℕ, suc, _+_, _*_, _≤_, _<_}
 use native.Mathlib.Omega.{arith}
 use native.Mathlib.Numerals.{add-one}
 use lib.ListN.{length}
 use Rattle.bounded.specs.Bounded.{at, index}
+use Rattle.calendar.specs.Dates.{leap, real}
+use Rattle.calendar.specs.Calendar.{daysOf, lastDate, following, InOrder, IsNext}
+use Rattle.calendar.specs.declared.Date.{Date}
+use Rattle.calendar.proofs.Calendar as calendar
 use Rattle.definitions.specs.Plan.{planBytes, season, rows, columns, degree, planRows, checkNumber}
 use Rattle.definitions.specs.Code.{Code, size, cells, value, mark}
 use Rattle.definitions.specs.Cost.{full}
@@ -40,6 +49,8 @@ use Rattle.definitions.specs.Calls.{photoRows, readingOf, writeRows, writeNumbe
 use Rattle.definitions.specs.Calls.{measureRows, measureNumber, measureReading, readRows, readNumber, readReading, readBuffer}
 use Rattle.definitions.specs.Explaining.{explainRows, explainNumber, explainReason, explainBuffer, valuesOf}
 use Rattle.definitions.specs.Finder.{findRows, findNumber}
+use Rattle.definitions.specs.Windows.{meet, seasonRows, seasonNumber}
+use Rattle.definitions.specs.Seasons.{Window, IsWindow, HasDay, SharedDay, SeasonExactly, OneWindow}
 use Rattle.definitions.specs.Sound.{Sound}
 use Rattle.definitions.specs.Photograph.{SymbolsFit, DoubtsFit, Photograph, sure}
 use Rattle.polynomial.specs.Record.{start}
@@ -73,6 +84,8 @@ use Rattle.definitions.proofs.Margin.{margins-in, lowest-before, highest-before
 use Rattle.distance.proofs.Cost.{cell-full}
 use Rattle.polynomial.proofs.Record.{value-places, start-next, start-below, start-apart, placed}
 use Rattle.polynomial.proofs.Known.{value-mark-is}
+use Rattle.windows.proofs.Rows as windows
+use Rattle.windows.proofs.Seasons as seasons
 use Rattle.traymark.proofs.Answer.{write-keeps, write-fills, measure-refuses, measure-gives, read-keeps, read-gives}
 use Rattle.traymark.proofs.Answer.{explain-keeps}
 
@@ -116,6 +129,7 @@ demand-1 = record {
   explain = explain-keeps;
   find = finder.nowhere;
   widen = widening.widen-refused;
+  season = windows.no-season;
 }
 
 -- Demand 3. For every sound plan and every photograph in buffers of the right lengths, whatever the points, symbols and doubts:
@@ -202,8 +216,8 @@ margins-from-30 = margins-in (λ y. 30 ≤ y) 250 full-from lowest-from highest-
 -- The number that a call gives is the first in the table's order of those that apply and concern the call, 13 standing between 3
 -- and 4. In widening 11 comes before 6.
 pub lowest-given : LowestGiven
-unfolding checkNumber writeNumber measureNumber readNumber explainNumber findNumber widenNumber
-    planRows photoRows writeRows measureRows readRows explainRows findRows widenRows index
+unfolding checkNumber writeNumber measureNumber readNumber explainNumber findNumber widenNumber seasonNumber
+    planRows photoRows writeRows measureRows readRows explainRows findRows widenRows seasonRows index
 lowest-given = record {
   check = λ P. first-earliest table (planRows P) tt refl;
   write = λ C P F B. first-earliest table (writeRows C P F B) tt refl;
@@ -212,6 +226,7 @@ lowest-given = record {
   explain = λ C P s u F B. first-earliest table (explainRows C P s u F B) tt refl;
   find = λ file y. first-earliest table (findRows file y) tt refl;
   widen = λ old wide. first-earliest (11 ∷ 6 ∷ []) (widenRows old wide) tt refl;
+  season = λ file t. first-earliest table (seasonRows file t) tt refl;
 }
 
 -- Measuring never gives 10: a record of the plan is measured against every photograph, a margin of 0 or below returned as such.
@@ -253,6 +268,36 @@ found-exactly = finder.find-exactly
 -- before it in the file has.
 pub first-found : (file : List ℕ) (season : ℕ) → findNumber file season ≡ 0 → FirstOfSeason file season
 first-found = finder.first-of-season
+
+-- The season of a date is decided by the window file and the date alone: 14 where the file is not readable, else 15 where two
+-- windows share a day, else 16 where the date is unreal or in no window, else 0 and the season of a window that has the day.
+pub season-exactly : (file : List ℕ) (t : Date) → SeasonExactly file t
+season-exactly = seasons.season-exactly
+
+-- Where 14 and 15 don't apply and the date is real and in a window, exactly one window has it, and its season is returned.
+pub one-window : (file : List ℕ) (t : Date) → seasonNumber file t ≢ 14 → seasonNumber file t ≢ 15 → real t ≡ true →
+    (k : ℕ) (W : List ℕ) → Window file k W → HasDay W t → OneWindow file t
+one-window = seasons.one-window
+
+-- And wherever a season is returned, the date is real, and the season is that of the one window that has it.
+pub season-given : (file : List ℕ) (t : Date) → seasonNumber file t ≡ 0 → (real t ≡ true) × OneWindow file t
+season-given = seasons.season-given
+
+-- Two windows without fault meet by their end days exactly when some real day lies in both.
+pub shared-exactly : (W W′ : List ℕ) → IsWindow W → IsWindow W′ → (meet W W′ ≡ true) ↔ SharedDay W W′
+shared-exactly = seasons.shared-exactly
+
+-- The calendar: a year from 1900 to 2199 has 366 real dates if it is a leap year, else 365.
+pub year-days : (y : ℕ) → 1900 ≤ y → y ≤ 2199 → daysOf y ≡ cond (leap y) 366 365
+year-days = calendar.year-days
+
+-- Of two real dates that differ just one is the earlier, and none is before 1 January 1900 or after 31 December 2199.
+pub dates-in-order : InOrder
+dates-in-order = calendar.in-order
+
+-- Every real date but the last has a next one: it is later, and no real date lies between.
+pub next-day : (t : Date) → real t ≡ true → t ≢ lastDate → IsNext t (following t)
+next-day = calendar.next-day
 
 -- The groups of degrees 0 to d fill the K = (d + 1)(d + 2)/2 places of a record one after another, with no gap and no overlap.
 pub groups-fill : (d : ℕ) → GroupsFill d

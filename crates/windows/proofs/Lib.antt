@@ -2,4 +2,5 @@
 pub mod EndDays
 pub mod Rows
 pub mod Seasons
+pub mod Dated
 pub mod Cases
