@@ -14,7 +14,7 @@ use mathlib.Core.Logic.{_≢_, _⊎_, inl, inr}
 use Prim.Native.Nat.{ℕ, _+_, _*_, _≤_, _<_}
 use native.Mathlib.Omega.{arith}
 use native.Mathlib.Decide.{decLt}
-use lib.Dec.{leb}
+use lib.Dec.{ltb, leb}
 use borrow.Author.Tests.{lt-ltb, le-ltb, eq-eqb}
 use Rattle.bounded.specs.Bounded.{at, sum}
 use Rattle.bounded.proofs.Sum.{sum-eq}
@@ -39,13 +39,17 @@ year-days y from to = sum-eq 13 (λ m _. sum-eq 32 λ d _. ap (λ b. cond b 1 0)
 pub in-order : InOrder
 unfolding earlier real
 in-order = record {
-  never = λ t. rw (le-ltb (t .year) (t .year) (omega arith), le-ltb (t .month) (t .month) (omega arith), le-ltb (t .day) (t .day) (omega arith), eq-eqb (t .year) (t .year) refl, eq-eqb (t .month) (t .month) refl);
+  never = λ t. rw (alike (t .year), alike (t .month), alike (t .day), eq-eqb (t .year) (t .year) refl)
+      (ap (λ b. b && false) (eq-eqb (t .month) (t .month) refl));
   through = λ t u v r s q e h. earlier-by t v r q (omega (arith, earlier-key t u r s e, earlier-key u v s q h));
   either = λ t u r s. by t u r s (decLt (key t) (key u)) (decLt (key u) (key t));
   first = λ t r. let a = is-real t r in onOrBefore-by firstDate t refl r (omega (arith, a .from, a .january, a .first));
   last = λ t r. let a = is-real t r in onOrBefore-by t lastDate r refl (omega (arith, a .to, a .december, a .most));
 }
   where
+    alike : (n : ℕ) → ltb n n ≡ false
+    alike n = le-ltb n n (omega arith)
+
     by : (t u : Date) → real t ≡ true → real u ≡ true → Dec (key t < key u) → Dec (key u < key t) →
         (earlier t u ≡ true) ⊎ ((t ≡ u) ⊎ (earlier u t ≡ true))
     by t u r s (yes l) m = inl (earlier-by t u r s l)
@@ -101,7 +105,8 @@ module _ (t : Date) (r : real t ≡ true) where
     where
       inMonth : Dec (t .day < daysIn (t .year) (t .month)) → Dec (t .month < 12) → IsNext t (following t)
       inMonth (yes l) m =
-          let q : real (date (t .year) (t .month) (t .day + 1)) ≡ true = real-is _ (a .from) (a .to) (omega arith) (omega arith) in
+          let q : real (date (t .year) (t .month) (t .day + 1)) ≡ true =
+          real-is _ (a .from) (a .to) (omega arith) (omega arith) in
           rw (lt-ltb _ _ l) (record {
             there = q;
             later = earlier-by t _ r q (omega arith);

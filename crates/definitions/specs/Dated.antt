@@ -36,7 +36,7 @@ numberFrom w a (suc n) = numberFrom w a n * 10 + (at w (a + n) - digit 0)
 unfoldable pub dated : List ℕ → Bool
 dated w =
     eqb (length w) 10
-    && (digitsFrom w 0 4 && (eqb (at w 4) minus && (digitsFrom w 5 2 && (eqb (at w 7) minus && digitsFrom w 8 2))))
+    && (digitsFrom w 0 4 && ((eqb (at w 4) minus && digitsFrom w 5 2) && (eqb (at w 7) minus && digitsFrom w 8 2)))
 
 unfoldable pub askedDate : List ℕ → Date
 askedDate w = date (numberFrom w 0 4) (numberFrom w 5 2) (numberFrom w 8 2)

@@ -18,6 +18,7 @@
 --   found-exactly, first-found           document 02, request 2: when a plan of a season is found, and which
 --   season-exactly, one-window, season-given
 --                                        document 02, request 7: the season of a date
+--   date-taken, season-printed           what `trayseason` takes its argument for, and what it prints
 --   shared-exactly                       what it means that two windows meet by their end days
 --   year-days, dates-in-order, next-day  the calendar
 --   groups-fill                          document 02, request 4: where the coefficients of a record stand
@@ -51,6 +52,7 @@ use Rattle.definitions.specs.Explaining.{explainRows, explainNumber, explainRea
 use Rattle.definitions.specs.Finder.{findRows, findNumber}
 use Rattle.definitions.specs.Windows.{meet, seasonRows, seasonNumber}
 use Rattle.definitions.specs.Seasons.{Window, IsWindow, HasDay, SharedDay, SeasonExactly, OneWindow}
+use Rattle.definitions.specs.Seasons.{DateTaken, SeasonPrinted}
 use Rattle.definitions.specs.Sound.{Sound}
 use Rattle.definitions.specs.Photograph.{SymbolsFit, DoubtsFit, Photograph, sure}
 use Rattle.polynomial.specs.Record.{start}
@@ -86,6 +88,7 @@ use Rattle.polynomial.proofs.Record.{value-places, start-next, start-below, sta
 use Rattle.polynomial.proofs.Known.{value-mark-is}
 use Rattle.windows.proofs.Rows as windows
 use Rattle.windows.proofs.Seasons as seasons
+use Rattle.windows.proofs.Dated as dates
 use Rattle.traymark.proofs.Answer.{write-keeps, write-fills, measure-refuses, measure-gives, read-keeps, read-gives}
 use Rattle.traymark.proofs.Answer.{explain-keeps}
 
@@ -286,6 +289,14 @@ season-given = seasons.season-given
 -- Two windows without fault meet by their end days exactly when some real day lies in both.
 pub shared-exactly : (W W′ : List ℕ) → IsWindow W → IsWindow W′ → (meet W W′ ≡ true) ↔ SharedDay W W′
 shared-exactly = seasons.shared-exactly
+
+-- `trayseason` takes an argument in the form of a date for the numbers that it shows.
+pub date-taken : DateTaken
+date-taken = dates.date-taken
+
+-- It prints the season, or REFUSED and the number of the call, and nothing where its argument has not that form.
+pub season-printed : (w input : List ℕ) → SeasonPrinted w input
+season-printed = dates.season-printed
 
 -- The calendar: a year from 1900 to 2199 has 366 real dates if it is a leap year, else 365.
 pub year-days : (y : ℕ) → 1900 ≤ y → y ≤ 2199 → daysOf y ≡ cond (leap y) 366 365

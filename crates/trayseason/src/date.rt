@@ -20,7 +20,7 @@ pub fn is_dated(word: &[u8]) -> bool
     let year = are_digits(word[0], word[1]) & are_digits(word[2], word[3]);
     let month = (word[4] == b'-') & are_digits(word[5], word[6]);
     let day = (word[7] == b'-') & are_digits(word[8], word[9]);
-    year & month & day
+    year & (month & day)
 }
 
 // Whether both are digits.

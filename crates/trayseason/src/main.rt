@@ -17,7 +17,7 @@ fn main() {
     if (os::arg_count() != 2) | !date::is_dated(&word[..length]) {
         io::write_all(
             libc::STDERR_FILENO,
-            b"usage: trayseason YYYY-MM-DD < windows\nprints the season that has the date, by a file of season windows; see man trayseason\n",
+            b"usage: trayseason YYYY-MM-DD < windows\nprints the season of the date, by a file of windows; see man trayseason\n",
         );
         return;
     }

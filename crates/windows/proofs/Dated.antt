@@ -1,27 +1,31 @@
 -- What `trayseason` prints.
 --
 --   date-taken                   an argument in the form of a date is taken for the numbers that it shows
+--   undated, dated-length        an argument of another length than ten has not that form
+--   dated-text, undated-text     what is printed for an argument that has it, and for another
+--   dated-by, asked-by           an argument by its digits, two at a time
 --   season-printed               what is printed, by the number
 --   print-season, print-refused  the same, as a program comes to it
 --   room-season                  one byte more than 64 windows decides, for any input, what is printed
---   season-texts                 what is printed for some arguments and files
 --
 -- What this file is for: the program's answer, by that of the call. Assumes nothing.
-use mathlib.Core.Path.{_≡_, refl, sym, ap, _∙_}
+use mathlib.Core.Path.{_≡_, refl, sym, ap₂, _∙_}
 use mathlib.Core.Logic.{_≢_}
 use mathlib.Core.Bool.{Bool, true, false, cond, _&&_}
 use mathlib.Core.List.{List, [], _∷_, _++_, map}
-use Prim.Native.Nat.{ℕ, _+_, _*_, _%_, _≤_, _<_}
+use Prim.Native.Nat.{ℕ, _+_, _*_, _-_, _%_, _<_}
 use native.Mathlib.Omega.{arith}
 use native.Mathlib.Decide.{ℕ-discrete}
-use lib.Dec.{leb}
+use lib.Dec.{eqb}
 use lib.ListN.{length, take}
-use borrow.Author.Tests.{le-leb, lt-ltb}
-use Rattle.bounded.proofs.Parts.{each-true}
+use borrow.Author.Tests.{le-leb, lt-ltb, eq-eqb, ne-eqb, eqb-true}
+use Rattle.bounded.specs.Bounded.{at}
+use Rattle.bounded.proofs.Parts.{both, each-true}
+use Rattle.calendar.specs.Calendar.{date}
 use Rattle.calendar.specs.declared.Date.{Date}
 use Rattle.calendar.proofs.Order.{same-date}
 use Rattle.definitions.specs.Room.{HoldsFirst}
-use Rattle.definitions.specs.Printed.{digit, refusedLine}
+use Rattle.definitions.specs.Printed.{digit, minus, refusedLine}
 use Rattle.definitions.specs.Windows.{windows, seasonRows, seasonNumber, seasonFound}
 use Rattle.definitions.specs.Dated.{isDigit, dated, askedDate, seasonLine, dateText, seasonText}
 use Rattle.definitions.specs.Seasons.{shown, DateTaken, SeasonPrinted}
@@ -41,6 +45,45 @@ date-taken = record {
   numbers = λ a b c d e f g h. same-date (omega arith) (omega arith) (omega arith);
 }
 
+-- an argument by its parts, two digits at a time
+module _ (w : List ℕ) where
+  pub undated : length w ≢ 10 → false ≡ dated w
+  unfolding dated
+  undated n = rw (ne-eqb (length w) 10 n)
+
+  pub dated-length : dated w ≡ true → length w ≡ 10
+  unfolding dated
+  dated-length e = eqb-true (length w) 10 (both (eqb (length w) 10) _ e .0)
+
+  pub dated-text : dated w ≡ true → (input : List ℕ) → seasonText w input ≡ dateText (askedDate w) input
+  unfolding seasonText
+  dated-text e input = rw e
+
+  pub undated-text : dated w ≡ false → (input : List ℕ) → seasonText w input ≡ []
+  unfolding seasonText
+  undated-text e input = rw e
+
+  abbrev digitPair : ℕ → Bool
+  digitPair a = isDigit (at w a) && isDigit (at w (a + 1))
+
+  abbrev pairNumber : ℕ → ℕ
+  pairNumber a = (at w a - digit 0) * 10 + (at w (a + 1) - digit 0)
+
+  pub dated-by : length w ≡ 10 → {b c d e : Bool} → b ≡ digitPair 0 → c ≡ digitPair 2 → d ≡ digitPair 5 → e ≡ digitPair 8 →
+      (b && c) && ((eqb (at w 4) minus && d) && (eqb (at w 7) minus && e)) ≡ dated w
+  unfolding dated
+  dated-by l f g h i = rw (f, g, h, i, eq-eqb (length w) 10 l) (ap₂ _&&_ (four (isDigit (at w 0)) (isDigit (at w 1)) _ _) refl)
+    where
+      four : (a b c d : Bool) → (a && b) && (c && d) ≡ ((a && b) && c) && d
+      four true true c d = refl
+      four true false c d = refl
+      four false b c d = refl
+
+  pub asked-by : {c y m d : ℕ} → c ≡ pairNumber 0 → y ≡ pairNumber 2 → m ≡ pairNumber 5 → d ≡ pairNumber 8 →
+      date (c * 100 + y) m d ≡ askedDate w
+  unfolding askedDate
+  asked-by f g h i = same-date (omega (arith, f, g)) (omega (arith, h)) (omega (arith, i))
+
 -- by the number of the call
 pub print-season : (t : Date) (file : List ℕ) {k y : ℕ} → k ≡ seasonNumber file t → k ≡ 0 → y ≡ seasonFound file t →
     seasonLine y ≡ dateText t file
@@ -52,11 +95,10 @@ unfolding dateText
 print-refused t file {k} e n = rw (← e) (sym (otherwise k _ _ n))
 
 pub season-printed : (w input : List ℕ) → SeasonPrinted w input
-unfolding seasonText
 season-printed w input = record {
-  season = λ d z. rw d (sym (print-season (askedDate w) input refl z refl));
-  refused = λ d n. rw d (sym (print-refused (askedDate w) input refl n));
-  usage = λ d. rw d;
+  season = λ d z. dated-text w d input ∙ sym (print-season (askedDate w) input refl z refl);
+  refused = λ d n. dated-text w d input ∙ sym (print-refused (askedDate w) input refl n);
+  usage = λ d. undated-text w d input;
 }
 
 -- a file of more than 64 windows

@@ -41,7 +41,8 @@ pub faulty-part : (file : List ℕ) (k : ℕ) {r t : Bool} → r ≡ faulty (tak
     faulty (windowAt file k) ≡ t
 faulty-part file k e h = ap faulty (sym (window-part file k)) ∙ sym e ∙ h
 
-pub date-part : (file : List ℕ) (k a : ℕ) → dateAt (take (k * 12 + 12 - k * 12) (drop (k * 12) file)) a ≡ dateAt (windowAt file k) a
+pub date-part : (file : List ℕ) (k a : ℕ) →
+    dateAt (take (k * 12 + 12 - k * 12) (drop (k * 12) file)) a ≡ dateAt (windowAt file k) a
 date-part file k a = ap (λ W. dateAt W a) (window-part file k)
 
 -- a date that was read and found real

@@ -43,7 +43,8 @@ is-window W e =
     }
 
 window-is : (W : List ℕ) → IsWindow W → faulty W ≡ false
-window-is W S = nor (ap not (S .first)) (nor (ap not (S .last)) (nor (not-true (earlier (lastDay W) (firstDay W)) (S .order)) (filled-no W 10 2 zero)))
+window-is W S = nor (ap not (S .first)) (nor (ap not (S .last))
+    (nor (not-true (earlier (lastDay W) (firstDay W)) (S .order)) (filled-no W 10 2 zero)))
   where
     zero : (i : ℕ) → 10 ≤ i → i < 12 → at W i ≡ 0
     zero i l m = elim (decLt i 11) [
@@ -183,10 +184,12 @@ module _ (file : List ℕ) where
             l : firstWith file t < windows file
             l = index-within (windows file) _ e
 
-  has-day : (t : Date) (k : ℕ) (W : List ℕ) → Window file k W → HasDay W t → any (windows file) (λ k. has (windowAt file k) t) ≡ true
+  has-day : (t : Date) (k : ℕ) (W : List ℕ) → Window file k W → HasDay W t →
+      any (windows file) (λ k. has (windowAt file k) t) ≡ true
   has-day t k W w d = some-any (windows file) _ k (at-place k W w) (rw (w .bytes) at (each-true (d .0) (d .1)))
 
-  no-day : (t : Date) → ((k : ℕ) (W : List ℕ) → Window file k W → ¬ (HasDay W t)) → any (windows file) (λ k. has (windowAt file k) t) ≡ false
+  no-day : (t : Date) → ((k : ℕ) (W : List ℕ) → Window file k W → ¬ (HasDay W t)) →
+      any (windows file) (λ k. has (windowAt file k) t) ≡ false
   no-day t n = none-any (windows file) _ λ k l. go k l (has (windowAt file k) t) refl
     where
       go : (k : ℕ) → k < windows file → (b : Bool) → has (windowAt file k) t ≡ b → has (windowAt file k) t ≡ false

@@ -53,12 +53,12 @@ abbrev years : ℕ → List ℕ
 years zero = []
 years (suc n) = years n ++ window n (date (1900 + 3 * n) 1 1) (date (1900 + 3 * n) 12 31)
 
--- In order: end days, New Year, the days about a window, and 30 June beside 1 July; one day; 29 February in four years, in the file
--- and asked for; days that are in no month and months that are in no year; the first and the last day that there is, and the
--- years about them; numbers that a byte or two do not hold; a last date before its first, by a day, by a month with a later day, by
--- a year with a later month; two windows that share a day at either end, with one season too, one window twice, one inside
--- another, and the first and the last of three; filler; broken files, none, 64 windows and 65; seasons 0, 268 and 65535; 14 before
--- 15 before 16
+-- In order: end days, New Year, the days about a window, and 30 June beside 1 July; one day; 29 February in four years, in the
+-- file and asked for; days that are in no month and months that are in no year; the first and the last day that there is, and
+-- the years about them; numbers that a byte or two do not hold; a last date before its first, by a day, by a month with a later
+-- day, by a year with a later month; two windows that share a day at either end, with one season too, one window twice, one
+-- inside another, and the first and the last of three; filler; broken files, none, 64 windows and 65; seasons 0, 268 and 65535;
+-- 14 before 15 before 16
 abbrev pub seasonCases : List Case
 seasonCases =
     (belt asked date 2026 11 15 ⟹ (0, 30))

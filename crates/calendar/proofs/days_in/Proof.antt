@@ -22,7 +22,9 @@ returns-5 c = rw (c .match .keys5)
 returns-6 : tie.Need-returns-6
 returns-6 c =
     let r = c .match .rest in
-    long-month (c .before .args .year) (c .before .args .month) (c .before .pre .0) (c .before .pre .1) (r .0 .0 .0 .0 .1) (r .0 .0 .0 .1) (r .0 .0 .1) (r .0 .1) (r .1)
+    let s = c .before in
+    long-month (s .args .year) (s .args .month) (s .pre .0) (s .pre .1)
+    (r .0 .0 .0 .0 .1) (r .0 .0 .0 .1) (r .0 .0 .1) (r .0 .1) (r .1)
 
 pub days-in-spec : {M : Type 1} → statement M
 days-in-spec =

@@ -83,7 +83,7 @@ unfolding seasonRows
 returns-3 c =
     let few = c .before .before in
     let e = season-at _ _ 2 (equal _ _ (few .before .if1 .left) & le-ltb _ _ (few .if2 .left)
-        & answered (c .before .is-any-faulty .ensures) (c .if3 .taken)) in
+    & answered (c .before .is-any-faulty .ensures) (c .if3 .taken)) in
     (e, sym (no-season _ _ λ z. omega (arith, e, z)))
 
 returns-4 : tie.Need-returns-4
@@ -92,7 +92,7 @@ returns-4 c =
     let s = keyed (c .before) in
     let few = s .before .before in
     let e = season-at _ _ 3 (equal _ _ (few .before .if1 .left) & le-ltb _ _ (few .if2 .left) & clear s
-        & answered (clashes (c .before)) (c .if4 .taken)) in
+    & answered (clashes (c .before)) (c .if4 .taken)) in
     (e, sym (no-season _ _ λ z. omega (arith, e, z)))
 
 returns-5 : tie.Need-returns-5
@@ -102,7 +102,7 @@ returns-5 c =
     let s = keyed (o .before) in
     let few = s .before .before in
     let e = season-at _ _ 4 (equal _ _ (few .before .if1 .left) & le-ltb _ _ (few .if2 .left) & clear s & apart o
-        & answered-not (c .before .is-real .ensures) (c .if5 .taken)) in
+    & answered-not (c .before .is-real .ensures) (c .if5 .taken)) in
     (e, sym (no-season _ _ λ z. omega (arith, e, z)))
 
 returns-6 : tie.Need-returns-6
@@ -113,7 +113,7 @@ returns-6 c =
     let s = keyed (o .before) in
     let few = s .before .before in
     let e = season-at _ _ 5 (equal _ _ (few .before .if1 .left) & le-ltb _ _ (few .if2 .left) & clear s & apart o
-        & not-true (is-asked r) & turned-true (nowhere _ _ (sym (found (c .before)) ∙ c .if6 .taken))) in
+    & not-true (is-asked r) & turned-true (nowhere _ _ (sym (found (c .before)) ∙ c .if6 .taken))) in
     (e, sym (no-season _ _ λ z. omega (arith, e, z)))
 
 returns-7 : tie.Need-returns-7
@@ -125,7 +125,7 @@ returns-7 c =
     let s = keyed (o .before) in
     let few = s .before .before in
     let e = season-at _ _ 6 (equal _ _ (few .before .if1 .left) & le-ltb _ _ (few .if2 .left) & clear s & apart o
-        & not-true (is-asked r) & not-true (somewhere _ _ λ e. k .if6 .left (found (k .before) ∙ e)) & tt) in
+    & not-true (is-asked r) & not-true (somewhere _ _ λ e. k .if6 .left (found (k .before) ∙ e)) & tt) in
     (e, season-found (file s) (asked r) (found (k .before)) e (c .pair .ensures))
 
 pub find-spec : {M : Type 1} → statement M

@@ -18,7 +18,10 @@ loop-again : tie.Need-loop-again Inv-loop μ-loop
 loop-again c = (omega arith, any-next _ _ (c .before .before .before .before .loop .inv .1) (c .is-met .ensures))
 
 returns : tie.Need-returns Inv-loop μ-loop
-returns c = let e : c .before .loop .k ≡ c .before .before .before .before .args .n = omega arith in rw e at (c .before .loop .inv .1)
+returns c =
+    let l = c .before in
+    let e : l .loop .k ≡ l .before .before .before .args .n = omega arith in
+    rw e at (l .loop .inv .1)
 
 pub is-clashing-spec : {M : Type 1} → statement M
 is-clashing-spec = tie.close (tie.spec Inv-loop μ-loop

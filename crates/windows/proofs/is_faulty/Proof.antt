@@ -12,14 +12,16 @@ use Rattle.windows.proofs.is_faulty.Tie as tie
 returns : tie.Need-returns
 returns c =
     let d = c .before .before in
-    fault-first (d .before .before .args .window .now) (answered-not (c .before .is-real .ensures ∙ ap real (d .date-at .ensures)) (c .if1 .taken))
+    fault-first (d .before .before .args .window .now)
+    (answered-not (c .before .is-real .ensures ∙ ap real (d .date-at .ensures)) (c .if1 .taken))
 
 returns-2 : tie.Need-returns-2
 returns-2 c =
     let d = c .before .before in
     let b = d .before in
     let r = found-real (b .before .before .date-at .ensures) (b .before .is-real .ensures) (b .if1 .left) in
-    fault-last (b .before .before .before .before .args .window .now) r (answered-not (c .before .is-real2 .ensures ∙ ap real (d .date-at2 .ensures)) (c .if2 .taken))
+    fault-last (b .before .before .before .before .args .window .now) r
+    (answered-not (c .before .is-real2 .ensures ∙ ap real (d .date-at2 .ensures)) (c .if2 .taken))
 
 returns-3 : tie.Need-returns-3
 returns-3 c =

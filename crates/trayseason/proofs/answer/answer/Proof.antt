@@ -1,44 +1,44 @@
+-- `trayseason::answer::answer` meets its contract: the room has one byte more than 64 windows. Assumes nothing.
+use mathlib.Core.Path.{_≡_, sym, _∙_}
+use mathlib.Core.Bool.{true}
+use Prim.Native.Nat.{_*_, _<_}
+use native.Mathlib.Omega.{arith}
+use lib.ListN.{length, take}
 use borrow.Author.Needs.{needs}
+use borrow.Author.Tests.{not-true, not-false}
+use Rattle.definitions.specs.Dated.{dated}
+use Rattle.text.proofs.Put.{put-none}
+use Rattle.windows.proofs.Dated.{dated-length, dated-text, undated-text, room-season}
 use Rattle.trayseason.proofs.answer.answer.Statement.{statement}
 use Rattle.trayseason.proofs.answer.answer.Tie as tie
-use Rattle.trayseason.proofs.answer.answer.Reads as reads
-use Rattle.trayseason.proofs.answer.answer.Lts as lts
-use Rattle.text.proofs.first.Reads as first-reads
-use Rattle.trayseason.proofs.answer.answer_date.Reads as answer-date-reads
-use Rattle.trayseason.proofs.date.asked_date.Reads as asked-date-reads
-use Rattle.trayseason.proofs.date.is_dated.Reads as is-dated-reads
 
--- src/answer.rt:31:9
-is-dated-requires : tie.Need-is-dated-requires
-is-dated-requires c κs = search needs
+-- an argument in the form of a date
+form : (c : tie.Else1) → dated (c .before .before .before .args .word .now) ≡ true
+form c = sym (c .before .is-dated .ensures) ∙ not-false _ (c .if1 .left)
 
--- src/answer.rt:32:9
 returns : tie.Need-returns
-returns c = search needs
+returns c =
+    let s = c .before .before .before .args in
+    let e = sym (c .before .is-dated .ensures) ∙ not-true _ (c .if1 .taken) in
+    let none = undated-text (s .word .now) e in
+    (rw (none (take (s .came) (s .space .now))) (put-none _ _ (omega arith)), λ input h. none _ ∙ sym (none input))
 
--- src/answer.rt:34:17
-asked-date-requires : tie.Need-asked-date-requires
-asked-date-requires c κs = search needs
-
--- src/answer.rt:34:41
-first-requires : tie.Need-first-requires
-first-requires c κs = search needs
-
--- src/answer.rt:34:5
-answer-date-requires : tie.Need-answer-date-requires
-answer-date-requires c κs = search needs
-
--- src/answer.rt:25:1
 returns-2 : tie.Need-returns-2
-returns-2 c = search needs
+returns-2 c =
+    let f = c .before .before in
+    let d = f .before .before in
+    let o = d .before in
+    let s = o .before .before .before .args in
+    let l : 64 * 12 < length (s .space .now) = omega (arith, f .before .first-arg .given) in (
+      rw (f .first .ensures, d .asked-date .ensures, ← dated-text (s .word .now) (form o) (take (s .came) (s .space .now)))
+          at (c .answer-date .ensures),
+      λ input h. room-season (s .word .now) input (s .space .now) (s .came) l h,
+    )
 
 pub answer-spec : {M : Type 1} → statement M
-answer-spec =
-    tie.close
-    (tie.spec
-    is-dated-requires
+answer-spec = tie.close (tie.spec
+    (λ c κs. search needs)
     returns
-    asked-date-requires
-    first-requires
-    answer-date-requires
+    (λ c κs. dated-length _ (form c))
+    (λ c κs. search needs) (λ c κs. search needs)
     returns-2)

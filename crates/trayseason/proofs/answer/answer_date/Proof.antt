@@ -1,54 +1,45 @@
+-- `trayseason::answer::answer_date` meets its contract: by the number of the search. Assumes nothing.
+use mathlib.Core.Path.{_≡_}
+use Prim.Native.Nat.{_≤_}
+use native.Mathlib.Omega.{arith}
+use lib.ListN.{length}
 use borrow.Author.Needs.{needs}
+use Rattle.definitions.specs.Printed.{decimal}
+use Rattle.definitions.proofs.Printed.{decimal-length}
+use Rattle.text.proofs.Put.{put-then, put-length}
+use Rattle.windows.proofs.Dated.{print-season, print-refused}
 use Rattle.trayseason.proofs.answer.answer_date.Statement.{statement}
 use Rattle.trayseason.proofs.answer.answer_date.Tie as tie
-use Rattle.trayseason.proofs.answer.answer_date.Reads as reads
-use Rattle.trayseason.proofs.answer.answer_date.Lts as lts
-use Rattle.text.proofs.put_byte.Reads as put-byte-reads
-use Rattle.text.proofs.put_natural.Reads as put-natural-reads
-use Rattle.text.proofs.put_refused.Reads as put-refused-reads
-use Rattle.windows.proofs.find.Reads as find-reads
 
--- src/answer.rt:43:9
-find-requires : tie.Need-find-requires
-find-requires c κs = search needs
+-- a season has at most five digits
+digits : (c : tie.After-row-known) → length (decimal (c .before .before .before .find .last .1 .1 .0)) ≤ 5
+digits c = decimal-length 4 _ (omega (arith, c .row-known .given))
 
--- src/answer.rt:45:9
-put-refused-requires : tie.Need-put-refused-requires
-put-refused-requires c κs = search needs
-
--- src/answer.rt:45:9
-same-length : tie.Need-same-length
-same-length c = search needs
-
--- src/answer.rt:45:9
 returns : tie.Need-returns
-returns c = search needs
+returns c =
+    let t = c .before .before .before .before in
+    let f = t .before in
+    let s = f .before .before .before .before .args in
+    rw (print-refused (s .date) (s .file .now) (f .find .ensures .0) (t .if1 .taken)) at (c .before .before .put-refused .ensures)
 
--- src/answer.rt:47:9
-put-natural-requires : tie.Need-put-natural-requires
-put-natural-requires c κs = search needs
-
--- src/answer.rt:48:5
-put-byte-requires : tie.Need-put-byte-requires
-put-byte-requires c κs = search needs
-
--- src/answer.rt:38:1
-same-length-2 : tie.Need-same-length-2
-same-length-2 c = search needs
-
--- src/answer.rt:38:1
 returns-2 : tie.Need-returns-2
-returns-2 c = search needs
+returns-2 c =
+    let p = c .before .before in
+    let n = p .before .before .before .before in
+    let t = n .before .before .before in
+    let f = t .before in
+    let s = f .before .before .before .before .args in
+    rw (print-season (s .date) (s .file .now) (f .find .ensures .0) (t .if1 .left) (f .find .ensures .1))
+    at (put-then (n .put-natural .ensures) (p .put-byte .ensures))
 
 pub answer-date-spec : {M : Type 1} → statement M
-answer-date-spec =
-    tie.close
-    (tie.spec
-    find-requires
-    put-refused-requires
-    same-length
+answer-date-spec = tie.close (tie.spec
+    (λ c κs. search needs) (λ c κs. search needs) (λ c. search needs)
     returns
-    put-natural-requires
-    put-byte-requires
-    same-length-2
+    (λ c κs. let s = c .before .before .before .before .before .before .before in omega (arith, digits c, s .pre))
+    (λ c κs.
+    let n = c .before .before .before in
+    let s = n .before .before .before .before .before .before .before .before in
+    omega (arith, digits (n .before), s .pre, n .put-natural .ensures .end, put-length (n .put-natural .ensures)))
+    (λ c. search needs)
     returns-2)
