@@ -18,7 +18,7 @@ use lib.Dec.{ltb, leb}
 use borrow.Author.Tests.{lt-ltb, le-ltb, eq-eqb}
 use Rattle.bounded.specs.Bounded.{at, sum}
 use Rattle.bounded.proofs.Sum.{sum-eq}
-use Rattle.calendar.specs.Dates.{leap, months, daysIn, real, earlier, onOrBefore, key}
+use Rattle.calendar.specs.Dates.{leap, months, daysIn, real, earlier, key}
 use Rattle.calendar.specs.Calendar.{date, daysOf, firstDate, lastDate, following, InOrder, IsNext}
 use Rattle.calendar.specs.declared.Date.{Date}
 use Rattle.calendar.proofs.Real.{month-some, IsReal, is-real, real-is, real-day}

@@ -23,3 +23,4 @@ pub mod Room
 pub mod Tray
 pub mod Why
 pub mod Widening
+pub mod Windows

@@ -50,7 +50,7 @@ use Rattle.definitions.specs.Calls.{photoRows, readingOf, writeRows, writeNumbe
 use Rattle.definitions.specs.Calls.{measureRows, measureNumber, measureReading, readRows, readNumber, readReading, readBuffer}
 use Rattle.definitions.specs.Explaining.{explainRows, explainNumber, explainReason, explainBuffer, valuesOf}
 use Rattle.definitions.specs.Finder.{findRows, findNumber}
-use Rattle.definitions.specs.Windows.{meet, seasonRows, seasonNumber}
+use Rattle.definitions.specs.Windows.{meet, seasonNumber}
 use Rattle.definitions.specs.Seasons.{Window, IsWindow, HasDay, SharedDay, SeasonExactly, OneWindow}
 use Rattle.definitions.specs.Seasons.{DateTaken, SeasonPrinted}
 use Rattle.definitions.specs.Sound.{Sound}
@@ -68,6 +68,7 @@ use Rattle.definitions.specs.Refusals.{table}
 use Rattle.definitions.proofs.Refusals.{first-earliest, first-absent}
 use Rattle.definitions.proofs.Finder as finder
 use Rattle.definitions.proofs.Widening as widening
+use Rattle.definitions.proofs.Windows as windows
 use Rattle.definitions.proofs.Tray as tray
 use Rattle.definitions.proofs.Why as why
 use Rattle.definitions.proofs.Sound as plans
@@ -86,7 +87,6 @@ use Rattle.definitions.proofs.Margin.{margins-in, lowest-before, highest-before
 use Rattle.distance.proofs.Cost.{cell-full}
 use Rattle.polynomial.proofs.Record.{value-places, start-next, start-below, start-apart, placed}
 use Rattle.polynomial.proofs.Known.{value-mark-is}
-use Rattle.windows.proofs.Rows as windows
 use Rattle.windows.proofs.Seasons as seasons
 use Rattle.windows.proofs.Dated as dates
 use Rattle.traymark.proofs.Answer.{write-keeps, write-fills, measure-refuses, measure-gives, read-keeps, read-gives}
@@ -219,8 +219,8 @@ margins-from-30 = margins-in (λ y. 30 ≤ y) 250 full-from lowest-from highest-
 -- The number that a call gives is the first in the table's order of those that apply and concern the call, 13 standing between 3
 -- and 4. In widening 11 comes before 6.
 pub lowest-given : LowestGiven
-unfolding checkNumber writeNumber measureNumber readNumber explainNumber findNumber widenNumber seasonNumber
-    planRows photoRows writeRows measureRows readRows explainRows findRows widenRows seasonRows index
+unfolding checkNumber writeNumber measureNumber readNumber explainNumber findNumber widenNumber
+    planRows photoRows writeRows measureRows readRows explainRows findRows widenRows index
 lowest-given = record {
   check = λ P. first-earliest table (planRows P) tt refl;
   write = λ C P F B. first-earliest table (writeRows C P F B) tt refl;
@@ -229,7 +229,7 @@ lowest-given = record {
   explain = λ C P s u F B. first-earliest table (explainRows C P s u F B) tt refl;
   find = λ file y. first-earliest table (findRows file y) tt refl;
   widen = λ old wide. first-earliest (11 ∷ 6 ∷ []) (widenRows old wide) tt refl;
-  season = λ file t. first-earliest table (seasonRows file t) tt refl;
+  season = windows.season-earliest;
 }
 
 -- Measuring never gives 10: a record of the plan is measured against every photograph, a margin of 0 or below returned as such.

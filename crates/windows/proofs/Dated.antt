@@ -30,8 +30,8 @@ use Rattle.definitions.specs.Windows.{windows, seasonRows, seasonNumber, season
 use Rattle.definitions.specs.Dated.{isDigit, dated, askedDate, seasonLine, dateText, seasonText}
 use Rattle.definitions.specs.Seasons.{shown, DateTaken, SeasonPrinted}
 use Rattle.definitions.proofs.Room.{room-decides}
+use Rattle.definitions.proofs.Windows.{season-at}
 use Rattle.definitions.proofs.Refusals.{_&_, equal, unequal, otherwise}
-use Rattle.windows.proofs.Rows.{season-at}
 
 digit-is : (a : ℕ) → a < 10 → isDigit (48 + a) ≡ true
 digit-is a l = each-true (le-leb 48 (48 + a) (omega arith)) (le-leb (48 + a) 57 (omega arith))

@@ -1,6 +1,6 @@
 -- The laws of windows.
 pub mod EndDays
-pub mod Rows
+pub mod Searched
 pub mod Seasons
 pub mod Dated
 pub mod Cases

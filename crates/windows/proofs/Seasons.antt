@@ -28,9 +28,9 @@ use Rattle.definitions.specs.Windows.{windows, windowAt, firstDay, lastDay, has
 use Rattle.definitions.specs.Windows.{seasonRows, seasonNumber, seasonFound}
 use Rattle.definitions.specs.Seasons.{Window, IsWindow, HasDay, SharedDay, Readable, Apart, SeasonExactly, OneWindow}
 use Rattle.definitions.proofs.Sound.{zeros, filled-no}
+use Rattle.definitions.proofs.Windows.{season-at}
 use Rattle.definitions.proofs.Refusals.{_&_, first-clear, equal, holds, turned-true}
 use Rattle.windows.proofs.EndDays.{IsSound, sound-window}
-use Rattle.windows.proofs.Rows.{season-at}
 
 -- a window without fault is as it should be, and the other way round
 is-window : (W : List ℕ) → faulty W ≡ false → IsWindow W

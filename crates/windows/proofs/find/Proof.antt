@@ -14,7 +14,8 @@ use Rattle.calendar.specs.declared.Date.{Date}
 use Rattle.definitions.specs.Windows.{windows, windowAt, faulty, clashing, firstWith, seasonRows}
 use Rattle.definitions.proofs.Refusals.{_&_, equal, unequal, answered, answered-not, not-true, turned-true}
 use Rattle.windows.proofs.EndDays.{IsSound, meet-two, first-with}
-use Rattle.windows.proofs.Rows.{all-sound, nowhere, somewhere, season-at, no-season, season-found}
+use Rattle.definitions.proofs.Windows.{season-at, no-season}
+use Rattle.windows.proofs.Searched.{all-sound, nowhere, somewhere, season-found}
 use Rattle.windows.proofs.find.Statement.{statement}
 use Rattle.windows.proofs.find.Tie as tie
 

@@ -1,13 +1,11 @@
--- The refusals of finding a season, row by row.
+-- Searching the windows of a file.
 --
---   season-at        a search that stops at row i of its refusals has that row's number
---   no-season        a refusal has no season
 --   all-sound        where no window of a file is faulty, each is without fault
 --   nowhere, somewhere
 --                    a first place that is the bound, and one that is not
 --   season-found     the season of the window that was found first is the one that is found
 --
--- What this file is for: the number by the row at which the code stops, and the season beside it. Assumes nothing.
+-- What this file is for: what each of the code's searches has found. Assumes nothing.
 use mathlib.Core.Path.{_≡_, refl, sym, _∙_}
 use mathlib.Core.Logic.{_≢_}
 use mathlib.Core.Bool.{Bool, true, false}
@@ -20,8 +18,8 @@ use Rattle.bounded.proofs.Any.{any-none}
 use Rattle.bounded.proofs.Index.{index-within, index-none}
 use Rattle.calendar.specs.declared.Date.{Date}
 use Rattle.definitions.specs.Plan.{pair}
-use Rattle.definitions.specs.Windows.{windowAt, faulty, firstWith, seasonRows, seasonNumber, seasonFound}
-use Rattle.definitions.proofs.Refusals.{Stops, numberAt, first-at, otherwise, holds}
+use Rattle.definitions.specs.Windows.{windowAt, faulty, firstWith, seasonNumber, seasonFound}
+use Rattle.definitions.proofs.Refusals.{holds}
 use Rattle.definitions.proofs.Finder as finder
 use Rattle.windows.proofs.EndDays.{IsSound, sound-window}
 
@@ -41,14 +39,6 @@ pub somewhere : (n : ℕ) (f : ℕ → Bool) → index n f ≢ n → any n f ≡
 somewhere n f e = holds (any n f) λ h. e (index-none n f h)
 
 module _ (file : List ℕ) (t : Date) where
-  pub season-at : (i : ℕ) → Stops (seasonRows file t) i → numberAt (seasonRows file t) i ≡ seasonNumber file t
-  unfolding seasonNumber
-  season-at i h = first-at (seasonRows file t) i h
-
-  pub no-season : seasonNumber file t ≢ 0 → seasonFound file t ≡ 0
-  unfolding seasonFound
-  no-season h = otherwise (seasonNumber file t) _ _ h
-
   pub season-found : {k r : ℕ} → k ≡ firstWith file t → 0 ≡ seasonNumber file t → r ≡ pair file (k * 12) → r ≡ seasonFound file t
   unfolding seasonFound
   season-found e z p = rw (← z, ← e) (p ∙ sym (finder.season-at file _ 12 (lit< tt)))
