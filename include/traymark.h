@@ -1,7 +1,7 @@
 /*
  * traymark: square and oblong marks on fruit trays, written and read.
  *
- * Eleven calls over plain bytes. Each is proved to give what its comment says, for any bytes and any lengths.
+ * Twelve calls over plain bytes. Each is proved to give what its comment says, for any bytes and any lengths.
  * `make lib` writes the library, and `cc -Iinclude program.c target/staticlib/libtraymark.a` links a program with it.
  *
  * Words
@@ -21,6 +21,10 @@
  *   cost     D, the sum over the cells: the doubt where the symbol is the record's value, else 2 * F less the doubt.
  *   radius   R, of a mark F * the larger side * (the smaller side - d), of a strip F * (rows - d). At most one record costs
  *            under R.
+ *   date     4 bytes: year (2, high byte first), month, day. It is real where the Gregorian calendar has that day and the
+ *            year is 1900 to 2199: 29 February 2000 is real, 29 February 1900 and 2100 are not.
+ *   window   12 bytes: season (2, high byte first), first date, last date, two zeros. The days of the season are those from
+ *            the first date to the last, both included; it may cross New Year, and it may be one day.
  *
  * Buffers
  *   A buffer is a pointer and a length, in that order. The pointer is not null and points to that many bytes; where the
@@ -31,7 +35,7 @@
  * Numbers
  *   Every call answers with a number: 0, or the refusal that applies. Where several apply, the first of those that the
  *   call names is given; they are named in the order of this list, 13 between 3 and 4, but for widening, 11 before 6.
- *   A REFUSAL CHANGES NO LENT BYTE. (The finder's *offset is a result, and is then 0.)
+ *   A REFUSAL CHANGES NO LENT BYTE. (*offset and *season of the two finders are results, and are then 0.)
  *
  *    1  the plan is not 40 bytes long, or its byte 38 or 39 is not 0
  *    2  p is not a prime from 2 to 251
@@ -47,6 +51,10 @@
  *   10  reading only: no record costs under R
  *   11  the plan file's length is no multiple of 40; widening: more than 1,000 plans, or a length no multiple of 24
  *   12  no plan in the file has the season
+ *   14  the window file's length is no multiple of 12, it has more than 64 windows, a date in it is unreal, a last date is
+ *       before its first, or one of the last two bytes of a window is not 0
+ *   15  two windows share a day, whatever their seasons
+ *   16  the date asked for is unreal, or in no window
  */
 #ifndef TRAYMARK_H
 #define TRAYMARK_H
@@ -96,6 +104,23 @@ uint32_t traymark_check_plan(const uint8_t *plan, size_t plan_len);
  *   result   0; refusals 11 12
  */
 uint32_t traymark_find_plan(const uint8_t *file, size_t file_len, uint16_t season, size_t *offset);
+
+/*
+ * Finds the season of a date in a window file, which is at most 64 windows one after another with no header and in any
+ * order; traymark_find_plan then finds the season's plan. The whole file is checked before the date is looked for, so an
+ * unsound file is refused for every date. A window that ends on 30 June and one that begins on 1 July share no day; the same
+ * window twice shares all. Several windows may have one season, and 0 is a season like any other. An empty file has no window.
+ *
+ *   file     read
+ *   year     with month and day the date asked for. Each may be any number: an unreal date gets 16, as does one of a year
+ *            before 1900 or after 2199
+ *   month    1 is January
+ *   day      1 is the first of the month
+ *   season   always written: where the number is 0, the season of the one window that has the date; else 0
+ *   result   0; refusals 14 15 16
+ */
+uint32_t traymark_find_season(const uint8_t *file, size_t file_len, uint32_t year, uint32_t month, uint32_t day,
+                              uint16_t *season);
 
 /*
  * Widens plans of the old form, for squares alone: season (2), p, n, d, sixteen points, three bytes of 0, 24 bytes in all.

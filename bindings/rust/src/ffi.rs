@@ -30,6 +30,15 @@ extern "C" {
 
     pub fn traymark_find_plan(file: *const u8, file_len: usize, season: u16, offset: *mut usize) -> u32;
 
+    pub fn traymark_find_season(
+        file: *const u8,
+        file_len: usize,
+        year: u32,
+        month: u32,
+        day: u32,
+        season: *mut u16,
+    ) -> u32;
+
     pub fn traymark_widen_plans(old: *const u8, old_len: usize, wide: *mut u8, wide_len: usize) -> u32;
 
     pub fn traymark_write_mark(

@@ -1,7 +1,7 @@
 //! Square and oblong marks on fruit trays, written and read: a safe wrapper over the proved static library.
 //!
-//! Plans, records, marks, strips and photographs are plain bytes; `include/traymark.h` says what each holds. A call
-//! that writes takes the buffer to write into, of the exact length; a refusal changes no byte of it.
+//! Plans, records, marks, strips, photographs and season windows are plain bytes; `include/traymark.h` says what each holds.
+//! A call that writes takes the buffer to write into, of the exact length; a refusal changes no byte of it.
 //!
 //! A doubt is 0 to the full doubt, which is 100 for plans of seasons before 30 and 250 for plans of season 30 and later; that
 //! of an unread cell is the full doubt.
@@ -43,6 +43,9 @@ pub const PLAN_LENGTH: usize = 40;
 
 /// The length of a plan of the old form, for squares alone, which `widen_plans` takes.
 pub const OLD_PLAN_LENGTH: usize = 24;
+
+/// The length of a season window, which `find_season` takes at most 64 of.
+pub const WINDOW_LENGTH: usize = 12;
 
 /// What measuring and reading say of a record against a photograph. A cell is right, changed or unread.
 #[derive(Clone, Copy, Debug, PartialEq, Eq)]
@@ -88,6 +91,30 @@ pub fn find_plan(file: &[u8], season: u16) -> Result<&[u8], Refusal> {
     let mut offset = 0;
     accepted(unsafe { ffi::traymark_find_plan(file.as_ptr(), file.len(), season, &mut offset) })?;
     Ok(&file[offset..offset + PLAN_LENGTH])
+}
+
+/// The season of a date, by the windows of `file`: at most 64, 12 bytes each, in any order. Both end days belong to a window. The
+/// numbers of the date may be any. Refusal 14 where the file is unsound and 15 where two of its windows share a day, whatever the
+/// date, then 16 where the date is unreal or in no window.
+///
+/// ```
+/// # use traymark::Refusal;
+/// // season 30 from 1 July 2026 to 30 June 2027, season 29 in the year before; 2025 is 7 * 256 + 233
+/// let file = [
+///     [0, 30, 7, 234, 7, 1, 7, 235, 6, 30, 0, 0],
+///     [0, 29, 7, 233, 7, 1, 7, 234, 6, 30, 0, 0],
+/// ];
+/// let season_on = |year, month, day| traymark::find_season(file.as_flattened(), year, month, day);
+/// assert_eq!(season_on(2026, 11, 15), Ok(30));
+/// assert_eq!(season_on(2026, 7, 1), Ok(30));
+/// assert_eq!(season_on(2026, 6, 30), Ok(29));
+/// assert_eq!(season_on(2027, 7, 1), Err(Refusal::NoWindow));
+/// assert_eq!(season_on(2026, 2, 29), Err(Refusal::NoWindow));
+/// ```
+pub fn find_season(file: &[u8], year: u32, month: u32, day: u32) -> Result<u16, Refusal> {
+    let mut season = 0;
+    accepted(unsafe { ffi::traymark_find_season(file.as_ptr(), file.len(), year, month, day, &mut season) })?;
+    Ok(season)
 }
 
 /// Gives plans of the old form, 24 bytes each, the form with rows and columns: `wide` has 40 bytes for each of them. n and

@@ -21,11 +21,14 @@ pub enum Refusal {
     NoRecord = 10,
     FileLength = 11,
     NoSuchSeason = 12,
+    WindowFile = 14,
+    SharedDay = 15,
+    NoWindow = 16,
 }
 
 impl Refusal {
     /// All refusals, in the order in which they are tested: by rising number, but 13 after 3.
-    pub const ALL: [Refusal; 13] = [
+    pub const ALL: [Refusal; 16] = [
         Refusal::PlanForm,
         Refusal::Modulus,
         Refusal::Rows,
@@ -39,6 +42,9 @@ impl Refusal {
         Refusal::NoRecord,
         Refusal::FileLength,
         Refusal::NoSuchSeason,
+        Refusal::WindowFile,
+        Refusal::SharedDay,
+        Refusal::NoWindow,
     ];
 
     /// The refusal with this number.
@@ -46,7 +52,7 @@ impl Refusal {
         Refusal::ALL.into_iter().find(|refusal| refusal.number() == number)
     }
 
-    /// Its number, 1 to 13.
+    /// Its number, 1 to 16.
     pub fn number(self) -> u32 {
         self as u32
     }
@@ -72,6 +78,12 @@ impl Refusal {
                  is no multiple of 24"
             }
             Refusal::NoSuchSeason => "no plan in the file has the season",
+            Refusal::WindowFile => {
+                "the window file's length is no multiple of 12, it has more than 64 windows, a date in it is unreal, a last \
+                 date is before its first, or one of the last two bytes of a window is not 0"
+            }
+            Refusal::SharedDay => "two windows share a day",
+            Refusal::NoWindow => "the date asked for is unreal, or in no window",
         }
     }
 }
@@ -89,10 +101,10 @@ mod tests {
     use super::*;
 
     #[test]
-    fn numbers_go_from_1_to_13_and_13_comes_after_3() {
-        assert_eq!(Refusal::ALL.map(Refusal::number), [1, 2, 3, 13, 4, 5, 6, 7, 8, 9, 10, 11, 12]);
+    fn numbers_go_from_1_to_16_and_13_comes_after_3() {
+        assert_eq!(Refusal::ALL.map(Refusal::number), [1, 2, 3, 13, 4, 5, 6, 7, 8, 9, 10, 11, 12, 14, 15, 16]);
         assert!(Refusal::ALL.iter().all(|&refusal| Refusal::from_number(refusal.number()) == Some(refusal)));
-        assert_eq!([0, 14].map(Refusal::from_number), [None, None]);
+        assert_eq!([0, 17].map(Refusal::from_number), [None, None]);
     }
 
     #[test]

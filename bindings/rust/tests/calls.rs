@@ -1,8 +1,8 @@
 //! Each call through the wrapper: cases a, c and f of document 01, wrong and unread cells at once, strips, oblong marks, doubts
-//! in 250ths, the three reasons, and a refusal of each call. Buffers that are to be written hold 9s before, so that it is seen
-//! when a refusal changes one.
+//! in 250ths, the three reasons, season windows, and a refusal of each call. Buffers that are to be written hold 9s before, so
+//! that it is seen when a refusal changes one.
 
-use traymark::{Reading, Reason, Refusal, OLD_PLAN_LENGTH, PLAN_LENGTH};
+use traymark::{Reading, Reason, Refusal, OLD_PLAN_LENGTH, PLAN_LENGTH, WINDOW_LENGTH};
 
 /// Plan A: season 12, p 7, 3 rows, 3 columns, d 1, points 1 2 4 each way.
 const PLAN: [u8; PLAN_LENGTH] = plan([0, 12, 7, 3, 3, 1], [1, 2, 4], [1, 2, 4]);
@@ -116,6 +116,39 @@ fn find_plan() {
     assert_eq!(traymark::find_plan(&file, 13), Err(Refusal::NoSuchSeason));
     assert_eq!(traymark::find_plan(&file[..119], 12), Err(Refusal::FileLength));
     assert_eq!(traymark::find_plan(&[], 12), Err(Refusal::NoSuchSeason));
+}
+
+#[test]
+fn find_season() {
+    // season 256 + 30 from 1 July 2026 to 30 June 2027, season 0 from 29 February 2000 to 30 June 2026
+    let later: [u8; WINDOW_LENGTH] = [1, 30, 7, 234, 7, 1, 7, 235, 6, 30, 0, 0];
+    let earlier: [u8; WINDOW_LENGTH] = [0, 0, 7, 208, 2, 29, 7, 234, 6, 30, 0, 0];
+    let file = [later, earlier].concat();
+    assert_eq!(traymark::find_season(&file, 2026, 7, 1), Ok(286));
+    assert_eq!(traymark::find_season(&file, 2027, 6, 30), Ok(286));
+    assert_eq!(traymark::find_season(&file, 2026, 6, 30), Ok(0));
+    assert_eq!(traymark::find_season(&file, 2000, 2, 29), Ok(0));
+    assert_eq!(traymark::find_season(&file, 2000, 2, 28), Err(Refusal::NoWindow));
+    assert_eq!(traymark::find_season(&file, 2026, 6, 31), Err(Refusal::NoWindow));
+    for [year, month, day] in [[1 << 16, 0, 0], [0, 1 << 8, 0], [0, 0, 1 << 8], [1 << 31, 0, 0]] {
+        assert_eq!(traymark::find_season(&file, 2026 + year, 7 + month, 1 + day), Err(Refusal::NoWindow));
+    }
+    assert_eq!(traymark::find_season(&[], 2026, 7, 1), Err(Refusal::NoWindow));
+    assert_eq!(traymark::find_season(&file[..23], 2026, 7, 1), Err(Refusal::WindowFile));
+    assert_eq!(traymark::find_season(&later.repeat(65), 2026, 7, 1), Err(Refusal::WindowFile));
+    assert_eq!(traymark::find_season(&later.repeat(64), 0, 0, 0), Err(Refusal::SharedDay));
+    // 29 February 2100; the last date before the first; the bytes at the end; one more day
+    for (place, value, refusal) in [
+        (14..18, &[8, 52, 2, 29][..], Refusal::WindowFile),
+        (18..20, &[7, 207], Refusal::WindowFile),
+        (10..11, &[1], Refusal::WindowFile),
+        (23..24, &[1], Refusal::WindowFile),
+        (20..22, &[7, 1], Refusal::SharedDay),
+    ] {
+        let mut file = file.clone();
+        file[place].copy_from_slice(value);
+        assert_eq!(traymark::find_season(&file, 2026, 7, 1), Err(refusal));
+    }
 }
 
 #[test]
