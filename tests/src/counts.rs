@@ -2,7 +2,8 @@
 
 use crate::calls::{Arguments, Call, Outcome};
 use independent::plan::is_prime;
-use independent::{Code, Plan, Reading, Reason, FINER};
+use independent::windows::MOST_WINDOWS;
+use independent::{Code, Date, Plan, Reading, Reason, Windows, FINER};
 use std::collections::BTreeMap;
 use std::fmt;
 
@@ -37,8 +38,16 @@ pub struct Counts {
     /// of those without an answer these whose record costs R, and R + 1
     pub excess_0: u64,
     pub excess_1: u64,
+    /// sound window files with 64 windows, with two of one season, and with two that touch
+    pub full_files: u64,
+    pub one_season: u64,
+    pub touching: u64,
+    /// dates that are the first day of their window, the last, and beside one and in none
+    pub first_days: u64,
+    pub last_days: u64,
+    pub beside: u64,
     /// answers by number, and accepted readings and measurements by class
-    pub numbers: [u64; 14],
+    pub numbers: [u64; 17],
     pub classes: [u64; 4],
 }
 
@@ -144,6 +153,31 @@ impl Counts {
         self.ages[age(plan.season)].around.iter_mut().zip(around).for_each(|(sum, seen)| *sum += u64::from(seen));
     }
 
+    /// A window file.
+    pub fn file(&mut self, windows: &Result<Windows, u32>) {
+        let Ok(Windows(windows)) = windows else { return };
+        let pairs =
+            || windows.iter().enumerate().flat_map(|(k, one)| windows[..k].iter().map(move |other| (one, other)));
+        self.full_files += u64::from(windows.len() == MOST_WINDOWS);
+        self.one_season += u64::from(pairs().any(|(one, other)| one.season == other.season));
+        self.touching +=
+            u64::from(pairs().any(|(one, other)| one.last + 1 == other.first || other.last + 1 == one.first));
+    }
+
+    /// A date that is asked for.
+    pub fn date(&mut self, windows: &Result<Windows, u32>, date: Date) {
+        let (Ok(Windows(windows)), Some(day)) = (windows, date.number()) else { return };
+        match windows.iter().find(|window| window.has(day)) {
+            Some(window) => {
+                self.first_days += u64::from(window.first == day);
+                self.last_days += u64::from(window.last == day);
+            }
+            None => {
+                self.beside += u64::from(windows.iter().any(|window| window.last + 1 == day || window.first == day + 1))
+            }
+        }
+    }
+
     pub fn number(&mut self, number: u32) {
         self.calls += 1;
         self.numbers[number as usize] += 1;
@@ -170,6 +204,12 @@ impl Counts {
         self.at_latest += other.at_latest;
         self.excess_0 += other.excess_0;
         self.excess_1 += other.excess_1;
+        self.full_files += other.full_files;
+        self.one_season += other.one_season;
+        self.touching += other.touching;
+        self.first_days += other.first_days;
+        self.last_days += other.last_days;
+        self.beside += other.beside;
         self.numbers.iter_mut().zip(other.numbers).for_each(|(sum, n)| *sum += n);
         self.classes.iter_mut().zip(other.classes).for_each(|(sum, n)| *sum += n);
     }
@@ -202,6 +242,13 @@ impl Counts {
             (self.at_latest < 50_000, "fewer than 50,000 answers that differ as late as two marks can"),
             (self.excess_0 < 50_000, "fewer than 50,000 expected records at the radius"),
             (self.excess_1 < 10_000, "fewer than 10,000 expected records one above the radius"),
+            (self.full_files < 300, "fewer than 300 sound files of 64 windows"),
+            (self.one_season < 2_000, "fewer than 2,000 sound files with two windows of one season"),
+            (self.touching < 2_000, "fewer than 2,000 sound files with windows that touch"),
+            (self.first_days < 40_000, "fewer than 40,000 first days of windows"),
+            (self.last_days < 40_000, "fewer than 40,000 last days of windows"),
+            (self.beside < 10_000, "fewer than 10,000 days beside a window and in none"),
+            (self.numbers[14..].iter().any(|&n| n < 100_000), "fewer than 100,000 refusals of 14, 15 or 16"),
             (self.numbers.contains(&0), "a number that was never answered"),
             (self.classes.contains(&0), "a class that was never answered"),
         ]
@@ -236,6 +283,7 @@ impl fmt::Display for Counts {
              before season 30: {}; from it on: {}; \
              both methods: {}; first of several plans: {}, unsound before sound: {}; \
              widened: {}; reasons: {}; other at the first, the last, the latest cell: {} {} {}; excess 0, 1: {} {}; \
+             window files with 64, one season twice, touching: {} {} {}; first days, last days, beside a window: {} {} {}; \
              numbers: {}; classes: {}",
             self.calls,
             self.marks,
@@ -256,6 +304,12 @@ impl fmt::Display for Counts {
             self.at_latest,
             self.excess_0,
             self.excess_1,
+            self.full_files,
+            self.one_season,
+            self.touching,
+            self.first_days,
+            self.last_days,
+            self.beside,
             list(&self.numbers),
             list(&self.classes)
         )

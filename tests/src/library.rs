@@ -4,7 +4,8 @@
 use crate::calls::{Arguments, Call, Outcome};
 use crate::lent::Lent;
 use crate::random::Random;
-use independent::{Code, Reading, Reason};
+use independent::{Code, Date, Reading, Reason};
+use std::array::from_fn;
 use std::fmt::Debug;
 use traymark::ffi::{self, Explain, Measure, RawReading, RawReason, Read, Write};
 use traymark::Refusal;
@@ -159,6 +160,30 @@ pub fn find(file: &[u8], season: u16, random: &mut Random) -> Result<(u32, usize
     }
     untouched(&[&file])?;
     Ok((number, offset))
+}
+
+/// Finding a season: the number, and what the lent season holds afterwards.
+pub fn season(file: &Lent, date: Date, random: &mut Random) -> Result<(u32, u16), String> {
+    let Date { year, month, day } = date;
+    let bytes = file.bytes();
+    // the middle one is lent
+    let before: [u16; 3] = from_fn(|_| random.number() as u16);
+    let mut after = before;
+    let number = unsafe {
+        let season = after.as_mut_ptr().add(1);
+        ffi::traymark_find_season(bytes.as_ptr(), bytes.len(), year, month, day, season)
+    };
+    untouched(&[file])?;
+    if [after[0], after[2]] != [before[0], before[2]] {
+        return Err("changed a byte beside the season".into());
+    }
+    let found = (number, after[1]);
+    alike(number, found, || match traymark::find_season(bytes, year, month, day) {
+        Ok(season) => (0, season),
+        Err(refusal) => (refusal.number(), 0),
+    })?;
+    untouched(&[file])?;
+    Ok(found)
 }
 
 /// Widening plans: the number, and what the buffer holds afterwards.

@@ -13,6 +13,7 @@ mod lengths;
 mod plans;
 mod rows;
 mod rubbish;
+mod seasons;
 mod swapped;
 mod widening;
 
@@ -43,6 +44,15 @@ pub fn all() -> Vec<Suite> {
         Suite { name: "placed", cases: files::PLACED, case: files::placed },
         Suite { name: "widening", cases: widening::CASES, case: widening::numbers },
         Suite { name: "widened-bytes", cases: widening::PLANS, case: widening::bytes },
+        Suite { name: "seasons", cases: seasons::documented::CASES, case: seasons::documented::case },
+        Suite { name: "season-days", cases: seasons::days::YEARS, case: seasons::days::year },
+        Suite { name: "season-dates", cases: seasons::days::YEARS_AROUND, case: seasons::days::dates },
+        Suite { name: "season-far-dates", cases: 300, case: seasons::days::far },
+        Suite { name: "season-numbers", cases: 256, case: seasons::days::every_season },
+        Suite { name: "season-files", cases: 10_000, case: seasons::files::case },
+        Suite { name: "season-bytes", cases: seasons::files::PLACES, case: seasons::files::bytes },
+        Suite { name: "season-lengths", cases: seasons::files::LENGTHS, case: seasons::files::lengths },
+        Suite { name: "season-faults", cases: 100, case: seasons::faults::case },
         Suite { name: "faults-alone", cases: 1_000, case: faults::alone },
         Suite { name: "faults-largest", cases: 140, case: faults::largest },
         Suite { name: "faults-together", cases: 20_000, case: faults::together },
