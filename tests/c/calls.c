@@ -1,5 +1,6 @@
-/* The eleven calls from C: the layout of the answers, the cases of document 01, wrong and unread cells at once, oblong
-   marks and strips beside them, doubts in 250ths, plans widened, the three reasons, and the refusals at empty buffers. */
+/* The twelve calls from C: the layout of the answers, the cases of document 01, wrong and unread cells at once, oblong
+   marks and strips beside them, doubts in 250ths, plans widened, seasons by date, the three reasons, and the refusals at empty
+   buffers. */
 #include <stdio.h>
 #include <stdlib.h>
 #include <string.h>
@@ -24,6 +25,7 @@ _Static_assert(offsetof(traymark_reason, excess) == 12, "excess");
 typedef const uint8_t *in;
 uint32_t traymark_check_plan(in, size_t);
 uint32_t traymark_find_plan(in, size_t, uint16_t, size_t *);
+uint32_t traymark_find_season(in, size_t, uint32_t, uint32_t, uint32_t, uint16_t *);
 uint32_t traymark_widen_plans(in, size_t, uint8_t *, size_t);
 uint32_t traymark_write_mark(in, size_t, in, size_t, uint8_t *, size_t);
 uint32_t traymark_write_strip(in, size_t, in, size_t, uint8_t *, size_t);
@@ -145,6 +147,82 @@ static void find_plan(void)
     EXPECT(finds(ALL(file), 13, 12, 0));
     EXPECT(finds(file, 159, 12, 11, 0));
     EXPECT(finds(file, 0, 12, 12, 0));
+}
+
+/* the number, with the season that is always written beside it, and nothing around that */
+static int dates(in file, size_t length, const uint32_t date[3], uint32_t number, uint16_t season)
+{
+    uint16_t found[3] = {0x7777, 0x8888, 0x9999};
+    return traymark_find_season(file, length, date[0], date[1], date[2], found + 1) == number && found[1] == season
+           && found[0] == 0x7777 && found[2] == 0x9999;
+}
+
+#define DATE(...) ((const uint32_t[3]){__VA_ARGS__})
+
+static void find_season(void)
+{
+    /* season 30 from 1 July 2026 to 30 June 2027, season 29 in the year before, season 0xabcd on 29 February 2000 */
+    const uint8_t file[36] = {0, 30, 7, 234, 7, 1, 7, 235, 6, 30, 0, 0, 0, 29, 7, 233, 7, 1, 7, 234, 6, 30, 0, 0,
+                              0xab, 0xcd, 7, 208, 2, 29, 7, 208, 2, 29, 0, 0};
+    /* season 0 from 1900 on to the end of 2199 */
+    const uint8_t all[12] = {0, 0, 7, 108, 1, 1, 8, 151, 12, 31, 0, 0};
+    const struct { uint32_t date[3], number; uint16_t season; } asked[] = {
+        {{2026, 11, 15}, 0, 30}, {{2026, 7, 1}, 0, 30}, {{2027, 6, 30}, 0, 30}, {{2027, 7, 1}, 16, 0},
+        {{2026, 6, 30}, 0, 29}, {{2025, 12, 31}, 0, 29}, {{2026, 1, 1}, 0, 29}, {{2025, 7, 1}, 0, 29}, {{2025, 6, 30}, 16, 0},
+        {{2000, 2, 28}, 16, 0}, {{2000, 2, 29}, 0, 0xabcd}, {{2000, 3, 1}, 16, 0}, {{2026, 6, 31}, 16, 0}, {{2026, 9, 31}, 16, 0},
+        {{2026, 12, 0}, 16, 0}, {{2026, 0, 12}, 16, 0}, {{2026, 13, 1}, 16, 0}, {{0, 0, 0}, 16, 0}};
+    for (size_t k = 0; k < sizeof asked / sizeof *asked; k++)
+        EXPECT(dates(ALL(file), asked[k].date, asked[k].number, asked[k].season));
+    EXPECT(dates(ALL(all), DATE(1900, 1, 1), 0, 0) && dates(ALL(all), DATE(2199, 12, 31), 0, 0));
+    EXPECT(dates(ALL(all), DATE(1899, 12, 31), 16, 0) && dates(ALL(all), DATE(2200, 1, 1), 16, 0));
+    EXPECT(dates(ALL(all), DATE(2000, 2, 29), 0, 0) && dates(ALL(all), DATE(2100, 2, 29), 16, 0));
+    EXPECT(dates(ALL(all), DATE(2096, 2, 29), 0, 0) && dates(ALL(all), DATE(1900, 2, 29), 16, 0));
+    for (uint32_t bit = 12; bit < 32; bit++) {
+        const uint32_t more = 1u << bit;
+        EXPECT(dates(ALL(all), DATE(2026 + more, 11, 15), 16, 0));
+        EXPECT(dates(ALL(all), DATE(2026, 11 + more, 15), 16, 0) && dates(ALL(all), DATE(2026, 11, 15 + more), 16, 0));
+    }
+    EXPECT(dates(ALL(all), DATE(2026, 11 + 256, 15), 16, 0) && dates(ALL(all), DATE(2026, 11, 15 + 256), 16, 0));
+    EXPECT(dates(ALL(all), DATE(UINT32_MAX, UINT32_MAX, UINT32_MAX), 16, 0));
+    EXPECT(dates(file, 0, DATE(2026, 11, 15), 16, 0));
+    EXPECT(dates(file + 12, 12, DATE(2026, 6, 30), 0, 29) && dates(file + 12, 12, DATE(2026, 7, 1), 16, 0));
+}
+
+/* a window of the file changed, and the number that this gets; 14 comes before 15, and 15 before 16 */
+static void season_refused(void)
+{
+    uint8_t file[24] = {0, 30, 7, 234, 7, 1, 7, 235, 6, 30, 0, 0, 0, 29, 7, 233, 7, 1, 7, 234, 6, 30, 0, 0}, unchanged[24];
+    const struct { size_t place; uint8_t value; uint32_t number; } changes[] = {
+        {2, 6, 14}, {4, 0, 14}, {4, 13, 14}, {5, 0, 14}, {5, 32, 14}, {7, 233, 14}, {8, 2, 14}, {9, 31, 14}, {6, 9, 14},
+        {10, 1, 14}, {11, 255, 14}, {22, 1, 14}, {23, 1, 14}, {20, 7, 15}, {4, 6, 15}, {15, 235, 14}, {19, 235, 15}};
+    for (size_t k = 0; k < sizeof changes / sizeof *changes; k++) {
+        const uint8_t before = file[changes[k].place];
+        file[changes[k].place] = changes[k].value, memcpy(unchanged, file, 24);
+        EXPECT(dates(ALL(file), DATE(2026, 11, 15), changes[k].number, 0));
+        EXPECT(dates(ALL(file), DATE(2026, 2, 30), changes[k].number, 0) && memcmp(file, unchanged, 24) == 0);
+        file[changes[k].place] = before;
+    }
+    for (size_t length = 1; length < 24; length++)
+        EXPECT(length == 12 || dates(file, length, DATE(2026, 11, 15), 14, 0));
+    memcpy(file + 12, file, 12);
+    EXPECT(dates(ALL(file), DATE(2026, 11, 15), 15, 0) && dates(ALL(file), DATE(2028, 1, 1), 15, 0));
+    file[23] = 1;
+    EXPECT(dates(ALL(file), DATE(2028, 1, 1), 14, 0));
+}
+
+/* 64 windows of a day are taken, whichever of them has the date, one more is too many, and the first and the last may clash */
+static void seasons_many(void)
+{
+    static uint8_t days[65][12];
+    for (uint8_t k = 0; k < 65; k++)
+        memcpy(days[k], (const uint8_t[12]){k, 9, 7, 208, k % 12 + 1, k / 12 + 1, 7, 208, k % 12 + 1, k / 12 + 1}, 12);
+    for (uint32_t k = 0; k < 64; k++)
+        EXPECT(dates(days[0], 768, DATE(2000, k % 12 + 1, k / 12 + 1), 0, (uint16_t)(k << 8 | 9)));
+    EXPECT(dates(days[0], 768, DATE(2000, 5, 6), 16, 0) && dates(days[64], 12, DATE(2000, 5, 6), 0, 64 << 8 | 9));
+    for (size_t length = 769; length <= 780; length++)
+        EXPECT(dates(days[0], length, DATE(2000, 1, 1), 14, 0));
+    memcpy(days[63] + 2, days[0] + 2, 8);
+    EXPECT(dates(days[0], 768, DATE(2000, 2, 1), 15, 0) && dates(days[1], 756, DATE(2000, 2, 1), 0, 1 << 8 | 9));
 }
 
 static void widen_plans(void)
@@ -454,6 +532,9 @@ int main(void)
 {
     check_plan();
     find_plan();
+    find_season();
+    season_refused();
+    seasons_many();
     widen_plans();
     widen_many();
     write_and_measure();

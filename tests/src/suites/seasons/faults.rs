@@ -98,14 +98,12 @@ const FAULTS: [Fault; 14] = [
         },
     },
     Fault {
-        name: "65 windows",
+        name: "more than 64 windows",
         number: 14,
         apply: |asked, random| {
-            // the second and the third stay, for they may share a day
-            let least = 65 - asked.windows.len().min(65);
+            let least = 65 - asked.windows.len();
             asked.others.truncate(least.max(random.below(66)));
-            let others = std::mem::take(&mut asked.others);
-            asked.windows.extend(others);
+            asked.windows.append(&mut asked.others);
         },
     },
     Fault { name: "an unreal first date", number: 14, apply: |asked, random| unreal_at(2, asked, random) },
@@ -150,7 +148,7 @@ const FAULTS: [Fault; 14] = [
         },
     },
     Fault { name: "an unreal date", number: 16, apply: |asked, random| asked.date = unreal(random) },
-    Fault { name: "a date in a window, and a month more", number: 16, apply: |asked, _| asked.date.month += 12 },
+    Fault { name: "a date in a window, and twelve months more", number: 16, apply: |asked, _| asked.date.month += 12 },
     Fault {
         name: "a day without a window",
         number: 16,
