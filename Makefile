@@ -33,8 +33,9 @@ example: program
 	target/bin/traywhy < crates/traywhy/stdin | tee target/example.printed
 	diff crates/traywhy/stdout target/example.printed
 
-## make program         4 min         1 s             the proved programs: trayread, traywhy and planwiden, in target/bin
-program: target/stamp/trayread target/stamp/traywhy target/stamp/planwiden
+## make program         4 min         1 s             the proved programs, in target/bin: trayread, traywhy, planwiden and
+##                                                    trayseason
+program: target/stamp/trayread target/stamp/traywhy target/stamp/planwiden target/stamp/trayseason
 
 # rt writes these stamps once a program is proved, has run, and has printed what its file stdout has.
 target/stamp/trayread: $(call read_by,$(LIBRARIES) crates/trayread)
@@ -49,6 +50,10 @@ target/stamp/planwiden: $(call read_by,$(LIBRARIES) crates/planwiden)
 	rt check planwiden
 	touch $@
 
+target/stamp/trayseason: $(call read_by,$(LIBRARIES) crates/trayseason)
+	rt check trayseason
+	touch $@
+
 ## make lib             4 min         1 s             the proved library for C and Rust: target/staticlib/libtraymark.a
 lib: target/staticlib/libtraymark.a
 
@@ -57,14 +62,15 @@ lib: target/staticlib/libtraymark.a
 target/staticlib/libtraymark.a: $(call read_by,$(LIBRARIES))
 	rt staticlib traymark
 
-## make tests           6 min         80 s            the calls and the programs against an independent decoder, from Rust and C;
-##                                                    the wrapper's and that decoder's own tests, the benchmark's ports and
-##                                                    the two examples
+## make tests           6 min         80 s            the calls and the programs against an independent decoder and calendar,
+##                                                    from Rust and C; the wrapper's and their own tests, the benchmark's
+##                                                    ports and the two examples
 tests: lib program
 	$(CARGO) run --quiet --release -p traymark-tests --bin calls
 	$(CARGO) run --quiet --release -p traymark-tests --bin program target/bin/trayread
 	$(CARGO) run --quiet --release -p traymark-tests --bin explainer target/bin/traywhy
 	$(CARGO) run --quiet --release -p traymark-tests --bin widener target/bin/planwiden target/bin/trayread
+	$(CARGO) run --quiet --release -p traymark-tests --bin dater target/bin/trayseason
 	$(CARGO) run --quiet --release -p traymark-tests --bin strips input | cmp - crates/example_strips/stdin
 	$(CARGO) run --quiet --release -p traymark-tests --bin strips output | cmp - crates/example_strips/stdout
 	$(CARGO) run --quiet --release -p traymark-bench check

@@ -7,7 +7,7 @@ mod inputs;
 mod piped;
 
 use std::process::ExitCode;
-use traymark_tests::program::{exit, Program};
+use traymark_tests::program::{any_arguments, exit, Program};
 
 fn main() -> ExitCode {
     exit("widener", tested())
@@ -16,10 +16,10 @@ fn main() -> ExitCode {
 fn tested() -> Result<String, String> {
     let paths: Vec<String> = std::env::args().skip(1).collect();
     let [planwiden, trayread] = paths.try_into().map_err(|_| "usage: widener PLANWIDEN TRAYREAD")?;
-    let planwiden = Program { name: "planwiden", path: planwiden, to_nothing: "" };
-    let trayread = Program { name: "trayread", path: trayread, to_nothing: "REFUSED 1\n" };
+    let planwiden = Program::planwiden(planwiden);
+    let trayread = Program::trayread(trayread);
     let inputs = inputs::inputs();
-    planwiden.hold(&inputs)?;
+    planwiden.hold(&inputs, &any_arguments())?;
     let piped = piped::hold(&planwiden, &trayread)?;
     Ok(format!("{} inputs, {piped} plans widened and read with", inputs.len()))
 }

@@ -7,7 +7,7 @@ mod inputs;
 mod printed;
 
 use std::process::ExitCode;
-use traymark_tests::program::{exit, Program};
+use traymark_tests::program::{any_arguments, exit, Program};
 
 fn main() -> ExitCode {
     exit("program", tested())
@@ -16,6 +16,6 @@ fn main() -> ExitCode {
 fn tested() -> Result<String, String> {
     let path = std::env::args().nth(1).ok_or("usage: program PATH")?;
     let inputs = inputs::inputs();
-    Program { name: "trayread", path, to_nothing: "REFUSED 1\n" }.hold(&inputs)?;
+    Program::trayread(path).hold(&inputs, &any_arguments())?;
     Ok(format!("{} inputs", inputs.len()))
 }

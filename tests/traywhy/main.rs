@@ -7,7 +7,7 @@ mod inputs;
 mod printed;
 
 use std::process::ExitCode;
-use traymark_tests::program::{exit, Input, Program};
+use traymark_tests::program::{any_arguments, exit, Input, Program};
 
 /// The first words of what it prints, and the least number of inputs that get them.
 const WORDS: [(&str, usize); 4] = [("ANSWER", 50), ("OTHER", 50), ("NONE", 50), ("REFUSED", 1_000)];
@@ -19,7 +19,7 @@ fn main() -> ExitCode {
 fn tested() -> Result<String, String> {
     let path = std::env::args().nth(1).ok_or("usage: explainer PATH")?;
     let inputs = inputs::inputs();
-    Program { name: "traywhy", path, to_nothing: "REFUSED 1\n" }.hold(&inputs)?;
+    Program::traywhy(path).hold(&inputs, &any_arguments())?;
     let mut seen = Vec::new();
     for (word, least) in WORDS {
         let number = inputs.iter().filter(|input: &&Input| input.printed.starts_with(word.as_bytes())).count();

@@ -1,7 +1,8 @@
-//! What a user relies on beside the answer's bytes: that it comes in one write, that an argument is answered at once, that
-//! an answer which can't be written is told of, and that an input which can't be read is one that ends there.
+//! What a user relies on beside the answer's bytes: that it comes in one write, that arguments which are not taken are answered
+//! at once, that an answer which can't be written is told of, and that an input which can't be read is one that ends there.
 
-use super::{Input, Program};
+use super::{hand_over, Input, Program};
+use std::ffi::OsString;
 use std::fs::{File, OpenOptions};
 use std::io::{pipe, Result};
 use std::os::fd::OwnedFd;
@@ -29,8 +30,19 @@ impl Program {
     /// Where the answer can't be written, one line on standard error says so.
     pub(super) fn tells_of_a_failed_write(&self, input: &Input) -> Result<bool> {
         let full = OpenOptions::new().write(true).open("/dev/full")?;
-        let said = text(&self.run(input, full.into())?.stderr);
-        Ok(said.starts_with(&format!("{}: ", self.name)) && said.ends_with('\n') && said.lines().count() == 1)
+        Ok(self.says_it_was_not_taken(&self.run(input, full.into())?))
+    }
+
+    /// Where standard output is closed, the same.
+    pub(super) fn tells_of_a_closed_output(&self, input: &Input) -> Result<bool> {
+        let mut closing = Command::new("sh");
+        closing.args(["-c", r#"exec "$0" "$@" >&-"#, &self.path]).args(&input.arguments);
+        Ok(self.says_it_was_not_taken(&hand_over(&mut closing, input)?))
+    }
+
+    fn says_it_was_not_taken(&self, output: &Output) -> bool {
+        let said = format!("{}: standard output did not take the answer\n", self.name);
+        output.status.success() && output.stderr == said.as_bytes()
     }
 
     /// Where nobody reads the answer any more, the system ends the program, and nothing is said.
@@ -42,30 +54,26 @@ impl Program {
     }
 
     /// Arguments get the usage on standard error and nothing on standard output, while standard input is open and empty.
-    pub(super) fn tells_its_usage(&self, arguments: &[&str]) -> Result<bool> {
+    pub(super) fn tells_its_usage(&self, arguments: &[OsString]) -> Result<bool> {
         let mut command = Command::new(&self.path);
         command.args(arguments).stdin(Stdio::piped()).stdout(Stdio::piped()).stderr(Stdio::piped());
         let mut child = command.spawn()?;
         let open = child.stdin.take();
-        for _ in 0..1_000 {
+        for _ in 0..5_000 {
             if child.try_wait()?.is_some() {
                 break;
             }
-            sleep(Duration::from_millis(10));
+            sleep(Duration::from_millis(2));
         }
         let ended = child.try_wait()?.is_some();
         drop(open);
-        let Output { stdout, stderr, .. } = child.wait_with_output()?;
-        Ok(ended && stdout.is_empty() && text(&stderr).starts_with(&format!("usage: {} < ", self.name)))
+        let Output { status, stdout, stderr } = child.wait_with_output()?;
+        Ok(ended && status.success() && stdout.is_empty() && stderr == self.usage.as_bytes())
     }
 
     /// A folder can be opened and not read: that is answered like no input at all.
-    pub(super) fn takes_a_failed_read_for_the_end(&self) -> Result<bool> {
-        let output = Command::new(&self.path).stdin(File::open("/")?).output()?;
-        Ok(output.status.success() && output.stderr.is_empty() && output.stdout == self.to_nothing.as_bytes())
+    pub(super) fn takes_a_failed_read_for_the_end(&self, nothing: &Input) -> Result<bool> {
+        let output = Command::new(&self.path).args(&nothing.arguments).stdin(File::open("/")?).output()?;
+        Ok(output.status.success() && output.stderr.is_empty() && output.stdout == nothing.printed)
     }
-}
-
-fn text(bytes: &[u8]) -> String {
-    String::from_utf8_lossy(bytes).into_owned()
 }

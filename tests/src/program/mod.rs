@@ -5,6 +5,7 @@ mod conduct;
 
 use crate::random::Random;
 use independent::PLAN;
+use std::ffi::OsString;
 use std::io::Write;
 use std::process::{Command, ExitCode, Output, Stdio};
 use std::thread::sleep;
@@ -12,14 +13,15 @@ use std::time::Duration;
 
 pub struct Program {
     /// its name in what it says on standard error
-    pub name: &'static str,
-    pub path: String,
-    /// what it answers to no input at all
-    pub to_nothing: &'static str,
+    name: &'static str,
+    path: String,
+    /// what it says to arguments that it does not take
+    usage: &'static str,
 }
 
 pub struct Input {
     pub name: String,
+    pub arguments: Vec<OsString>,
     pub bytes: Vec<u8>,
     /// how many pieces it is handed over in
     pub pieces: usize,
@@ -27,19 +29,49 @@ pub struct Input {
 }
 
 impl Input {
-    /// An input that is handed over in one piece.
+    /// An input that is handed over in one piece, without an argument.
     pub fn new(name: impl Into<String>, bytes: Vec<u8>, printed: impl Into<Vec<u8>>) -> Input {
-        Input { name: name.into(), bytes, pieces: 1, printed: printed.into() }
+        Input { name: name.into(), arguments: Vec::new(), bytes, pieces: 1, printed: printed.into() }
     }
 }
 
+/// Arguments of a program that takes none.
+pub fn any_arguments() -> Vec<Vec<OsString>> {
+    let any = [&["--help"] as &[&str], &["-h"], &["input"], &[""], &["input", "output"], &["a", "b", "c"]];
+    any.map(|arguments| arguments.iter().map(OsString::from).collect()).to_vec()
+}
+
 impl Program {
-    /// All inputs, then its conduct.
-    pub fn hold(&self, inputs: &[Input]) -> Result<(), String> {
+    pub fn trayread(path: String) -> Program {
+        let usage = "usage: trayread < input\n\
+                     reads a plan, symbols and doubts, and prints the reading or a refusal; see man trayread\n";
+        Program { name: "trayread", path, usage }
+    }
+
+    pub fn traywhy(path: String) -> Program {
+        let usage = "usage: traywhy < input\n\
+                     tells why the expected record did not come up; see man traywhy\n";
+        Program { name: "traywhy", path, usage }
+    }
+
+    pub fn planwiden(path: String) -> Program {
+        let usage = "usage: planwiden < old > new\n\
+                     turns plans of 24 bytes into plans of 40 bytes; see man planwiden\n";
+        Program { name: "planwiden", path, usage }
+    }
+
+    pub fn trayseason(path: String) -> Program {
+        let usage = "usage: trayseason YYYY-MM-DD < windows\n\
+                     prints the season that has the date, by a file of season windows; see man trayseason\n";
+        Program { name: "trayseason", path, usage }
+    }
+
+    /// All inputs, of which one is empty, then its conduct, also with arguments that it does not take.
+    pub fn hold(&self, inputs: &[Input], misuses: &[Vec<OsString>]) -> Result<(), String> {
         for input in inputs {
             self.compare(input).map_err(|what| format!("{}: {what}; input {:?}", input.name, input.bytes))?;
         }
-        self.behaves(inputs)
+        self.behaves(inputs, misuses)
     }
 
     fn compare(&self, input: &Input) -> Result<(), String> {
@@ -52,38 +84,45 @@ impl Program {
     }
 
     /// The shortest and the longest answer; arguments; an input that can't be read.
-    fn behaves(&self, inputs: &[Input]) -> Result<(), String> {
+    fn behaves(&self, inputs: &[Input], misuses: &[Vec<OsString>]) -> Result<(), String> {
         let answered = || inputs.iter().filter(|input| !input.printed.is_empty());
         let longest = answered().max_by_key(|input| input.printed.len()).expect("there are inputs");
         let shortest = answered().min_by_key(|input| input.printed.len()).expect("there are inputs");
         for input in [shortest, longest] {
             told("an answer in one write", self.answers_in_one_write(input))?;
             told("a write that fails", self.tells_of_a_failed_write(input))?;
+            told("a closed output", self.tells_of_a_closed_output(input))?;
             told("a pipe that nobody reads", self.ends_at_a_closed_pipe(input))?;
         }
-        for arguments in [&["--help"] as &[&str], &["-h"], &["input"], &[""], &["input", "output"], &["a", "b", "c"]] {
+        for arguments in misuses {
             told(&format!("the arguments {arguments:?}"), self.tells_its_usage(arguments))?;
         }
-        told("a read that fails", self.takes_a_failed_read_for_the_end())
+        let nothing = inputs.iter().find(|input| input.bytes.is_empty()).expect("no input at all is among them");
+        told("a read that fails", self.takes_a_failed_read_for_the_end(nothing))
     }
 
-    /// Runs it with the input, handed over in as many pieces.
+    /// Runs it with the input.
     pub fn run(&self, input: &Input, stdout: Stdio) -> std::io::Result<Output> {
-        let mut child = Command::new(&self.path).stdin(Stdio::piped()).stdout(stdout).stderr(Stdio::piped()).spawn()?;
-        let mut stdin = child.stdin.take().expect("it is piped");
-        for piece in input.bytes.chunks(input.bytes.len().div_ceil(input.pieces).max(1)) {
-            // an answer may come before all was read
-            let written = stdin.write_all(piece).and_then(|()| stdin.flush());
-            if written.is_err() {
-                break;
-            }
-            if input.pieces > 1 {
-                sleep(Duration::from_millis(2));
-            }
-        }
-        drop(stdin);
-        child.wait_with_output()
+        hand_over(Command::new(&self.path).args(&input.arguments).stdout(stdout), input)
     }
+}
+
+/// Runs a command with the input, handed over in as many pieces.
+fn hand_over(command: &mut Command, input: &Input) -> std::io::Result<Output> {
+    let mut child = command.stdin(Stdio::piped()).stderr(Stdio::piped()).spawn()?;
+    let mut stdin = child.stdin.take().expect("it is piped");
+    for piece in input.bytes.chunks(input.bytes.len().div_ceil(input.pieces).max(1)) {
+        // an answer may come before all was read
+        let written = stdin.write_all(piece).and_then(|()| stdin.flush());
+        if written.is_err() {
+            break;
+        }
+        if input.pieces > 1 {
+            sleep(Duration::from_millis(2));
+        }
+    }
+    drop(stdin);
+    child.wait_with_output()
 }
 
 /// The first bytes of an input that is not refused, and zeros after it, every number of them to some beyond it: fewer than a
