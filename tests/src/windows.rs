@@ -2,8 +2,24 @@
 
 use crate::random::Random;
 use independent::windows::MOST_WINDOWS;
-use independent::{Date, Window, DAYS};
+use independent::{Date, Window, DAYS, WINDOW};
 use std::collections::BTreeSet;
+
+/// Season 30 from 1 July 2026 to 30 June 2027, then season 29 in the year before.
+pub const TWO_SEASONS: [u8; 2 * WINDOW] = [
+    0x00, 0x1e, 0x07, 0xea, 0x07, 0x01, 0x07, 0xeb, 0x06, 0x1e, 0x00, 0x00, // 30
+    0x00, 0x1d, 0x07, 0xe9, 0x07, 0x01, 0x07, 0xea, 0x06, 0x1e, 0x00, 0x00, // 29
+];
+
+/// All days in one window.
+pub fn all_days(season: u16) -> [u8; WINDOW] {
+    Window { season, first: 0, last: DAYS - 1 }.bytes()
+}
+
+/// The first days, a window for each, as many as there are.
+pub fn day_by_day(days: usize) -> Vec<u8> {
+    (0..days).flat_map(|day| Window { season: 300, first: day, last: day }.bytes()).collect()
+}
 
 /// So many windows that share no day, in any order: within few days, within some years or within all, apart or touching, many
 /// of one day, and at times no day without a window.

@@ -1,10 +1,10 @@
 //! The inputs: dates and window files with what they print, worked out by hand, and others with what the independent calendar
 //! says.
 
-use independent::{find_season, Date, Window, Windows, DAYS, WINDOW};
+use independent::{find_season, Date, Windows, DAYS, WINDOW};
 use traymark_tests::program::Input;
 use traymark_tests::random::Random;
-use traymark_tests::windows::{any_file, days_about, file};
+use traymark_tests::windows::{all_days, any_file, day_by_day, days_about, TWO_SEASONS};
 
 pub fn inputs() -> Vec<Input> {
     let mut inputs = documented();
@@ -16,12 +16,6 @@ pub fn inputs() -> Vec<Input> {
     inputs.extend(random());
     inputs
 }
-
-/// Season 30 from 1 July 2026 to 30 June 2027, season 29 in the year before.
-const FILE: [u8; 24] = [0, 30, 7, 234, 7, 1, 7, 235, 6, 30, 0, 0, 0, 29, 7, 233, 7, 1, 7, 234, 6, 30, 0, 0];
-
-/// All days in one window, of season 7.
-const ALL: [u8; WINDOW] = [0, 7, 7, 108, 1, 1, 8, 151, 12, 31, 0, 0];
 
 /// What is printed is known.
 fn told(date: &str, bytes: &[u8], printed: &str) -> Input {
@@ -39,66 +33,70 @@ fn input(date: Date, bytes: &[u8]) -> Input {
     told(&format!("{year:04}-{month:02}-{day:02}"), bytes, &printed)
 }
 
+/// At the ends of the two windows, beside them, and of each refusal.
 fn documented() -> Vec<Input> {
     vec![
-        told("2026-11-15", &FILE, "30"),
-        told("2026-07-01", &FILE, "30"),
-        told("2027-06-30", &FILE, "30"),
-        told("2027-07-01", &FILE, "REFUSED 16"),
-        told("2026-06-30", &FILE, "29"),
-        told("2025-12-31", &FILE, "29"),
-        told("2026-01-01", &FILE, "29"),
-        told("2025-07-01", &FILE, "29"),
-        told("2025-06-30", &FILE, "REFUSED 16"),
-        told("2026-02-30", &FILE, "REFUSED 16"),
+        told("2026-11-15", &TWO_SEASONS, "30"),
+        told("2026-07-01", &TWO_SEASONS, "30"),
+        told("2027-06-30", &TWO_SEASONS, "30"),
+        told("2027-07-01", &TWO_SEASONS, "REFUSED 16"),
+        told("2026-06-30", &TWO_SEASONS, "29"),
+        told("2025-12-31", &TWO_SEASONS, "29"),
+        told("2026-01-01", &TWO_SEASONS, "29"),
+        told("2025-07-01", &TWO_SEASONS, "29"),
+        told("2025-06-30", &TWO_SEASONS, "REFUSED 16"),
+        told("2026-02-30", &TWO_SEASONS, "REFUSED 16"),
         told("2026-11-15", &[], "REFUSED 16"),
         told("9999-99-99", &[], "REFUSED 16"),
-        told("2026-11-15", &FILE[..23], "REFUSED 14"),
-        told("2026-11-15", &FILE[..13], "REFUSED 14"),
-        told("2026-11-15", &FILE[..12].repeat(2), "REFUSED 15"),
-        told("2030-01-01", &FILE[..12].repeat(2), "REFUSED 15"),
-        told("2026-02-30", &FILE[..12].repeat(2), "REFUSED 15"),
-        told("9999-99-99", &FILE[..12].repeat(65), "REFUSED 14"),
-        told("2026-02-30", &FILE[..23], "REFUSED 14"),
+        told("2026-11-15", &TWO_SEASONS[..23], "REFUSED 14"),
+        told("2026-11-15", &TWO_SEASONS[..13], "REFUSED 14"),
+        told("2026-11-15", &TWO_SEASONS[..12].repeat(2), "REFUSED 15"),
+        told("2030-01-01", &TWO_SEASONS[..12].repeat(2), "REFUSED 15"),
+        told("2026-02-30", &TWO_SEASONS[..12].repeat(2), "REFUSED 15"),
+        told("9999-99-99", &TWO_SEASONS[..12].repeat(65), "REFUSED 14"),
+        told("2026-02-30", &TWO_SEASONS[..23], "REFUSED 14"),
     ]
 }
 
 /// Dates in the form, of any digits, among all days.
 fn dates() -> Vec<Input> {
+    let all = all_days(7);
     let mut inputs = vec![
-        told("1900-01-01", &ALL, "7"),
-        told("2199-12-31", &ALL, "7"),
-        told("2000-02-29", &ALL, "7"),
-        told("2100-02-29", &ALL, "REFUSED 16"),
-        told("1900-02-29", &ALL, "REFUSED 16"),
-        told("1899-12-31", &ALL, "REFUSED 16"),
-        told("2200-01-01", &ALL, "REFUSED 16"),
-        told("0000-00-00", &ALL, "REFUSED 16"),
-        told("9999-99-99", &ALL, "REFUSED 16"),
-        told("2026-00-15", &ALL, "REFUSED 16"),
-        told("2026-11-00", &ALL, "REFUSED 16"),
+        told("1900-01-01", &all, "7"),
+        told("2199-12-31", &all, "7"),
+        told("2000-02-29", &all, "7"),
+        told("2100-02-29", &all, "REFUSED 16"),
+        told("1900-02-29", &all, "REFUSED 16"),
+        told("1899-12-31", &all, "REFUSED 16"),
+        told("2200-01-01", &all, "REFUSED 16"),
+        told("0000-00-00", &all, "REFUSED 16"),
+        told("9999-99-99", &all, "REFUSED 16"),
+        told("2026-00-15", &all, "REFUSED 16"),
+        told("2026-11-00", &all, "REFUSED 16"),
     ];
     for month in 0..=14 {
-        inputs.extend([0, 1, 9, 10, 28, 29, 30, 31, 32, 40, 99].map(|day| input(Date::new(2026, month, day), &ALL)));
+        inputs.extend([0, 1, 9, 10, 28, 29, 30, 31, 32, 40, 99].map(|day| input(Date::new(2026, month, day), &all)));
     }
-    // each digit at each place
-    for place in [1, 10, 100, 1_000] {
-        inputs.extend((0..10).map(|digit| input(Date::new(digit * place, 1, 1), &ALL)));
-        inputs.extend(
-            (0..10).map(|digit| input(Date::new(2000 - 2000 / place % 10 * place + digit * place, 1, 1), &ALL)),
-        );
+    // each digit at each place of the year
+    for digit in 0..10 {
+        let years = [1900 + digit, 1900 + 10 * digit, 2000 + 100 * digit, 1_000 * digit];
+        inputs.extend(years.map(|year| input(Date::new(year, 1, 1), &all)));
     }
     let random = &mut Random::new(1);
     for _ in 0..60 {
-        inputs.push(input(Date::new(random.between(0, 9_999), random.between(0, 99), random.between(0, 99)), &ALL));
-        inputs.push(input(Date::of(random.below(DAYS)), &ALL));
+        let [year, month, day] = [9_999, 99, 99].map(|most| random.between(0, most));
+        inputs.push(input(Date::new(year, month, day), &all));
+        inputs.push(input(Date::of(random.below(DAYS)), &all));
     }
     inputs
 }
 
 /// Seasons of one digit to five.
 fn seasons() -> Vec<Input> {
-    let of = |season: u16| told("2026-11-15", &[&season.to_be_bytes(), &FILE[2..]].concat(), &season.to_string());
+    let of = |season: u16| {
+        let file = [&season.to_be_bytes(), &TWO_SEASONS[2..]].concat();
+        told("2026-11-15", &file, &season.to_string())
+    };
     let seasons = [0, 1, 9, 10, 99, 100, 255, 256, 999, 1_000, 9_999, 10_000, 30_000, 32_767, 32_768, 59_999, 65_535];
     seasons.into_iter().map(of).collect()
 }
@@ -106,9 +104,9 @@ fn seasons() -> Vec<Input> {
 /// The two seasons with each byte changed to a few others.
 fn changed() -> Vec<Input> {
     let mut inputs = Vec::new();
-    for place in 0..FILE.len() {
-        for value in [0, 1, 12, 255, FILE[place].saturating_sub(1), FILE[place] + 1] {
-            let mut file = FILE;
+    for place in 0..TWO_SEASONS.len() {
+        for value in [0, 1, 12, 255, TWO_SEASONS[place].saturating_sub(1), TWO_SEASONS[place] + 1] {
+            let mut file = TWO_SEASONS;
             file[place] = value;
             inputs.push(input(Date::new(2026, 11, 15), &file));
         }
@@ -118,8 +116,7 @@ fn changed() -> Vec<Input> {
 
 /// A day a window, so that lengths alone are at fault: around those of windows, of 64 of them, and far beyond.
 fn lengths() -> Vec<Input> {
-    let days: Vec<Window> = (0..DAYS).map(|day| Window { season: 300, first: day, last: day }).collect();
-    let bytes = file(&days);
+    let bytes = day_by_day(DAYS);
     let most = 64 * WINDOW;
     let far = [1_024, 4_096, 65_536, 3 * 65_536 + 24, 65_536 * WINDOW, 1 << 20, (1 << 20) / WINDOW * WINDOW];
     let lengths = (0..=3 * WINDOW).chain(most - WINDOW - 1..=most + 2 * WINDOW + 1).chain(far);
@@ -128,14 +125,9 @@ fn lengths() -> Vec<Input> {
 
 /// Files that come in pieces: byte by byte, in pieces of no window, and with more than 64 windows.
 fn pieces() -> Vec<Input> {
-    let days = |number: usize| -> Vec<u8> {
-        let days: Vec<Window> = (0..number).map(|day| Window { season: 300, first: day, last: day }).collect();
-        file(&days)
-    };
     let mut inputs = Vec::new();
-    for (bytes, pieces) in
-        [(FILE.to_vec(), 2), (FILE.to_vec(), 5), (FILE.to_vec(), 24), (days(64), 100), (days(65), 100)]
-    {
+    let two = || TWO_SEASONS.to_vec();
+    for (bytes, pieces) in [(two(), 2), (two(), 5), (two(), 24), (day_by_day(64), 100), (day_by_day(65), 100)] {
         for date in [Date::of(63), Date::new(2026, 11, 15), Date::new(2026, 2, 30)] {
             inputs.push(Input { pieces, ..input(date, &bytes) });
         }

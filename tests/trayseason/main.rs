@@ -1,4 +1,4 @@
-//! Runs the program `trayseason` over some 1,700 dates and window files, good and bad, and compares what it prints byte for byte;
+//! Runs the program `trayseason` over some 1,600 dates and window files, good and bad, and compares what it prints byte for byte;
 //! looks at its conduct; then gives it what is no date in its form.
 //!
 //! `dater PATH`, where PATH is the program. A failure names the input; inputs are the same in every run.

@@ -6,10 +6,8 @@ use std::os::unix::ffi::OsStringExt;
 const DATE: &[u8; 10] = b"2026-11-15";
 
 pub fn misuses() -> Vec<Vec<OsString>> {
-    let mut misuses = numbers();
-    misuses
-        .extend(lengths().into_iter().chain(forms()).chain(bytes()).map(|argument| vec![OsString::from_vec(argument)]));
-    misuses
+    let single = [lengths(), forms(), bytes()].concat();
+    numbers().into_iter().chain(single.into_iter().map(|argument| vec![OsString::from_vec(argument)])).collect()
 }
 
 /// No argument, and more than one, though a date is among them.
@@ -67,10 +65,10 @@ fn forms() -> Vec<Vec<u8>> {
         "0x7ea-b-0f",
         "YYYY-MM-DD",
         "----------",
-        "2026\u{2010}1-15",
+        "2026\u{2010}1-5",
         "2026\u{2013}11\u{2013}15",
-        "２０２６-11-15",
-        "２26-11-15",
+        "\u{ff12}6-11-15",
+        "\u{662}\u{660}-11-15",
     ];
     forms.map(|form| form.as_bytes().to_vec()).to_vec()
 }

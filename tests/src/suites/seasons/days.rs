@@ -1,11 +1,11 @@
 //! Every day of 1900 to 2199, every date around them that is a day or is none, dates of far higher numbers, and every season.
 
-use super::{all_days, File};
+use super::File;
 use independent::windows::window_bytes;
 use independent::{Date, Window, DAYS};
 use traymark_tests::counts::Counts;
 use traymark_tests::random::Random;
-use traymark_tests::windows::file;
+use traymark_tests::windows::{all_days, file};
 
 /// The seeds are the years, from 1900 on.
 pub const YEARS: u64 = 300;
@@ -60,7 +60,7 @@ pub fn dates(seed: u64, random: &mut Random, counts: &mut Counts) -> Result<(), 
     Ok(())
 }
 
-/// Real dates of which one number or two have a bit more, of those that the calendar has no use for, or are far below 0.
+/// Real dates with one number or two that are higher by a bit which no date has, or far below 0, from where they wrap.
 pub fn far(_: u64, random: &mut Random, counts: &mut Counts) -> Result<(), String> {
     let all = File::new(&all_days(7), random);
     let Date { year, month, day } = Date::of(random.below(DAYS));
@@ -70,13 +70,11 @@ pub fn far(_: u64, random: &mut Random, counts: &mut Counts) -> Result<(), Strin
         let bits = if part == 0 { 12..32 } else { 5..32 };
         let more = bits.map(|bit| 1 << bit).chain([3 << 30, u32::MAX << 16, u32::MAX - 9_999]);
         for more in more {
-            let mut asked = numbers;
-            asked[part] = asked[part].wrapping_add(more);
-            let other = random.below(3);
-            for [year, month, day] in [asked, asked.map(|number| number ^ (1 << 31)), {
-                asked[other] |= 1 << random.between(16, 31);
-                asked
-            }] {
+            let mut one = numbers;
+            one[part] = one[part].wrapping_add(more);
+            let mut two = one;
+            two[(part + 1) % 3] |= 1 << random.between(16, 31);
+            for [year, month, day] in [one, two] {
                 all.expect(Date::new(year, month, day), Err(16), random, counts)?;
             }
         }

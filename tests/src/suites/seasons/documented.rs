@@ -5,6 +5,7 @@ use super::File;
 use independent::Date;
 use traymark_tests::counts::Counts;
 use traymark_tests::random::Random;
+use traymark_tests::windows::TWO_SEASONS;
 
 pub const CASES: u64 = 100;
 
@@ -39,14 +40,8 @@ fn one(first: Day, last: Day) -> Vec<u8> {
     window(1, first, last)
 }
 
-/// Season 30 from 1 July 2026 to 30 June 2027, then season 29 in the year before.
-const FILE: [u8; 24] = [
-    0x00, 0x1e, 0x07, 0xea, 0x07, 0x01, 0x07, 0xeb, 0x06, 0x1e, 0x00, 0x00, // 30
-    0x00, 0x1d, 0x07, 0xe9, 0x07, 0x01, 0x07, 0xea, 0x06, 0x1e, 0x00, 0x00, // 29
-];
-
 fn two_seasons() -> Vec<Row> {
-    let asked = |date: Day, expected| Row(FILE.to_vec(), date, expected);
+    let asked = |date: Day, expected| Row(TWO_SEASONS.to_vec(), date, expected);
     vec![
         asked([2026, 11, 15], Ok(30)),
         asked([2026, 7, 1], Ok(30)),
@@ -154,11 +149,11 @@ fn numbers() -> Vec<Row> {
 /// The two seasons with one byte changed, lengths, and a window too many.
 fn unsound() -> Vec<Row> {
     let changed = |place: usize, value: u8| {
-        let mut file = FILE.to_vec();
+        let mut file = TWO_SEASONS.to_vec();
         file[place] = value;
         Row(file, [2026, 11, 15], Err(14))
     };
-    let cut = |length: usize| Row(FILE.repeat(2)[..length].to_vec(), [2026, 11, 15], Err(14));
+    let cut = |length: usize| Row(TWO_SEASONS.repeat(2)[..length].to_vec(), [2026, 11, 15], Err(14));
     let days = |number: u32, expected| {
         let day = |k: u32| one([1900 + k, 1, 1], [1900 + k, 1, 1]);
         Row((0..number).flat_map(day).collect(), [1900, 1, 1], expected)
@@ -186,7 +181,7 @@ fn shared() -> Vec<Row> {
     let summer = || window(7, [2026, 6, 1], [2026, 8, 31]);
     let with = |other: Vec<u8>, expected| Row([summer(), other].concat(), [2026, 8, 31], expected);
     vec![
-        with(FILE[12..].to_vec(), Err(15)),
+        with(TWO_SEASONS[12..].to_vec(), Err(15)),
         with(one([2026, 9, 1], [2026, 9, 1]), Ok(7)),
         with(one([2026, 8, 31], [2026, 9, 1]), Err(15)),
         with(one([2026, 5, 31], [2026, 6, 1]), Err(15)),
@@ -198,12 +193,12 @@ fn shared() -> Vec<Row> {
 
 /// Two or three refusals apply.
 fn order() -> Vec<Row> {
-    let twice = || FILE[..12].repeat(2);
+    let twice = || TWO_SEASONS[..12].repeat(2);
     let unreal = [2026, 2, 30];
     vec![
         Row([twice(), vec![0]].concat(), unreal, Err(14)),
         Row([twice(), one([2000, 1, 1], [1999, 1, 1])].concat(), [2026, 11, 15], Err(14)),
-        Row([one([1800, 1, 1], [2199, 1, 1]), FILE.to_vec()].concat(), unreal, Err(14)),
+        Row([one([1800, 1, 1], [2199, 1, 1]), TWO_SEASONS.to_vec()].concat(), unreal, Err(14)),
         Row(vec![0], unreal, Err(14)),
         Row(twice(), unreal, Err(15)),
         Row(twice(), [2030, 1, 1], Err(15)),

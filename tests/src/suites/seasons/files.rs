@@ -4,7 +4,7 @@ use super::File;
 use independent::{Date, Window, Windows, DAYS, WINDOW};
 use traymark_tests::counts::Counts;
 use traymark_tests::random::Random;
-use traymark_tests::windows::{any_file, apart, days_about, file, unreal};
+use traymark_tests::windows::{any_file, apart, day_by_day, days_about, file, unreal};
 
 /// Any file, asked for days at and beside the ends of its windows, for any days, and for dates that are none.
 pub fn case(_: u64, random: &mut Random, counts: &mut Counts) -> Result<(), String> {
@@ -74,12 +74,11 @@ pub const LENGTHS: u64 = 801 + LONG.len() as u64;
 /// So many bytes of windows of which no two share a day, of any bytes, and of zeros.
 pub fn lengths(seed: u64, random: &mut Random, counts: &mut Counts) -> Result<(), String> {
     let length = seed as usize;
-    let (length, windows) = match length.checked_sub(801) {
-        None => (length, apart(800 / WINDOW + 1, random)),
-        Some(k) => (LONG[k], (0..DAYS).map(|day| Window { season: 7, first: day, last: day }).collect()),
+    let windows = apart(800 / WINDOW + 1, random);
+    let (length, sound, date) = match length.checked_sub(801) {
+        None => (length, file(&windows), Date::of(windows[0].first)),
+        Some(k) => (LONG[k], day_by_day(DAYS), Date::of(0)),
     };
-    let date = Date::of(windows[0].first);
-    let sound = file(&windows);
     for bytes in [&sound[..length], &random.bytes(length), &vec![0; length]] {
         let windows = Windows::parse(bytes);
         File::new(bytes, random).hold(&windows, date, random, counts)?;

@@ -6,7 +6,7 @@ pub mod documented;
 pub mod faults;
 pub mod files;
 
-use independent::{Date, Window, Windows, DAYS, WINDOW};
+use independent::{Date, Windows};
 use traymark_tests::counts::Counts;
 use traymark_tests::lent::Lent;
 use traymark_tests::library;
@@ -54,9 +54,4 @@ impl File {
         counts.date(windows, date);
         Ok(())
     }
-}
-
-/// All days there are, in one window.
-fn all_days(season: u16) -> [u8; WINDOW] {
-    Window { season, first: 0, last: DAYS - 1 }.bytes()
 }
