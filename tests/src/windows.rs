@@ -16,7 +16,7 @@ pub fn all_days(season: u16) -> [u8; WINDOW] {
     Window { season, first: 0, last: DAYS - 1 }.bytes()
 }
 
-/// The first days, a window for each, as many as there are.
+/// A window of season 300 for each of the first days.
 pub fn day_by_day(days: usize) -> Vec<u8> {
     (0..days).flat_map(|day| Window { season: 300, first: day, last: day }.bytes()).collect()
 }
@@ -32,22 +32,22 @@ pub fn apart(number: usize, random: &mut Random) -> Vec<Window> {
     while firsts.len() < number {
         firsts.insert(from + random.below(days));
     }
-    let all_days = random.one_in(8);
-    if all_days && number > 0 {
+    let gapless = random.one_in(8);
+    if gapless && number > 0 {
         firsts.pop_first();
         firsts.insert(0);
     }
-    let ends = firsts.iter().skip(1).map(|first| first - 1).chain([if all_days { DAYS - 1 } else { from + days - 1 }]);
+    let ends = firsts.iter().skip(1).copied().chain([if gapless { DAYS } else { from + days }]);
     let mut windows: Vec<Window> =
-        firsts.iter().zip(ends).map(|(&first, end)| window(first, end, all_days, random)).collect();
+        firsts.iter().zip(ends).map(|(&first, end)| window(first, end, gapless, random)).collect();
     random.shuffle(&mut windows);
     windows
 }
 
-/// A window from the first day to the end or to some day before it.
+/// A window from the first day on that ends before this day, with none between if it touches it.
 fn window(first: usize, end: usize, touching: bool, random: &mut Random) -> Window {
-    let any = first + random.below(end - first + 1);
-    let last = if touching { end } else { random.pick(&[first, end, end, any]) };
+    let any = first + random.below(end - first);
+    let last = if touching { end - 1 } else { random.pick(&[first, end - 1, end - 1, any]) };
     Window { season: season(random), first, last }
 }
 
@@ -85,7 +85,7 @@ pub fn any_file(random: &mut Random) -> Vec<u8> {
 }
 
 /// Two different places.
-pub fn two(number: usize, random: &mut Random) -> [usize; 2] {
+fn two(number: usize, random: &mut Random) -> [usize; 2] {
     let one = random.below(number);
     [one, (one + 1 + random.below(number - 1)) % number]
 }

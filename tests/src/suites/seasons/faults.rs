@@ -75,7 +75,7 @@ fn parsed(window: &[u8; WINDOW]) -> Window {
     Windows::parse(window).expect("it is sound").0[0]
 }
 
-/// The low bytes of a date that they do not make real, at this place of the first window.
+/// An unreal date that fits into four bytes, at this place of the first window.
 fn unreal_at(place: usize, asked: &mut Asked, random: &mut Random) {
     let Date { year, month, day } = loop {
         let Date { year, month, day } = unreal(random);

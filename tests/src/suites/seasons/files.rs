@@ -42,7 +42,7 @@ pub fn bytes(seed: u64, random: &mut Random, counts: &mut Counts) -> Result<(), 
     Ok(())
 }
 
-/// Windows of 200 days, with some days or none between them, in no order; the same in every run.
+/// Windows of 200 days, with 1 to 199 days between them, in no order; the same in every run.
 fn some_years(number: usize) -> Vec<Window> {
     let random = &mut Random::new(number as u64);
     let year = |k: usize| {
@@ -71,21 +71,21 @@ const LONG: [usize; 12] = [
 ];
 pub const LENGTHS: u64 = 801 + LONG.len() as u64;
 
-/// So many bytes of windows of which no two share a day, of any bytes, and of zeros.
+/// So many bytes of sound windows of which no two share a day, of any bytes, and of zeros.
 pub fn lengths(seed: u64, random: &mut Random, counts: &mut Counts) -> Result<(), String> {
-    let length = seed as usize;
     let windows = apart(800 / WINDOW + 1, random);
-    let (length, sound, date) = match length.checked_sub(801) {
-        None => (length, file(&windows), Date::of(windows[0].first)),
-        Some(k) => (LONG[k], day_by_day(DAYS), Date::of(0)),
+    let (length, sound, day, season) = match (seed as usize).checked_sub(801) {
+        None => (seed as usize, file(&windows), windows[0].first, windows[0].season),
+        Some(k) => (LONG[k], day_by_day(DAYS), 0, 300),
     };
-    for bytes in [&sound[..length], &random.bytes(length), &vec![0; length]] {
-        let windows = Windows::parse(bytes);
-        File::new(bytes, random).hold(&windows, date, random, counts)?;
-    }
-    let bounds = [64 * WINDOW, 65 * WINDOW].map(|length| Windows::parse(&sound[..length]).is_ok());
-    if bounds != [true, false] {
-        return Err("64 windows are refused, or 65 are not".into());
+    let expected = match length {
+        0 => Err(16),
+        _ if length.is_multiple_of(WINDOW) && length <= 64 * WINDOW => Ok(season),
+        _ => Err(14),
+    };
+    File::new(&sound[..length], random).expect(Date::of(day), expected, random, counts)?;
+    for bytes in [random.bytes(length), vec![0; length]] {
+        File::new(&bytes, random).hold(&Windows::parse(&bytes), Date::of(day), random, counts)?;
     }
     Ok(())
 }
