@@ -23,7 +23,7 @@ LIBRARIES = $(patsubst %/src/lib.rt,%,$(wildcard crates/*/src/lib.rt))
 
 ## make example         4 min         1 s             reads a tray end to end by the program: case c of document 01, with its plan
 ##                                                    of 40 bytes, and with that of the old form, widened; then tells why
-##                                                    another record did not come up
+##                                                    another record did not come up, and which season a date is in
 example: program
 	target/bin/trayread < crates/trayread/stdin | tee target/example.printed
 	diff crates/trayread/stdout target/example.printed
@@ -32,6 +32,8 @@ example: program
 	diff crates/trayread/stdout target/example.printed
 	target/bin/traywhy < crates/traywhy/stdin | tee target/example.printed
 	diff crates/traywhy/stdout target/example.printed
+	target/bin/trayseason $(shell cat crates/trayseason/args) < crates/trayseason/stdin | tee target/example.printed
+	diff crates/trayseason/stdout target/example.printed
 
 ## make program         4 min         1 s             the proved programs, in target/bin: trayread, traywhy, planwiden and
 ##                                                    trayseason
