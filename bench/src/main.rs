@@ -1,31 +1,35 @@
 //! Times of the proved library beside those of its method in plain Rust and of the tests' decoder, all in one run and
-//! over the same streams of distinct marks.
+//! over the same streams of distinct marks; and of finding the season of a date, beside plain Rust.
 //!
-//! - `bench [N]` prints the table and whether the targets are met; of each stream it takes at most N marks.
-//! - `bench check` holds the ports in Rust against the tests' decoder.
+//! - `bench [N]` prints the tables and whether the targets are met; of each stream it takes at most N marks or dates.
+//! - `bench check` holds the ports in Rust against the tests' decoder and calendar.
 //! - `bench profile P ROWS COLUMNS D KIND COUNT` runs the library alone, on COUNT marks of a line of season 12, for a profiler.
 //!   KIND is clean, errors, doubts, rivals or noise for reading such marks, or write, measure or explain.
 //!
-//! Each line of the table is a plan and a stream: the microseconds of the median mark, each mark by its least time of
+//! Each line of the first table is a plan and a stream: the microseconds of the median mark, each mark by its least time of
 //! several rounds, by the library, by the port with division (`plain`), by the port with the reciprocal (`tuned`) and by
 //! the tests' decoder (`equations`); how many times the library's time the others take; and the slowest of the marks that
 //! the library reads, with how many of the plan's clean marks it lasts. Absolute times move with the machine; compare
 //! those of one run. All is of season 12, with doubts in 100ths, but for one line of season 30, in 250ths, which says so.
+//!
+//! Each line of the second is a kind of window file and date, with the microseconds of a call, of the median batch of calls.
 
 mod check;
 mod contender;
 mod port;
+mod question;
 mod stream;
 mod table;
 mod timing;
 
-use contender::{Call, EQUATIONS, LIBRARY, MARKS, PLAIN, TUNED};
+use contender::{Call, Contender, EQUATIONS, LIBRARY, MARKS, PLAIN, TUNED};
+use question::{Question, BATCH, FINDERS};
 use std::hint::black_box;
 use std::iter;
 use std::process::ExitCode;
 use std::str::FromStr;
 use stream::{Kind, Mark, FINER_SEASON, SEASON};
-use table::Line;
+use table::{Line, SeasonLine};
 use traymark_tests::plans::Shape;
 use traymark_tests::run::{run, Suite};
 
@@ -54,6 +58,9 @@ const CALLS: [(Call, Kind); 8] = [
 /// The line that is there once more with doubts in 250ths.
 const FINER: (Shape, Call, Kind) = ((251, 16, 16, 7), Call::Read, Kind::Doubts);
 
+/// Who is timed on marks.
+static CONTENDERS: [Contender; 4] = [LIBRARY, PLAIN, TUNED, EQUATIONS];
+
 const USAGE: &str = "usage: bench [N] | bench check | bench profile P ROWS COLUMNS D KIND COUNT";
 
 fn main() -> ExitCode {
@@ -79,8 +86,16 @@ fn number<T: FromStr>(word: &str) -> Result<T, String> {
     word.parse().map_err(|_| format!("no number: {word}; {USAGE}"))
 }
 
-/// Prints the table of all plans, and the targets.
+/// Prints the tables, each with its targets.
 fn compare(number: usize) -> Result<(), String> {
+    compare_marks(number);
+    println!();
+    compare_seasons(number);
+    Ok(())
+}
+
+/// All plans.
+fn compare_marks(number: usize) {
     table::print_head();
     let mut lines = Vec::new();
     for shape in PLANS {
@@ -88,7 +103,8 @@ fn compare(number: usize) -> Result<(), String> {
         for (season, call, kind) in lines_of(shape) {
             let marks = stream::marks(season, shape, kind, number);
             agree(&marks, call);
-            let mut times = timing::times([&LIBRARY, &PLAIN, &TUNED, &EQUATIONS], &marks, call);
+            let streams = CONTENDERS.each_ref().map(|contender| &marks[..contender.marks.min(marks.len())]);
+            let mut times = timing::times(streams, |contender, mark| CONTENDERS[contender].call(call, mark));
             let [library, plain, tuned, equations] = times.each_mut().map(|times| times.median());
             let slowest = times[0].slowest();
             let clean = *clean.get_or_insert(library);
@@ -98,7 +114,23 @@ fn compare(number: usize) -> Result<(), String> {
         }
     }
     table::print_targets(&lines);
-    Ok(())
+}
+
+/// The season of a date, by all kinds of window files.
+fn compare_seasons(number: usize) {
+    table::print_season_head();
+    let lines = question::KINDS.map(|kind| {
+        let batches = question::batches(kind, number);
+        batches.iter().flatten().for_each(agree_on);
+        let ask =
+            |finder: usize, batch: &[Question; BATCH]| batch.each_ref().map(|question| question.ask(FINDERS[finder]));
+        let mut times = timing::times([&batches[..]; FINDERS.len()], ask);
+        let [library, plain] = times.each_mut().map(|times| times.median() / BATCH as f64);
+        let line = SeasonLine { kind, library, plain };
+        line.print();
+        line
+    });
+    table::print_season_target(&lines);
 }
 
 /// The lines of a plan, each with its season.
@@ -119,9 +151,27 @@ fn agree(marks: &[Mark], call: Call) {
     }
 }
 
-/// Holds the ports against the tests' decoder, for the seasons before 30 and for those from 30 on.
+/// The library and the port find the same season, or none alike.
+fn agree_on(question: &Question) {
+    let [library, plain] = FINDERS.map(|find| question.ask(find));
+    assert_eq!(plain, library, "{} and the library: {question:?}", PLAIN.name);
+}
+
+/// Holds the ports against the tests' decoder, for the seasons before 30 and for those from 30 on, and against their calendar.
 fn check() -> Result<(), String> {
-    check::SUITES.into_iter().try_for_each(check_suite)
+    check::SUITES.into_iter().try_for_each(check_suite)?;
+    check_seasons(check::SEASONS)
+}
+
+fn check_seasons(suite: Suite) -> Result<(), String> {
+    let name = suite.name;
+    let counts = run(&[suite]).map_err(|failures| failures.join("\n"))?;
+    let numbers = [0, 14, 15, 16].map(|number| counts.numbers[number]);
+    if numbers.into_iter().any(|n| n < 1_000) {
+        return Err(format!("fewer than 1,000 answers of a number: {numbers:?}"));
+    }
+    println!("{name}: ok: {} dates, {} of them with a season", counts.calls, numbers[0]);
+    Ok(())
 }
 
 fn check_suite(suite: Suite) -> Result<(), String> {

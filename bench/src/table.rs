@@ -1,6 +1,7 @@
-//! The table, a line for each plan and stream, and whether it meets the targets.
+//! The tables, a line for each plan and stream and one for each kind of window file, and whether they meet the targets.
 
 use crate::contender::{Call, EQUATIONS, LIBRARY, PLAIN, TUNED};
+use crate::question;
 use crate::stream::{Kind, SEASON};
 use traymark_tests::plans::Shape;
 
@@ -100,13 +101,10 @@ struct Target {
     is_met: fn(f64) -> bool,
 }
 
+const NO_LONGER: &str = "the library takes no longer than the plain port";
+
 const TARGETS: [Target; 4] = [
-    Target {
-        says: "the library takes no longer than the plain port",
-        concerns: |_| true,
-        ratio: Line::plain_ratio,
-        is_met: |ratio| ratio >= 1.0,
-    },
+    Target { says: NO_LONGER, concerns: |_| true, ratio: Line::plain_ratio, is_met: |ratio| ratio >= 1.0 },
     Target {
         says: "clean marks with d 7 and 15 are read 100 times as fast as by equations",
         concerns: Line::is_clean_reading,
@@ -131,13 +129,51 @@ const TARGETS: [Target; 4] = [
 pub fn print_targets(lines: &[Line]) {
     for target in &TARGETS {
         let is_missed = |line: &&Line| (target.concerns)(line) && !(target.is_met)((target.ratio)(line));
-        let missed: Vec<&Line> = lines.iter().filter(is_missed).collect();
-        match missed.is_empty() {
-            true => println!("met: {}", target.says),
-            false => println!("MISSED: {}:", target.says),
-        }
-        for line in missed {
-            println!("    {} {}: {:.2}", line.plan(), line.what(), (target.ratio)(line));
-        }
+        let missed = lines.iter().filter(is_missed);
+        let named = missed.map(|line| (format!("{} {}", line.plan(), line.what()), (target.ratio)(line)));
+        print_target(target.says, named.collect());
     }
+}
+
+fn print_target(says: &str, missed: Vec<(String, f64)>) {
+    match missed.is_empty() {
+        true => println!("met: {says}"),
+        false => println!("MISSED: {says}:"),
+    }
+    for (line, ratio) in missed {
+        println!("    {line}: {ratio:.2}");
+    }
+}
+
+/// A kind of window file and date, with the median microseconds of each contender.
+pub struct SeasonLine {
+    pub kind: question::Kind,
+    pub library: f64,
+    pub plain: f64,
+}
+
+pub fn print_season_head() {
+    println!(
+        "{:<34} {:>9} {:>9} {:>9}",
+        "the season of a date",
+        LIBRARY.name,
+        PLAIN.name,
+        format!("{}/lib", PLAIN.name)
+    );
+}
+
+impl SeasonLine {
+    pub fn print(&self) {
+        let SeasonLine { kind, library, plain } = self;
+        println!("{:<34} {library:>9.3} {plain:>9.3} {:>9.2}", kind.described(), self.plain_ratio());
+    }
+
+    fn plain_ratio(&self) -> f64 {
+        self.plain / self.library
+    }
+}
+
+pub fn print_season_target(lines: &[SeasonLine]) {
+    let missed = lines.iter().filter(|line| line.plain_ratio() < 1.0);
+    print_target(NO_LONGER, missed.map(|line| (line.kind.described(), line.plain_ratio())).collect());
 }

@@ -1,45 +1,44 @@
 //! Times of the contenders over a stream.
 
-use crate::contender::{Call, Contender};
-use crate::stream::Mark;
 use std::hint::black_box;
 use std::time::{Duration, Instant};
 
 /// How often a stream is gone through after the round that warms up.
 const ROUNDS: usize = 9;
 
-/// The times of one contender's calls: of each mark the least over the rounds, so that what interrupted the process or
-/// slowed the machine down for a while is not in it.
+/// The times of one contender's work: of each item of its stream the least over the rounds, so that what interrupted the
+/// process or slowed the machine down for a while is not in it.
 pub struct Times {
     least: Vec<Duration>,
 }
 
 impl Times {
-    fn new(marks: usize) -> Times {
-        Times { least: vec![Duration::MAX; marks] }
+    fn new(items: usize) -> Times {
+        Times { least: vec![Duration::MAX; items] }
     }
 
-    /// The median mark in microseconds.
+    /// The median item in microseconds.
     pub fn median(&mut self) -> f64 {
         let middle = self.least.len() / 2;
         microseconds(*self.least.select_nth_unstable(middle).1)
     }
 
-    /// The slowest mark in microseconds.
+    /// The slowest item in microseconds.
     pub fn slowest(&self) -> f64 {
-        microseconds(*self.least.iter().max().expect("a stream has marks"))
+        microseconds(*self.least.iter().max().expect("a stream has items"))
     }
 }
 
-/// The times of all contenders, a round of one after a round of the other: what slows the machine down for a while slows
-/// them all down.
-pub fn times<const N: usize>(contenders: [&Contender; N], marks: &[Mark], call: Call) -> [Times; N] {
-    let streams = contenders.map(|contender| &marks[..contender.marks.min(marks.len())]);
+/// The times of all contenders, each over its stream, a round of one after a round of the other: what slows the machine
+/// down for a while slows them all down. The contender at a place does its work on an item.
+pub fn times<T, R, const N: usize>(streams: [&[T]; N], work: impl Fn(usize, &T) -> R) -> [Times; N] {
     let mut times = streams.map(|stream| Times::new(stream.len()));
     for round in 0..=ROUNDS {
-        for ((contender, stream), times) in contenders.iter().zip(streams).zip(&mut times) {
-            for (mark, least) in stream.iter().zip(&mut times.least) {
-                let time = time(contender, mark, call);
+        for (contender, (stream, times)) in streams.iter().zip(&mut times).enumerate() {
+            for (item, least) in stream.iter().zip(&mut times.least) {
+                let start = Instant::now();
+                black_box(work(contender, black_box(item)));
+                let time = start.elapsed();
                 if round > 0 {
                     *least = time.min(*least);
                 }
@@ -47,12 +46,6 @@ pub fn times<const N: usize>(contenders: [&Contender; N], marks: &[Mark], call: 
         }
     }
     times
-}
-
-fn time(contender: &Contender, mark: &Mark, call: Call) -> Duration {
-    let start = Instant::now();
-    black_box(contender.call(call, black_box(mark)));
-    start.elapsed()
 }
 
 fn microseconds(time: Duration) -> f64 {

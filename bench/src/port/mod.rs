@@ -1,11 +1,12 @@
 //! The library's method once more, in plain Rust and unproved: what its times are held against.
 //!
-//! The four calls take the same bytes as those of `traymark`, make the same checks and give the same answers. Below
-//! them the layers are those of the library: numbers modulo p (`field`), polynomials (`polynomial`), the strip decoder
-//! (`order`, `newton`, `interpolation`, `strip`), the mark decoder (`draft`, `steps`), the mark reader (`mark`). Nothing
-//! is allocated.
+//! The five calls take the same bytes as those of `traymark`, make the same checks and give the same answers. Below
+//! those for marks the layers are those of the library: numbers modulo p (`field`), polynomials (`polynomial`), the strip
+//! decoder (`order`, `newton`, `interpolation`, `strip`), the mark decoder (`draft`, `steps`), the mark reader (`mark`).
+//! They are generic over how a number is taken modulo p: by division (`Plain`) or with a reciprocal (`Tuned`).
 //!
-//! All is generic over how a number is taken modulo p: by division (`Plain`) or with a reciprocal (`Tuned`).
+//! The season of a date (`season`) is found as one would in Rust, by sorting the windows, whatever the library does. Nothing
+//! is allocated.
 
 mod checks;
 mod draft;
@@ -16,11 +17,13 @@ mod newton;
 mod order;
 mod plan;
 mod polynomial;
+mod season;
 mod steps;
 mod strip;
 mod tally;
 
 pub use field::{Plain, Reduction, Tuned};
+pub use season::find_season;
 
 use plan::Plan;
 use polynomial::Powers;
