@@ -1,9 +1,10 @@
 //! The ports held against the tests' decoder: cheap random plans and photographs, and faults in what is lent; and against the
-//! tests' calendar: random window files with faults, and dates in and beside their windows.
+//! tests' calendar: random window files, and dates in and beside their windows.
 
 use crate::port::{self, Plain, Reduction, Tuned};
 use independent::calls::bytes;
-use independent::{Code, Date, Plan, Window, DAYS, WINDOW};
+use independent::windows::window_bytes;
+use independent::{Code, Date, Plan, Windows, DAYS};
 use traymark::Refusal;
 use traymark_tests::calls::{expected, Arguments, Call, Outcome};
 use traymark_tests::counts::Counts;
@@ -12,6 +13,7 @@ use traymark_tests::photo::{noise, photograph, rival, unread};
 use traymark_tests::plans;
 use traymark_tests::random::Random;
 use traymark_tests::run::Suite;
+use traymark_tests::windows;
 
 /// Every shape with doubts in 100ths, and every shape with doubts in 250ths.
 pub const SUITES: [Suite; 2] = [
@@ -109,19 +111,31 @@ fn outcome<R: Reduction>(call: Call, given: &Arguments) -> Outcome {
     }
 }
 
-/// One window file, spoiled every third time, and dates of its days and next to them, some of them spoiled.
+/// The ends of the calendar, and days that some years have, with the dates next to them.
+const EDGES: [Date; 9] = [
+    Date::new(1899, 12, 31),
+    Date::new(1900, 1, 1),
+    Date::new(1900, 2, 29),
+    Date::new(2000, 2, 29),
+    Date::new(2000, 3, 1),
+    Date::new(2100, 2, 28),
+    Date::new(2100, 2, 29),
+    Date::new(2199, 12, 31),
+    Date::new(2200, 1, 1),
+];
+
+/// One window file, at times of one window between two edges, and dates: about one of its windows, or any where it is refused;
+/// an unreal one; and an edge.
 fn season_case(_: u64, random: &mut Random, counts: &mut Counts) -> Result<(), String> {
-    let days = days(random);
-    let mut file = window_file(&days, random);
-    if random.one_in(3) {
-        spoil_file(&mut file, random);
-    }
-    for _ in 0..4 {
-        let day = days.get(random.below(days.len() + 1)).copied().unwrap_or(random.below(DAYS));
-        let mut date = Date::of((day + random.below(3)).saturating_sub(1).min(DAYS - 1));
-        if random.one_in(4) {
-            spoil_date(&mut date, random);
-        }
+    let file = match random.one_in(4) {
+        true => window_bytes(random.number() as u16, random.pick(&EDGES), random.pick(&EDGES)).to_vec(),
+        false => windows::any_file(random),
+    };
+    let days = match Windows::parse(&file) {
+        Ok(Windows(all)) if !all.is_empty() => windows::days_about(random.pick(&all), random),
+        _ => vec![random.below(DAYS)],
+    };
+    for date in days.into_iter().map(Date::of).chain([windows::unreal(random), random.pick(&EDGES)]) {
         let expected = independent::find_season(&file, date);
         let found = port::find_season(&file, date.year, date.month, date.day).map_err(Refusal::number);
         if found != expected {
@@ -130,53 +144,4 @@ fn season_case(_: u64, random: &mut Random, counts: &mut Counts) -> Result<(), S
         counts.number(expected.err().unwrap_or(0));
     }
     Ok(())
-}
-
-/// Days in order, two for each window, near each other or far: of near ones many are next to each other and some are the same.
-fn days(random: &mut Random) -> Vec<usize> {
-    let windows = random.pick(&[0, 1, 2, 3, 8, 64, 65]);
-    let span = random.pick(&[4 * windows + 1, 1_000, DAYS]);
-    let start = random.below(DAYS - span + 1);
-    let mut days: Vec<usize> = (0..2 * windows).map(|_| start + random.below(span)).collect();
-    days.sort_unstable();
-    days
-}
-
-/// The windows of these days, in any order.
-fn window_file(days: &[usize], random: &mut Random) -> Vec<u8> {
-    let mut window = |pair: &[usize]| Window { season: random.number() as u16, first: pair[0], last: pair[1] };
-    let mut windows: Vec<Window> = days.chunks(2).map(&mut window).collect();
-    random.shuffle(&mut windows);
-    windows.iter().flat_map(Window::bytes).collect()
-}
-
-/// Changes a byte or the length, or copies a date from one window to another.
-fn spoil_file(file: &mut Vec<u8>, random: &mut Random) {
-    let windows = file.len() / WINDOW;
-    match random.below(6) {
-        0 => file.push(random.byte()),
-        _ if windows == 0 => (),
-        1 => file.truncate(random.below(file.len())),
-        2 => {
-            let mut date = || WINDOW * random.below(windows) + random.pick(&[2, 6]);
-            let (from, to) = (date(), date());
-            file.copy_within(from..from + 4, to);
-        }
-        _ => {
-            let place = random.below(file.len());
-            file[place] = random.pick(&[0, 1, 2, 7, 8, 12, 13, 28, 29, 30, 31, 32, 107, 108, 151, 152, 255]);
-        }
-    }
-}
-
-/// Makes it a 29 February, or changes one of its numbers by a little, or by so much that it wraps in 8, 16 or 32 bits.
-fn spoil_date(date: &mut Date, random: &mut Random) {
-    if random.one_in(4) {
-        *date = Date::new(random.pick(&[1900, 2000, 2026, 2100, 2104]), 2, 29);
-        return;
-    }
-    let by = random.pick(&[1, 2, 3, 100, 1 << 8, 1 << 16, 1 << 31, u32::MAX]);
-    let Date { year, month, day } = date;
-    let number = [year, month, day].into_iter().nth(random.below(3)).expect("a date has three numbers");
-    *number = number.wrapping_add(by);
 }
