@@ -62,7 +62,7 @@ impl Program {
 
     pub fn trayseason(path: String) -> Program {
         let usage = "usage: trayseason YYYY-MM-DD < windows\n\
-                     prints the season that has the date, by a file of season windows; see man trayseason\n";
+                     prints the season of the date, by a file of windows; see man trayseason\n";
         Program { name: "trayseason", path, usage }
     }
 
