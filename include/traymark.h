@@ -107,8 +107,8 @@ uint32_t traymark_find_plan(const uint8_t *file, size_t file_len, uint16_t seaso
 
 /*
  * Finds the season of a date in a window file, which is at most 64 windows one after another with no header and in any
- * order; traymark_find_plan then finds the season's plan. The whole file is checked before the date is looked for, so an
- * unsound file is refused for every date. A window that ends on 30 June and one that begins on 1 July share no day; the same
+ * order; traymark_find_plan then finds the season's plan. The whole file is checked before the date is looked for, so one
+ * that gets 14 or 15 gets it for every date. A window that ends on 30 June and one that begins on 1 July share no day; the same
  * window twice shares all. Several windows may have one season, and 0 is a season like any other. An empty file has no window.
  *
  *   file     read

@@ -1,6 +1,8 @@
 -- The calendar's laws.
 --
---   year-days          a year has 365 real dates, and 366 if it is a leap year
+--   year-days          how many real dates a year has
+--   all-days           and all years together
+--   real-exactly       which dates are real
 --   in-order           the order of real dates
 --   next-day           every real date but the last has a next one, and the order agrees with it
 --   real-cases         dates that are real and dates that are not
@@ -9,32 +11,55 @@
 -- What this file is for: that the definitions of dates are those of the Gregorian calendar. Assumes nothing.
 use mathlib.Core.Path.{_≡_, refl, sym, ap, _∙_}
 use mathlib.Core.Bool.{Bool, true, false, cond, _&&_}
-use mathlib.Core.List.{[], _∷_, _++_, map}
-use mathlib.Core.Logic.{_≢_, _⊎_, inl, inr}
-use Prim.Native.Nat.{ℕ, _+_, _*_, _≤_, _<_}
+use mathlib.Core.List.{List, [], _∷_, _++_, map}
+use mathlib.Core.Logic.{_≢_, _↔_, _⊎_, inl, inr}
+use Prim.Native.Nat.{ℕ, _+_, _*_, _%_, _≤_, _<_}
 use native.Mathlib.Omega.{arith}
 use native.Mathlib.Decide.{decLt}
 use lib.Dec.{ltb, leb}
-use borrow.Author.Tests.{lt-ltb, le-ltb, eq-eqb}
+use lib.ListN.{replicate}
+use borrow.Author.Tests.{lt-ltb, le-ltb, eq-eqb, ne-eqb}
 use Rattle.bounded.specs.Bounded.{at, sum}
 use Rattle.bounded.proofs.Sum.{sum-eq}
 use Rattle.calendar.specs.Dates.{leap, months, daysIn, real, earlier, key}
-use Rattle.calendar.specs.Calendar.{date, daysOf, firstDate, lastDate, following, InOrder, IsNext}
+use Rattle.calendar.specs.Calendar.{date, IsReal, daysOf, YearDays, firstDate, lastDate, following, InOrder, IsNext}
 use Rattle.calendar.specs.declared.Date.{Date}
-use Rattle.calendar.proofs.Real.{month-some, IsReal, is-real, real-is, real-day}
+use Rattle.calendar.proofs.Real.{month-some, is-real, real-is, real-day}
 use Rattle.calendar.proofs.Order.{key-same, earlier-key, earlier-by, onOrBefore-by}
 
 -- the days of a year's months, counted day by day
 abbrev counted : Bool → ℕ
 counted b = sum 13 λ m. sum 32 λ d. cond (leb 1 d && leb d (at (0 ∷ months b) m)) 1 0
 
-pub year-days : (y : ℕ) → 1900 ≤ y → y ≤ 2199 → daysOf y ≡ cond (leap y) 366 365
-year-days y from to = sum-eq 13 (λ m _. sum-eq 32 λ d _. ap (λ b. cond b 1 0) (sym (real-day (date y m d) from to refl)))
+counted-by : (y : ℕ) → 1900 ≤ y → y ≤ 2199 → daysOf y ≡ cond (leap y) 366 365
+counted-by y from to = sum-eq 13 (λ m _. sum-eq 32 λ d _. ap (λ b. cond b 1 0) (sym (real-day (date y m d) from to refl)))
     ∙ counts (leap y)
   where
     counts : (b : Bool) → counted b ≡ cond b 366 365
     counts true = refl
     counts false = refl
+
+pub year-days : (y : ℕ) → 1900 ≤ y → y ≤ 2199 → YearDays y
+year-days y from to = record {
+  common = λ n. days ∙ rw (ne-eqb (y % 4) 0 n);
+  fourth = λ e n. days ∙ rw (eq-eqb (y % 4) 0 e, ne-eqb (y % 100) 0 n);
+  hundredth = λ e n.
+      let f : y % 4 ≡ 0 = omega arith in
+      days ∙ rw (eq-eqb (y % 4) 0 f, eq-eqb (y % 100) 0 e, ne-eqb (y % 400) 0 n);
+  fourHundredth = λ e.
+      let f : y % 4 ≡ 0 = omega arith in
+      let h : y % 100 ≡ 0 = omega arith in
+      days ∙ rw (eq-eqb (y % 4) 0 f, eq-eqb (y % 100) 0 h, eq-eqb (y % 400) 0 e);
+}
+  where
+    days : daysOf y ≡ cond (leap y) 366 365
+    days = counted-by y from to
+
+pub real-exactly : (t : Date) → (real t ≡ true) ↔ IsReal t
+real-exactly t = (is-real t, λ r. real-is t (r .from) (r .to) (r .first) (r .last))
+
+pub all-days : sum 300 (λ i. daysOf (1900 + i)) ≡ 109573
+all-days = sum-eq 300 (λ i l. counted-by (1900 + i) (omega arith) (omega arith)) ∙ refl
 
 pub in-order : InOrder
 unfolding earlier real
@@ -126,19 +151,35 @@ module _ (t : Date) (r : real t ≡ true) where
           rw (le-ltb _ _ h, le-ltb _ _ d) (turns h _ q refl (omega (arith, a .december)) λ u s k.
           omega (arith, a .december, d, is-real u s .january, is-real u s .december))
 
--- 29 February of 2000, 2024, 1900, 2100, 2023; the last day of each month and the day after; month 0 and 13, day 0; the ends of
--- 1899 and 2199 and the days after; numbers that a byte or two do not hold
+-- January to December; the months of 31 days; all but February; and all
+abbrev twelve : List ℕ
+twelve = 1 ∷ 2 ∷ 3 ∷ 4 ∷ 5 ∷ 6 ∷ 7 ∷ 8 ∷ 9 ∷ 10 ∷ 11 ∷ 12 ∷ []
+
+abbrev long : List Bool
+long = true ∷ false ∷ true ∷ false ∷ true ∷ false ∷ true ∷ true ∷ false ∷ true ∷ false ∷ true ∷ []
+
+abbrev butFebruary : List Bool
+butFebruary = true ∷ false ∷ replicate 10 true
+
+abbrev all : List Bool
+all = replicate 12 true
+
+-- 29 February in years with and without one; in the leap year 2028 and in 2026 day 31, 30, 29 and 28 of each month; month 0 and
+-- 13, day 0 and 32; the ends of 1899 and 2199 and the days after; numbers that a byte or two do not hold
 pub real-cases :
-    map real (date 2000 2 29 ∷ date 2024 2 29 ∷ date 1900 2 29 ∷ date 2100 2 29 ∷ date 2023 2 29 ∷ [])
-    ++ map (λ m. real (date 2023 m 31)) (1 ∷ 2 ∷ 3 ∷ 4 ∷ 5 ∷ 6 ∷ 7 ∷ 8 ∷ 9 ∷ 10 ∷ 11 ∷ 12 ∷ [])
-    ++ map (λ m. real (date 2023 m 30)) (1 ∷ 2 ∷ 3 ∷ 4 ∷ 5 ∷ 6 ∷ 7 ∷ 8 ∷ 9 ∷ 10 ∷ 11 ∷ 12 ∷ [])
-    ++ map real (date 2023 2 28 ∷ date 2023 1 32 ∷ date 2026 0 1 ∷ date 2026 13 1 ∷ date 2026 1 0 ∷ [])
+    map (λ y. real (date y 2 29)) (1904 ∷ 1996 ∷ 2000 ∷ 2004 ∷ 2028 ∷ 2196 ∷ [])
+    ++ map (λ y. real (date y 2 29)) (1900 ∷ 1902 ∷ 2023 ∷ 2026 ∷ 2100 ∷ 2199 ∷ [])
+    ++ map (λ m. real (date 2028 m 31)) twelve ++ map (λ m. real (date 2026 m 31)) twelve
+    ++ map (λ m. real (date 2028 m 30)) twelve ++ map (λ m. real (date 2026 m 30)) twelve
+    ++ map (λ m. real (date 2028 m 29)) twelve ++ map (λ m. real (date 2026 m 29)) twelve
+    ++ map (λ m. real (date 2028 m 28)) twelve ++ map (λ m. real (date 2026 m 28)) twelve
+    ++ map real (date 2026 0 1 ∷ date 2026 13 1 ∷ date 2026 1 0 ∷ date 2026 1 32 ∷ [])
     ++ map real (date 1899 12 31 ∷ date 1900 1 1 ∷ date 2199 12 31 ∷ date 2200 1 1 ∷ [])
     ++ map real (date 67562 1 1 ∷ date 2026 257 1 ∷ date 2026 1 257 ∷ date 4294967295 4294967295 4294967295 ∷ [])
-    ≡ true ∷ true ∷ false ∷ false ∷ false
-    ∷ true ∷ false ∷ true ∷ false ∷ true ∷ false ∷ true ∷ true ∷ false ∷ true ∷ false ∷ true
-    ∷ true ∷ false ∷ true ∷ true ∷ true ∷ true ∷ true ∷ true ∷ true ∷ true ∷ true ∷ true
-    ∷ true ∷ false ∷ false ∷ false ∷ false
+    ≡ true ∷ true ∷ true ∷ true ∷ true ∷ true
+    ∷ false ∷ false ∷ false ∷ false ∷ false ∷ false
+    ∷ long ++ long ++ butFebruary ++ butFebruary ++ all ++ butFebruary ++ all ++ all
+    ++ false ∷ false ∷ false ∷ false
     ∷ false ∷ true ∷ true ∷ false
     ∷ false ∷ false ∷ false ∷ false ∷ []
 unfolding real

@@ -15,9 +15,9 @@ use native.Mathlib.Decide.{decLt}
 use lib.Dec.{eqb, ltb, leb}
 use borrow.Author.Tests.{ltb-true, leb-true, lt-ltb, le-ltb, lt-leb, le-leb, eq-eqb, ne-eqb}
 use Rattle.calendar.specs.Dates.{real, earlier, onOrBefore, key}
-use Rattle.calendar.specs.Calendar.{date}
+use Rattle.calendar.specs.Calendar.{date, IsReal}
 use Rattle.calendar.specs.declared.Date.{Date}
-use Rattle.calendar.proofs.Real.{IsReal, is-real}
+use Rattle.calendar.proofs.Real.{is-real}
 
 pub same-date : {y m d y′ m′ d′ : ℕ} → y ≡ y′ → m ≡ m′ → d ≡ d′ → date y m d ≡ date y′ m′ d′
 same-date y m d = rw (y, m, d)

@@ -2,8 +2,7 @@
 --
 --   month-some     every month has a day
 --   long-month     a month that is no February, April, June, September or November has 31 days
---   IsReal t       year, month and day are within their bounds
---   is-real        they are where the date is real
+--   is-real        its year, month and day are within their bounds
 --   unreal         a date of which they are not is none
 --   real-day       in a year of the calendar the day decides
 --   real-is        a date within the bounds is real
@@ -23,6 +22,7 @@ use Rattle.bounded.specs.Bounded.{at, any}
 use Rattle.bounded.proofs.Any.{any-none}
 use Rattle.bounded.proofs.Parts.{both, each-true, not-both, nor}
 use Rattle.calendar.specs.Dates.{leap, months, daysIn, real}
+use Rattle.calendar.specs.Calendar.{IsReal}
 use Rattle.calendar.specs.declared.Date.{Date}
 
 module _ (b : Bool) where
@@ -69,15 +69,6 @@ long-month y m l h a b c d e =
   where
     turned : {t : Bool} → t ≡ false → not t ≡ true
     turned e = rw e
-
-pub record IsReal (t : Date) : Type 0 where
-  pub from : 1900 ≤ t .year
-  pub to : t .year ≤ 2199
-  pub january : 1 ≤ t .month
-  pub december : t .month ≤ 12
-  pub first : 1 ≤ t .day
-  pub last : t .day ≤ daysIn (t .year) (t .month)
-  pub most : t .day ≤ 31
 
 pub is-real : (t : Date) → real t ≡ true → IsReal t
 unfolding real

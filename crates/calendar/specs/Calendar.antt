@@ -1,7 +1,9 @@
 -- The calendar's laws, as statements.
 --
 --   date y m d         the date of these numbers
+--   IsReal t           year, month and day are within their bounds; a date is real exactly where they are
 --   daysOf y           how many real dates the year has
+--   YearDays y         they are 366 where 4 divides the year, and 400 does if 100 does; else 365
 --   firstDate, lastDate    1 January 1900 and 31 December 2199
 --   following t        the day after: of the month, or the first of the next month, or 1 January of the next year
 --   InOrder            of two real dates that differ just one is the earlier, and what is earlier than an earlier one is earlier;
@@ -10,9 +12,9 @@
 --
 -- What this file is for: that real dates and their order are the calendar's. The theorems are in proofs/Calendar.antt.
 use mathlib.Core.Path.{_≡_}
-use mathlib.Core.Logic.{_⊎_}
+use mathlib.Core.Logic.{_≢_, _⊎_}
 use mathlib.Core.Bool.{true, false, cond}
-use Prim.Native.Nat.{ℕ, _+_}
+use Prim.Native.Nat.{ℕ, _+_, _%_, _≤_}
 use lib.Dec.{ltb}
 use Rattle.bounded.specs.Bounded.{sum}
 use Rattle.calendar.specs.Dates.{daysIn, real, earlier, onOrBefore}
@@ -21,9 +23,24 @@ use Rattle.calendar.specs.declared.Date.{Date}
 abbrev pub date : (y m d : ℕ) → Date
 date y m d = record { year = y; month = m; day = d }
 
--- a real date has a month below 13 and a day below 32
+pub record IsReal (t : Date) : Type 0 where
+  pub from : 1900 ≤ t .year
+  pub to : t .year ≤ 2199
+  pub january : 1 ≤ t .month
+  pub december : t .month ≤ 12
+  pub first : 1 ≤ t .day
+  pub last : t .day ≤ daysIn (t .year) (t .month)
+  pub most : t .day ≤ 31
+
+-- a real date has a month below 13 and a day below 32, by `IsReal`
 abbrev pub daysOf : ℕ → ℕ
 daysOf y = sum 13 λ m. sum 32 λ d. cond (real (date y m d)) 1 0
+
+pub record YearDays (y : ℕ) : Type 0 where
+  pub common : y % 4 ≢ 0 → daysOf y ≡ 365
+  pub fourth : y % 4 ≡ 0 → y % 100 ≢ 0 → daysOf y ≡ 366
+  pub hundredth : y % 100 ≡ 0 → y % 400 ≢ 0 → daysOf y ≡ 365
+  pub fourHundredth : y % 400 ≡ 0 → daysOf y ≡ 366
 
 abbrev pub firstDate : Date
 firstDate = date 1900 1 1

@@ -1,5 +1,6 @@
 -- What follows from the definitions.
 pub mod Cases
+pub mod SeasonCases
 pub mod Refusals
 pub mod Search
 pub mod Sound
@@ -24,3 +25,4 @@ pub mod Tray
 pub mod Why
 pub mod Widening
 pub mod Windows
+pub mod Dated

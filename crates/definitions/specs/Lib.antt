@@ -16,6 +16,7 @@ pub mod Printed
 pub mod Dated
 pub mod Widening
 pub mod Cases
+pub mod SeasonCases
 pub mod Sound
 pub mod Photograph
 pub mod Reads

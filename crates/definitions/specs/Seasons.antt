@@ -9,7 +9,8 @@
 --   SeasonExactly file t        which number is given: 14 where the file is not readable, else 15 where two windows share a day,
 --                               else 16 where the date is unreal or in no window, else 0 with the season of a window that has it
 --   OneWindow file t            exactly one window of the file has the day, and its season is returned
---   shown, DateTaken            `trayseason` takes ten bytes, in the form of a date, for the numbers that they show
+--   shown d, Digits d           ten bytes that show a date, by its eight digits
+--   DateTaken                   `trayseason` takes such bytes, and no others, for the numbers that they show
 --   SeasonPrinted w input       it prints the season's digits, or REFUSED and the number, and nothing where its argument has
 --                               not that form
 --
@@ -70,16 +71,19 @@ pub record OneWindow (file : List ℕ) (t : Date) : Type 0 where
   pub number : seasonNumber file t ≡ 0
   pub season : seasonFound file t ≡ season W
 
--- digits as a date: the byte of a digit is 48 and more, and that of '-' is 45
-abbrev pub shown : (a b c d e f g h : ℕ) → List ℕ
-shown a b c d e f g h =
-    (48 + a) ∷ (48 + b) ∷ (48 + c) ∷ (48 + d) ∷ 45 ∷ (48 + e) ∷ (48 + f) ∷ 45 ∷ (48 + g) ∷ (48 + h) ∷ []
+-- the digits d 0 to d 7 as a date: the byte of a digit is 48 and more, and that of '-' is 45
+abbrev pub shown : (ℕ → ℕ) → List ℕ
+shown d =
+    (48 + d 0) ∷ (48 + d 1) ∷ (48 + d 2) ∷ (48 + d 3) ∷ 45 ∷ (48 + d 4) ∷ (48 + d 5) ∷ 45 ∷ (48 + d 6) ∷ (48 + d 7) ∷ []
+
+abbrev pub Digits : (ℕ → ℕ) → Type 0
+Digits d = (i : ℕ) → d i < 10
 
 pub record DateTaken : Type 0 where
-  pub form : (a b c d e f g h : ℕ) → a < 10 → b < 10 → c < 10 → d < 10 → e < 10 → f < 10 → g < 10 → h < 10 →
-      dated (shown a b c d e f g h) ≡ true
-  pub numbers : (a b c d e f g h : ℕ) →
-      askedDate (shown a b c d e f g h) ≡ date (a * 1000 + b * 100 + c * 10 + d) (e * 10 + f) (g * 10 + h)
+  pub form : (d : ℕ → ℕ) → Digits d → dated (shown d) ≡ true
+  pub only : (w : List ℕ) → dated w ≡ true → (d : ℕ → ℕ) × Digits d × (w ≡ shown d)
+  pub numbers : (d : ℕ → ℕ) →
+      askedDate (shown d) ≡ date (d 0 * 1000 + d 1 * 100 + d 2 * 10 + d 3) (d 4 * 10 + d 5) (d 6 * 10 + d 7)
 
 pub record SeasonPrinted (w input : List ℕ) : Type 0 where
   pub season : dated w ≡ true → seasonNumber input (askedDate w) ≡ 0 →

@@ -20,7 +20,8 @@
 --                                        document 02, request 7: the season of a date
 --   date-taken, season-printed           what `trayseason` takes its argument for, and what it prints
 --   shared-exactly                       what it means that two windows meet by their end days
---   year-days, dates-in-order, next-day  the calendar
+--   real-exactly, year-days, dates-in-order, next-day
+--                                        the calendar
 --   groups-fill                          document 02, request 4: where the coefficients of a record stand
 --   tray-parts, tray-refused             what `trayread` takes of its input, and when it refuses it
 --   why-parts, why-refused               the same of `traywhy`
@@ -32,15 +33,15 @@
 -- the statements are of `definitions/specs`. Assumes nothing.
 use mathlib.Core.Path.{_≡_, refl, sym, ap, _∙_}
 use mathlib.Core.Logic.{_↔_, _≢_}
-use mathlib.Core.Bool.{true, cond}
+use mathlib.Core.Bool.{true}
 use mathlib.Core.List.{List, [], _∷_}
 use Prim.Native.Nat.{ℕ, suc, _+_, _*_, _≤_, _<_}
 use native.Mathlib.Omega.{arith}
 use native.Mathlib.Numerals.{add-one}
 use lib.ListN.{length}
 use Rattle.bounded.specs.Bounded.{at, index}
-use Rattle.calendar.specs.Dates.{leap, real}
-use Rattle.calendar.specs.Calendar.{daysOf, lastDate, following, InOrder, IsNext}
+use Rattle.calendar.specs.Dates.{real}
+use Rattle.calendar.specs.Calendar.{IsReal, YearDays, lastDate, following, InOrder, IsNext}
 use Rattle.calendar.specs.declared.Date.{Date}
 use Rattle.calendar.proofs.Calendar as calendar
 use Rattle.definitions.specs.Plan.{planBytes, season, rows, columns, degree, planRows, checkNumber}
@@ -69,6 +70,7 @@ use Rattle.definitions.proofs.Refusals.{first-earliest, first-absent}
 use Rattle.definitions.proofs.Finder as finder
 use Rattle.definitions.proofs.Widening as widening
 use Rattle.definitions.proofs.Windows as windows
+use Rattle.definitions.proofs.Dated as dates
 use Rattle.definitions.proofs.Tray as tray
 use Rattle.definitions.proofs.Why as why
 use Rattle.definitions.proofs.Sound as plans
@@ -88,7 +90,6 @@ use Rattle.distance.proofs.Cost.{cell-full}
 use Rattle.polynomial.proofs.Record.{value-places, start-next, start-below, start-apart, placed}
 use Rattle.polynomial.proofs.Known.{value-mark-is}
 use Rattle.windows.proofs.Seasons as seasons
-use Rattle.windows.proofs.Dated as dates
 use Rattle.traymark.proofs.Answer.{write-keeps, write-fills, measure-refuses, measure-gives, read-keeps, read-gives}
 use Rattle.traymark.proofs.Answer.{explain-keeps}
 
@@ -298,8 +299,12 @@ date-taken = dates.date-taken
 pub season-printed : (w input : List ℕ) → SeasonPrinted w input
 season-printed = dates.season-printed
 
--- The calendar: a year from 1900 to 2199 has 366 real dates if it is a leap year, else 365.
-pub year-days : (y : ℕ) → 1900 ≤ y → y ≤ 2199 → daysOf y ≡ cond (leap y) 366 365
+-- The calendar: a date is real exactly when its year is 1900 to 2199, its month 1 to 12, and its day one of the month's.
+pub real-exactly : (t : Date) → (real t ≡ true) ↔ IsReal t
+real-exactly = calendar.real-exactly
+
+-- A year from 1900 to 2199 has 366 real dates where 4 divides it, if 400 does where 100 does, and else 365.
+pub year-days : (y : ℕ) → 1900 ≤ y → y ≤ 2199 → YearDays y
 year-days = calendar.year-days
 
 -- Of two real dates that differ just one is the earlier, and none is before 1 January 1900 or after 31 December 2199.

@@ -50,7 +50,7 @@ pub fn asked_date(word: &[u8]) -> Date
     }
 }
 
-// The number of two digits.
+// The number of two digits, at most 11 times 255 whatever the bytes.
 fn number_of(tens: u8, ones: u8) -> u32
     ensures is { λ r. ⌜ r ≡ (tens - digit 0) * 10 + (ones - digit 0) ⌝ }
     ensures most { λ r. ⌜ r < 2816 ⌝ }

@@ -2,5 +2,3 @@
 pub mod EndDays
 pub mod Searched
 pub mod Seasons
-pub mod Dated
-pub mod Cases

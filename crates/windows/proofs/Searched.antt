@@ -1,6 +1,6 @@
 -- Searching the windows of a file.
 --
---   all-sound        where no window of a file is faulty, each is without fault
+--   all-windows      where no window of a file is faulty, each is as it should be
 --   nowhere, somewhere
 --                    a first place that is the bound, and one that is not
 --   season-found     the season of the window that was found first is the one that is found
@@ -21,11 +21,12 @@ use Rattle.definitions.specs.Plan.{pair}
 use Rattle.definitions.specs.Windows.{windowAt, faulty, firstWith, seasonNumber, seasonFound}
 use Rattle.definitions.proofs.Refusals.{holds}
 use Rattle.definitions.proofs.Finder as finder
-use Rattle.windows.proofs.EndDays.{IsSound, sound-window}
+use Rattle.definitions.specs.Seasons.{IsWindow}
+use Rattle.windows.proofs.EndDays.{is-window}
 
-pub all-sound : (file : List ℕ) (n : ℕ) → any n (λ k. faulty (windowAt file k)) ≡ false → (k : ℕ) → k < n →
-    IsSound (windowAt file k)
-all-sound file n e k l = sound-window (windowAt file k) (any-none n (λ k. faulty (windowAt file k)) e k l)
+pub all-windows : (file : List ℕ) (n : ℕ) → any n (λ k. faulty (windowAt file k)) ≡ false → (k : ℕ) → k < n →
+    IsWindow (windowAt file k)
+all-windows file n e k l = is-window (windowAt file k) (any-none n (λ k. faulty (windowAt file k)) e k l)
 
 -- a search that came to its end, and one that did not
 pub nowhere : (n : ℕ) (f : ℕ → Bool) → index n f ≡ n → any n f ≡ false

@@ -8,40 +8,31 @@
 -- What this file is for: the sentences of request 7, from the rows of its refusals. Assumes nothing.
 use mathlib.Core.Path.{_≡_, refl, sym, ap, _∙_}
 use mathlib.Core.Logic.{_≢_, _↔_}
-use mathlib.Core.Bool.{Bool, true, false, not, false≢true, true≢false}
+use mathlib.Core.Bool.{Bool, true, false, not, true≢false}
 use mathlib.Core.List.{List}
-use Prim.Native.Nat.{ℕ, _+_, _*_, _%_, _≤_, _<_}
+use Prim.Native.Nat.{ℕ, _%_, _≤_, _<_}
 use native.Mathlib.Omega.{arith}
 use native.Mathlib.Decide.{decLe, decLt, ℕ-discrete}
-use lib.Dec.{eqb, ltb, lit≤, lit<}
-use lib.ListN.{length, take, drop}
+use lib.Dec.{eqb, ltb}
+use lib.ListN.{length}
 use borrow.Author.Tests.{ltb-false, le-ltb, eqb-true, not-true, not-false}
-use Rattle.bounded.specs.Bounded.{at, any, index}
-use Rattle.bounded.proofs.Any.{any-none, none-any, any-some, some-any}
+use Rattle.bounded.specs.Bounded.{at, any}
+use Rattle.bounded.proofs.Any.{any-none, none-any, some-any}
 use Rattle.bounded.proofs.Index.{index-within, index-holds}
 use Rattle.bounded.proofs.Parts.{both, each-true, nor}
 use Rattle.calendar.specs.Dates.{real, earlier, onOrBefore, key}
 use Rattle.calendar.specs.declared.Date.{Date}
 use Rattle.calendar.proofs.Order.{onOrBefore-key, onOrBefore-by}
-use Rattle.definitions.specs.Plan.{season, filled}
+use Rattle.definitions.specs.Plan.{season}
 use Rattle.definitions.specs.Windows.{windows, windowAt, firstDay, lastDay, has, faulty, meet, clashing, firstWith}
 use Rattle.definitions.specs.Windows.{seasonRows, seasonNumber, seasonFound}
 use Rattle.definitions.specs.Seasons.{Window, IsWindow, HasDay, SharedDay, Readable, Apart, SeasonExactly, OneWindow}
-use Rattle.definitions.proofs.Sound.{zeros, filled-no}
+use Rattle.definitions.proofs.Sound.{filled-no}
 use Rattle.definitions.proofs.Windows.{season-at}
-use Rattle.definitions.proofs.Refusals.{_&_, first-clear, equal, holds, turned-true}
-use Rattle.windows.proofs.EndDays.{IsSound, sound-window}
+use Rattle.definitions.proofs.Refusals.{_&_, equal, holds, turned-true}
+use Rattle.windows.proofs.EndDays.{is-window}
 
--- a window without fault is as it should be, and the other way round
-is-window : (W : List ℕ) → faulty W ≡ false → IsWindow W
-is-window W e =
-    let S = sound-window W e in record {
-      first = S .first;
-      last = S .last;
-      order = turned-true (S .order);
-      zeros = (zeros W 10 2 (S .zeros) 10 (omega arith) (omega arith), zeros W 10 2 (S .zeros) 11 (omega arith) (omega arith));
-    }
-
+-- a window that is as it should be is without fault
 window-is : (W : List ℕ) → IsWindow W → faulty W ≡ false
 window-is W S = nor (ap not (S .first)) (nor (ap not (S .last))
     (nor (not-true (earlier (lastDay W) (firstDay W)) (S .order)) (filled-no W 10 2 zero)))

@@ -18,10 +18,12 @@ pub const WINDOW_BYTES: usize = 12;
 // How many a file may have.
 pub const MOST_WINDOWS: usize = 64;
 
-// Where the first and the last date of a window begin.
+// Where the first date of a window begins, its last date, and its two zeros.
 const FIRST: usize = 2;
 
 const LAST: usize = 6;
+
+const ZEROS: usize = 10;
 
 // Sets the season of the date and answers 0. Refusals: 14 for a file of broken or too many windows, or with a faulty one; 15
 // where two windows share a day; 16 where the date is unreal or in no window; then the season is 0. The tests are the rows of
@@ -88,7 +90,7 @@ fn is_faulty(window: &[u8]) -> bool
     if key(last) < key(first) {
         return true;
     }
-    bytes::reaches(&window[10..12], 1)
+    bytes::reaches(&window[ZEROS..WINDOW_BYTES], 1)
 }
 
 // The date in the four bytes from byte a on.

@@ -12,10 +12,11 @@ use Rattle.bounded.proofs.Index.{index-within}
 use Rattle.calendar.specs.Dates.{real}
 use Rattle.calendar.specs.declared.Date.{Date}
 use Rattle.definitions.specs.Windows.{windows, windowAt, faulty, clashing, firstWith, seasonRows}
+use Rattle.definitions.specs.Seasons.{IsWindow}
 use Rattle.definitions.proofs.Refusals.{_&_, equal, unequal, answered, answered-not, not-true, turned-true}
-use Rattle.windows.proofs.EndDays.{IsSound, meet-two, first-with}
+use Rattle.windows.proofs.EndDays.{meet-two, first-with}
 use Rattle.definitions.proofs.Windows.{season-at, no-season}
-use Rattle.windows.proofs.Searched.{all-sound, nowhere, somewhere, season-found}
+use Rattle.windows.proofs.Searched.{all-windows, nowhere, somewhere, season-found}
 use Rattle.windows.proofs.find.Statement.{statement}
 use Rattle.windows.proofs.find.Tie as tie
 
@@ -26,8 +27,8 @@ file s = s .before .before .before .before .before .args .file .now
 clear : (s : tie.Else3) → any (windows (file s)) (λ k. faulty (windowAt (file s) k)) ≡ false
 clear s = answered (s .before .is-any-faulty .ensures) (s .if3 .left)
 
-sound : (s : tie.Else3) (k : ℕ) → k < windows (file s) → IsSound (windowAt (file s) k)
-sound s = all-sound (file s) (windows (file s)) (clear s)
+sound : (s : tie.Else3) (k : ℕ) → k < windows (file s) → IsWindow (windowAt (file s) k)
+sound s = all-windows (file s) (windows (file s)) (clear s)
 
 -- whether two windows clash
 abbrev keyed : tie.After-is-clashing → tie.Else3

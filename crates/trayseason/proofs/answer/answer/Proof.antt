@@ -8,7 +8,7 @@ use borrow.Author.Needs.{needs}
 use borrow.Author.Tests.{not-true, not-false}
 use Rattle.definitions.specs.Dated.{dated}
 use Rattle.text.proofs.Put.{put-none}
-use Rattle.windows.proofs.Dated.{dated-length, dated-text, undated-text, room-season}
+use Rattle.definitions.proofs.Dated.{dated-length, dated-text, undated-text, room-season}
 use Rattle.trayseason.proofs.answer.answer.Statement.{statement}
 use Rattle.trayseason.proofs.answer.answer.Tie as tie
 

@@ -1,5 +1,4 @@
 -- `trayseason::answer::answer_date` meets its contract: by the number of the search. Assumes nothing.
-use mathlib.Core.Path.{_≡_}
 use Prim.Native.Nat.{_≤_}
 use native.Mathlib.Omega.{arith}
 use lib.ListN.{length}
@@ -7,7 +6,7 @@ use borrow.Author.Needs.{needs}
 use Rattle.definitions.specs.Printed.{decimal}
 use Rattle.definitions.proofs.Printed.{decimal-length}
 use Rattle.text.proofs.Put.{put-then, put-length}
-use Rattle.windows.proofs.Dated.{print-season, print-refused}
+use Rattle.definitions.proofs.Dated.{print-season, print-refused}
 use Rattle.trayseason.proofs.answer.answer_date.Statement.{statement}
 use Rattle.trayseason.proofs.answer.answer_date.Tie as tie
 

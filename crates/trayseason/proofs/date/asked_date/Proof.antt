@@ -1,6 +1,6 @@
 -- `trayseason::date::asked_date` meets its contract: two digits at a time. Assumes nothing.
 use borrow.Author.Needs.{needs}
-use Rattle.windows.proofs.Dated.{asked-by}
+use Rattle.definitions.proofs.Dated.{asked-by}
 use Rattle.trayseason.proofs.date.asked_date.Statement.{statement}
 use Rattle.trayseason.proofs.date.asked_date.Tie as tie
 

@@ -1,6 +1,6 @@
 -- `trayseason::date::is_dated` meets its contract: by its length, or by its digits and hyphens. Assumes nothing.
 use borrow.Author.Needs.{needs}
-use Rattle.windows.proofs.Dated.{undated, dated-by}
+use Rattle.definitions.proofs.Dated.{undated, dated-by}
 use Rattle.trayseason.proofs.date.is_dated.Statement.{statement}
 use Rattle.trayseason.proofs.date.is_dated.Tie as tie
 

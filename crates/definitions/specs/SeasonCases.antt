@@ -4,15 +4,16 @@
 --   file asked t ⟹ (n, y)        the call gives the number n and the season y
 --   asks, given                  the file and the date of a row, and what it says is given
 --   effect                       what the definitions say is given
+--   belt                         a file of two windows, which is also that of the program's cases
 --   seasonCases                  the rows
 --
--- What this file is for: the definitions of windows are held to these rows, all at once (proofs/Cases.antt).
+-- What this file is for: the definitions of windows are held to these rows, all at once (proofs/SeasonCases.antt).
 use mathlib.Core.List.{List, [], _∷_, _++_}
 use Prim.Native.Nat.{ℕ, zero, suc, _+_, _*_, _/_, _%_}
 use lib.ListN.{drop, set}
 use Rattle.calendar.specs.Calendar.{date}
 use Rattle.calendar.specs.declared.Date.{Date}
 use Rattle.definitions.specs.Windows.{seasonNumber, seasonFound}
 
 infix 20 _asked_⟹_
 pub data Case : Type 0 where

@@ -1,6 +1,6 @@
 -- What `trayseason` prints.
 --
---   date-taken                   an argument in the form of a date is taken for the numbers that it shows
+--   date-taken                   an argument that shows a date, and no other, is taken for its numbers
 --   undated, dated-length        an argument of another length than ten has not that form
 --   dated-text, undated-text     what is printed for an argument that has it, and for another
 --   dated-by, asked-by           an argument by its digits, two at a time
@@ -11,38 +11,100 @@
 -- What this file is for: the program's answer, by that of the call. Assumes nothing.
 use mathlib.Core.Path.{_≡_, refl, sym, ap₂, _∙_}
 use mathlib.Core.Logic.{_≢_}
-use mathlib.Core.Bool.{Bool, true, false, cond, _&&_}
-use mathlib.Core.List.{List, [], _∷_, _++_, map}
-use Prim.Native.Nat.{ℕ, _+_, _*_, _-_, _%_, _<_}
+use mathlib.Core.Bool.{Bool, true, false, _&&_}
+use mathlib.Core.List.{List, [], _∷_}
+use Prim.Native.Nat.{ℕ, zero, suc, _+_, _*_, _-_, _%_, _<_}
 use native.Mathlib.Omega.{arith}
 use native.Mathlib.Decide.{ℕ-discrete}
-use lib.Dec.{eqb}
+use lib.Dec.{eqb, leb, lit<}
 use lib.ListN.{length, take}
-use borrow.Author.Tests.{le-leb, lt-ltb, eq-eqb, ne-eqb, eqb-true}
-use Rattle.bounded.specs.Bounded.{at}
+use borrow.Author.Tests.{le-leb, lt-ltb, eq-eqb, ne-eqb, eqb-true, leb-true}
+use Rattle.bounded.specs.Bounded.{at, tab}
+use Rattle.bounded.proofs.Tab.{tab-is}
 use Rattle.bounded.proofs.Parts.{both, each-true}
 use Rattle.calendar.specs.Calendar.{date}
 use Rattle.calendar.specs.declared.Date.{Date}
 use Rattle.calendar.proofs.Order.{same-date}
 use Rattle.definitions.specs.Room.{HoldsFirst}
 use Rattle.definitions.specs.Printed.{digit, minus, refusedLine}
 use Rattle.definitions.specs.Windows.{windows, seasonRows, seasonNumber, seasonFound}
-use Rattle.definitions.specs.Dated.{isDigit, dated, askedDate, seasonLine, dateText, seasonText}
-use Rattle.definitions.specs.Seasons.{shown, DateTaken, SeasonPrinted}
+use Rattle.definitions.specs.Dated.{isDigit, digitsFrom, dated, askedDate, seasonLine, dateText, seasonText}
+use Rattle.definitions.specs.Seasons.{shown, Digits, DateTaken, SeasonPrinted}
 use Rattle.definitions.proofs.Room.{room-decides}
 use Rattle.definitions.proofs.Windows.{season-at}
 use Rattle.definitions.proofs.Refusals.{_&_, equal, unequal, otherwise}
 
 digit-is : (a : ℕ) → a < 10 → isDigit (48 + a) ≡ true
 digit-is a l = each-true (le-leb 48 (48 + a) (omega arith)) (le-leb (48 + a) 57 (omega arith))
 
+-- a byte that is a digit
+digit-of : (b : ℕ) → isDigit b ≡ true → (b ≡ 48 + (b - 48)) × (b - 48 < 10)
+digit-of b e =
+    let (l, m) = both (leb 48 b) (leb b 57) e in
+    let h = leb-true 48 b l in
+    (omega (arith, h), omega (arith, h, leb-true b 57 m))
+
+abbrev Each : List ℕ → Type 0
+Each [] = Unit
+Each (a ∷ l) = (a < 10) × Each l
+
+each-digit : (l : List ℕ) → Each l → Digits (at l)
+each-digit [] h i = omega arith
+each-digit (a ∷ l) h zero = h .0
+each-digit (a ∷ l) h (suc i) = each-digit l (h .1) i
+
+-- n bytes that are digits
+digit-from : (w : List ℕ) (a n : ℕ) → digitsFrom w a n ≡ true → (i : ℕ) → i < n → isDigit (at w (a + i)) ≡ true
+digit-from w a zero e i l = absurd (omega arith)
+digit-from w a (suc n) e i l =
+    let (before, last) = both (digitsFrom w a n) _ e in
+    elim (ℕ-discrete i n) [ yes h ↦ rw h last | no h ↦ digit-from w a n before i (omega arith) ]
+
+-- the eight digits of ten bytes
+abbrev value : (w : List ℕ) (i : ℕ) → ℕ
+value w i = at w i - 48
+
+abbrev eight : List ℕ → List ℕ
+eight w = value w 0 ∷ value w 1 ∷ value w 2 ∷ value w 3 ∷ value w 5 ∷ value w 6 ∷ value w 8 ∷ value w 9 ∷ []
+
+-- bytes one by one
+infixr 3 _then_
+_then_ : {a b : ℕ} {l m : List ℕ} → a ≡ b → l ≡ m → (a ∷ l) ≡ (b ∷ m)
+e then h = ap₂ _∷_ e h
+
+only-shown : (w : List ℕ) → dated w ≡ true → (d : ℕ → ℕ) × Digits d × (w ≡ shown d)
+unfolding dated tab
+only-shown w e =
+    let (l, parts) = both (eqb (length w) 10) _ e in
+    let (year, rest) = both (digitsFrom w 0 4) _ parts in
+    let (month, day) = both (eqb (at w 4) minus && digitsFrom w 5 2) _ rest in
+    let (hyphen, months) = both (eqb (at w 4) minus) _ month in
+    let (hyphen′, days) = both (eqb (at w 7) minus) _ day in
+    let a = digit-of (at w 0) (digit-from w 0 4 year 0 (lit< tt)) in
+    let b = digit-of (at w 1) (digit-from w 0 4 year 1 (lit< tt)) in
+    let c = digit-of (at w 2) (digit-from w 0 4 year 2 (lit< tt)) in
+    let d = digit-of (at w 3) (digit-from w 0 4 year 3 (lit< tt)) in
+    let f = digit-of (at w 5) (digit-from w 5 2 months 0 (lit< tt)) in
+    let g = digit-of (at w 6) (digit-from w 5 2 months 1 (lit< tt)) in
+    let h = digit-of (at w 8) (digit-from w 8 2 days 0 (lit< tt)) in
+    let i = digit-of (at w 9) (digit-from w 8 2 days 1 (lit< tt)) in
+    let m = eqb-true (at w 4) 45 hyphen in
+    let n = eqb-true (at w 7) 45 hyphen′ in (
+      at (eight w),
+      each-digit (eight w) (a .1, (b .1, (c .1, (d .1, (f .1, (g .1, (h .1, (i .1, tt)))))))),
+      tab-is 10 (at w) w (eqb-true (length w) 10 l) (λ _ _. refl)
+          ∙ (a .0 then b .0 then c .0 then d .0 then m then f .0 then g .0 then n then h .0 then i .0 then refl),
+    )
+
 pub date-taken : DateTaken
 unfolding dated askedDate
 date-taken = record {
-  form = λ a b c d e f g h i j k l m n o p. each-true
-      (each-true (each-true (each-true (digit-is a i) (digit-is b j)) (digit-is c k)) (digit-is d l))
-      (each-true (each-true (digit-is e m) (digit-is f n)) (each-true (digit-is g o) (digit-is h p)));
-  numbers = λ a b c d e f g h. same-date (omega arith) (omega arith) (omega arith);
+  form = λ d h.
+      let k : (i : ℕ) → isDigit (48 + d i) ≡ true = λ i. digit-is (d i) (h i) in
+      each-true (each-true (each-true (each-true (k 0) (k 1)) (k 2)) (k 3))
+      (each-true (each-true (k 4) (k 5)) (each-true (k 6) (k 7)));
+  only = only-shown;
+  numbers = λ d. same-date (omega arith) (omega arith) (omega arith);
 }
 
 -- an argument by its parts, two digits at a time
