@@ -9,18 +9,19 @@
 --   following-cases    the day after, at the ends of months and years
 --
 -- What this file is for: that the definitions of dates are those of the Gregorian calendar. Assumes nothing.
-use mathlib.Core.Path.{_≡_, refl, sym, ap, _∙_}
-use mathlib.Core.Bool.{Bool, true, false, cond, _&&_}
+use mathlib.Core.Path.{_≡_, refl, sym, ap, ap₂, _∙_}
+use mathlib.Core.Bool.{Bool, true, false, not, cond, _&&_, _||_}
 use mathlib.Core.List.{List, [], _∷_, _++_, map}
 use mathlib.Core.Logic.{_≢_, _↔_, _⊎_, inl, inr}
 use Prim.Native.Nat.{ℕ, _+_, _*_, _%_, _≤_, _<_}
 use native.Mathlib.Omega.{arith}
 use native.Mathlib.Decide.{decLt}
-use lib.Dec.{ltb, leb}
+use lib.Dec.{eqb, ltb, leb}
 use lib.ListN.{replicate}
 use borrow.Author.Tests.{lt-ltb, le-ltb, eq-eqb, ne-eqb}
 use Rattle.bounded.specs.Bounded.{at, sum}
 use Rattle.bounded.proofs.Sum.{sum-eq}
+use Rattle.bounded.proofs.Parts.{each-true, both-false, nor}
 use Rattle.calendar.specs.Dates.{leap, months, daysIn, real, earlier, key}
 use Rattle.calendar.specs.Calendar.{date, IsReal, daysOf, YearDays, firstDate, lastDate, following, InOrder, IsNext}
 use Rattle.calendar.specs.declared.Date.{Date}
@@ -39,21 +40,40 @@ counted-by y from to = sum-eq 13 (λ m _. sum-eq 32 λ d _. ap (λ b. cond b 1 0
     counts true = refl
     counts false = refl
 
-pub year-days : (y : ℕ) → 1900 ≤ y → y ≤ 2199 → YearDays y
-year-days y from to = record {
-  common = λ n. days ∙ rw (ne-eqb (y % 4) 0 n);
-  fourth = λ e n. days ∙ rw (eq-eqb (y % 4) 0 e, ne-eqb (y % 100) 0 n);
-  hundredth = λ e n.
-      let f : y % 4 ≡ 0 = omega arith in
-      days ∙ rw (eq-eqb (y % 4) 0 f, eq-eqb (y % 100) 0 e, ne-eqb (y % 400) 0 n);
-  fourHundredth = λ e.
+-- which years are leap years
+first-false : (a b : Bool) → a ≡ false → (a && b) ≡ false
+first-false a b e = rw e
+
+first-true : (a b : Bool) → a ≡ true → (a || b) ≡ true
+first-true a b e = rw e
+
+module _ (y : ℕ) where
+  leap-none : y % 4 ≢ 0 → leap y ≡ false
+  leap-none n = first-false (eqb (y % 4) 0) _ (ne-eqb (y % 4) 0 n)
+
+  leap-fourth : y % 4 ≡ 0 → y % 100 ≢ 0 → leap y ≡ true
+  leap-fourth e n = each-true (eq-eqb (y % 4) 0 e) (first-true (not (eqb (y % 100) 0)) _ (ap not (ne-eqb (y % 100) 0 n)))
+
+  leap-hundredth : y % 100 ≡ 0 → y % 400 ≢ 0 → leap y ≡ false
+  leap-hundredth e n =
+      both-false (eqb (y % 4) 0) _ λ _. nor (ap not (eq-eqb (y % 100) 0 e)) (ne-eqb (y % 400) 0 n)
+
+  leap-four-hundredth : y % 400 ≡ 0 → leap y ≡ true
+  leap-four-hundredth e =
       let f : y % 4 ≡ 0 = omega arith in
       let h : y % 100 ≡ 0 = omega arith in
-      days ∙ rw (eq-eqb (y % 4) 0 f, eq-eqb (y % 100) 0 h, eq-eqb (y % 400) 0 e);
+      each-true (eq-eqb (y % 4) 0 f) (ap₂ (λ a b. not a || b) (eq-eqb (y % 100) 0 h) (eq-eqb (y % 400) 0 e))
+
+pub year-days : (y : ℕ) → 1900 ≤ y → y ≤ 2199 → YearDays y
+year-days y from to = record {
+  common = λ n. days (leap-none y n);
+  fourth = λ e n. days (leap-fourth y e n);
+  hundredth = λ e n. days (leap-hundredth y e n);
+  fourHundredth = λ e. days (leap-four-hundredth y e);
 }
   where
-    days : daysOf y ≡ cond (leap y) 366 365
-    days = counted-by y from to
+    days : {b : Bool} → leap y ≡ b → daysOf y ≡ cond b 366 365
+    days e = counted-by y from to ∙ ap (λ b. cond b 366 365) e
 
 pub real-exactly : (t : Date) → (real t ≡ true) ↔ IsReal t
 real-exactly t = (is-real t, λ r. real-is t (r .from) (r .to) (r .first) (r .last))
