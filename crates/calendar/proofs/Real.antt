@@ -1,7 +1,7 @@
 -- What is known of a real date.
 --
 --   month-some     every month has a day
---   long-month     a month that is no February, April, June, September or November has 31 days
+--   other-month    a month that is no February has 30 days or 31
 --   is-real        its year, month and day are within their bounds
 --   unreal         a date of which they are not is none
 --   real-day       in a year of the calendar the day decides
@@ -9,7 +9,7 @@
 --
 -- What this file is for: the test of a date, part by part, as the code makes it, and as numbers. Assumes nothing.
 use mathlib.Core.Path.{_≡_, refl, sym, ap, _∙_}
-use mathlib.Core.Bool.{Bool, true, false, not, _&&_, _||_}
+use mathlib.Core.Bool.{Bool, true, false, not, cond, _&&_}
 use mathlib.Core.List.{_∷_}
 use mathlib.Core.Logic.{_≢_}
 use Prim.Native.Nat.{ℕ, _≤_, _<_}
@@ -20,8 +20,8 @@ use lib.ListN.{List·getD-eq-default}
 use borrow.Author.Tests.{leb-true, le-leb, ltb-false, eqb-true, ne-eqb, not-false}
 use Rattle.bounded.specs.Bounded.{at, any}
 use Rattle.bounded.proofs.Any.{any-none}
-use Rattle.bounded.proofs.Parts.{both, each-true, not-both, nor}
-use Rattle.calendar.specs.Dates.{leap, months, daysIn, real}
+use Rattle.bounded.proofs.Parts.{both, each-true, not-both}
+use Rattle.calendar.specs.Dates.{leap, months, short, daysIn, real}
 use Rattle.calendar.specs.Calendar.{IsReal}
 use Rattle.calendar.specs.declared.Date.{Date}
 
@@ -55,20 +55,11 @@ unfolding any
 month-some y m l h = leb-true _ _ (not-false _ (not-both _ _
     (tried (λ b i. leb 1 i && not (leb 1 (days b i))) refl refl (leap y) m (omega arith)) (le-leb 1 m l)))
 
--- no month, or one of 30 days or fewer
-abbrev short : ℕ → Bool
-short m = eqb m 0 || (eqb m 2 || (eqb m 4 || (eqb m 6 || (eqb m 9 || eqb m 11))))
-
-pub long-month : (y m : ℕ) → 1 ≤ m → m ≤ 12 → m ≢ 2 → m ≢ 4 → m ≢ 6 → m ≢ 9 → m ≢ 11 → 31 ≡ daysIn y m
+pub other-month : (y m : ℕ) → 1 ≤ m → m ≤ 12 → m ≢ 2 → daysIn y m ≡ cond (short m) 30 31
 unfolding any
-long-month y m l h a b c d e =
-    sym (eqb-true _ _ (not-false _ (not-both _ _ (tried (λ b i. not (short i) && not (eqb (days b i) 31)) refl refl (leap y) m
-    (omega arith))
-    (turned (nor (ne-eqb m 0 (λ z. omega arith)) (nor (ne-eqb m 2 a) (nor (ne-eqb m 4 b) (nor (ne-eqb m 6 c)
-    (nor (ne-eqb m 9 d) (ne-eqb m 11 e))))))))))
-  where
-    turned : {t : Bool} → t ≡ false → not t ≡ true
-    turned e = rw e
+other-month y m l h n = eqb-true _ _ (not-false _ (not-both _ _
+    (tried (λ b i. (leb 1 i && not (eqb i 2)) && not (eqb (days b i) (cond (short i) 30 31))) refl refl (leap y) m (omega arith))
+    (each-true (le-leb 1 m l) (ap not (ne-eqb m 2 n)))))
 
 pub is-real : (t : Date) → real t ≡ true → IsReal t
 unfolding real

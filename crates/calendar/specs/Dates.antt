@@ -3,6 +3,7 @@
 --
 --   leap y             the year has a 29 February: 4 divides it, and 400 does where 100 does
 --   months b           how many days the months have, from January to December, in a leap year or in another
+--   short m            one of the months of 30 days
 --   daysIn y m         how many days month m of the year has: none, where there is no such month
 --   real t             the date is one of the calendar, and its year is 1900 to 2199
 --   earlier t u        by year; in one year by month; in one month by day
@@ -22,6 +23,10 @@ leap y = eqb (y % 4) 0 && (not (eqb (y % 100) 0) || eqb (y % 400) 0)
 
 abbrev pub months : Bool → List ℕ
 months b = 31 ∷ cond b 29 28 ∷ 31 ∷ 30 ∷ 31 ∷ 30 ∷ 31 ∷ 31 ∷ 30 ∷ 31 ∷ 30 ∷ 31 ∷ []
+
+-- April, June, September, November
+abbrev pub short : ℕ → Bool
+short m = eqb m 4 || (eqb m 6 || (eqb m 9 || eqb m 11))
 
 abbrev pub daysIn : (y m : ℕ) → ℕ
 daysIn y m = at (0 ∷ months (leap y)) m

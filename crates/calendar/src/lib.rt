@@ -2,7 +2,7 @@
 ghost use mathlib.Core.Path.{_≡_};
 ghost use mathlib.Core.Bool.{true};
 ghost use Prim.Native.Nat.{_≤_};
-ghost use Rattle.calendar.specs.Dates.{leap, daysIn, real, key as keyOf};
+ghost use Rattle.calendar.specs.Dates.{leap, short, daysIn, real, key as keyOf};
 
 // Any three numbers; they need be no date.
 pub struct Date {
@@ -35,14 +35,20 @@ fn days_in(year: u32, month: u32) -> u32
     requires { ⌜ (1 ≤ month) × (month ≤ 12) ⌝ }
     ensures { λ r. ⌜ r ≡ daysIn year month ⌝ }
 {
-    match month {
-        2 => february(year),
-        4 => 30,
-        6 => 30,
-        9 => 30,
-        11 => 30,
-        _ => 31,
+    if month == 2 {
+        return february(year);
     }
+    if is_short(month) {
+        return 30;
+    }
+    31
+}
+
+// Whether the month is April, June, September or November. All four are asked for at once: a jump by month can't be foreseen.
+fn is_short(month: u32) -> bool
+    ensures { λ r. ⌜ r ≡ short month ⌝ }
+{
+    (month == 4) | ((month == 6) | ((month == 9) | (month == 11)))
 }
 
 // How many days February has.
