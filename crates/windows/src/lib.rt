@@ -43,8 +43,10 @@ pub fn find(file: &[u8], date: Date, season: &mut u16) -> u32
     if is_any_faulty(file, n) {
         return 14;
     }
-    let first = keys(file, FIRST, n);
-    let last = keys(file, LAST, n);
+    let mut first = [0u32; 64];
+    fill_keys(file, FIRST, n, &mut first);
+    let mut last = [0u32; 64];
+    fill_keys(file, LAST, n, &mut last);
     if is_clashing(&first, &last, n) {
         return 15;
     }
@@ -112,17 +114,16 @@ fn date_of(high: u8, low: u8, month: u8, day: u8) -> Date
     }
 }
 
-// The keys of the dates from byte a on of n windows without fault.
-fn keys(file: &[u8], a: usize, n: usize) -> [u32; 64]
-    requires { ⌜ (n * 12 ≤ length (now file)) × (n ≤ 64) × (a + 3 < 12) × AllReal (now file) a n ⌝ }
-    ensures { λ r. ⌜ Upto 64 0 (KeyAt (now (file .entry)) a) r n ⌝ }
+// Puts the keys of the dates from byte a on, of n windows without fault, into an array for 64. It is filled where it stands: to
+// hand it back would copy it.
+fn fill_keys(file: &[u8], a: usize, n: usize, out: &mut [u32])
+    requires { ⌜ (n * 12 ≤ length (now file)) × (n ≤ 64) × (a + 3 < 12) × AllReal (now file) a n × (length (now out) ≡ 64) ⌝ }
+    ensures { λ _. ⌜ Upto 64 0 (KeyAt (now (file .entry)) a) (now (out .exit)) n ⌝ }
 {
-    let mut out = [0u32; 64];
     for k in 0..n {
         let at = k * WINDOW_BYTES;
         out[k] = key(date_at(&file[at..at + WINDOW_BYTES], a));
     }
-    out
 }
 
 // Whether two of n windows, by the keys of their first and last days, meet.

@@ -32,13 +32,15 @@ sound s = all-windows (file s) (windows (file s)) (clear s)
 
 -- whether two windows clash
 abbrev keyed : tie.After-is-clashing → tie.Else3
-keyed c = c .before .before .before .before .before
+keyed c = c .before .before .before .before .before .before .before .before .before
 
 clashes : (c : tie.After-is-clashing) → c .is-clashing .result ≡ clashing (file (keyed c))
 clashes c =
-    let last = c .before .before .before in
+    let last = c .before .before .before .before in
+    let first = last .before .before .before in
     c .is-clashing .ensures
-    ∙ meet-two (file (keyed c)) (windows (file (keyed c))) (sound (keyed c)) (last .before .keys .ensures) (last .keys2 .ensures)
+    ∙ meet-two (file (keyed c)) (windows (file (keyed c))) (sound (keyed c)) (first .fill-keys .ensures)
+    (last .fill-keys2 .ensures)
 
 apart : (o : tie.Else4) → clashing (file (keyed (o .before))) ≡ false
 apart o = answered (clashes (o .before)) (o .if4 .left)
@@ -56,10 +58,11 @@ searched c = keyed (c .before .before .before .before .before .before .before)
 found : (c : tie.After-place) → c .place .result ≡ firstWith (file (searched c)) (asked (c .before .before .before .before))
 found c =
     let r = c .before .before .before .before in
-    let last = r .before .before .before .before .before .before in
+    let last = r .before .before .before .before .before .before .before in
+    let first = last .before .before .before in
     rw (c .before .key .ensures) at (c .place .ensures)
-    ∙ first-with (file (searched c)) (windows (file (searched c))) (sound (searched c)) (last .before .keys .ensures)
-    (last .keys2 .ensures) (asked r) (is-asked r)
+    ∙ first-with (file (searched c)) (windows (file (searched c))) (sound (searched c)) (first .fill-keys .ensures)
+    (last .fill-keys2 .ensures) (asked r) (is-asked r)
 
 -- it is one of the file's
 within : (c : tie.Else6) → c .before .place .result < windows (file (searched (c .before)))
@@ -136,8 +139,10 @@ find-spec = tie.close (tie.spec
     returns-2
     (λ c κs. search needs)
     returns-3
-    (λ c κs. (omega arith, omega arith, lit< tt, λ k l. sound c k l .first))
-    (λ c κs. (omega arith, omega arith, lit< tt, λ k l. sound (c .before) k l .last))
+    (λ c. search needs)
+    (λ c κs. (omega arith, omega arith, lit< tt, (λ k l. sound (c .before) k l .first), search needs))
+    (λ c. search needs)
+    (λ c κs. (omega arith, omega arith, lit< tt, (λ k l. sound (c .before .before .before .before) k l .last), search needs))
     (λ c. search needs) (λ c. search needs) (λ c κs. search needs)
     returns-4
     (λ c κs. search needs)
