@@ -105,7 +105,7 @@ wrong-programs:
 	tools/wrong-programs > target/WRONG-PROGRAMS.md
 	cp target/WRONG-PROGRAMS.md docs/WRONG-PROGRAMS.md
 
-## make test            15 to 20 min  the same        THE GATE: `quick`, every proof from nothing, every wrong program, which
+## make test            20 to 25 min  the same        THE GATE: `quick`, every proof from nothing, every wrong program, which
 ##                                                    must be refused, and `tests`; its last line is 'N passed, 0 failed'
 # `rt ci` removes target/ first, so .verdict stands beside it.
 # Four proofs at a time, also on two processors: rt waits for the whole batch before it begins the next.
