@@ -5,10 +5,13 @@
 --   index-within   it is below the bound where any number there passes
 --   index-is       a number that passes, none before it doing so, is the first
 --   index-none     it is the bound where none passes
+--   index-end, index-some
+--                  none passes where it is the bound; and some does where it is not
 --   index-eq       tests that answer the same
 --
 -- What this file is for: a loop that stops at the first true answer has found the definition's place. Assumes nothing.
 use mathlib.Core.Path.{_≡_, refl, sym, ap, ap₂, _∙_}
+use mathlib.Core.Logic.{_≢_}
 use mathlib.Core.Bool.{Bool, true, false, cond, false≢true}
 use Prim.Native.Nat.{ℕ, zero, suc, _<_}
 use native.Mathlib.Omega.{arith}
@@ -59,6 +62,20 @@ index-none zero f e = refl
 index-none (suc n) f e =
     let rest = none-any n (λ i. f (suc i)) λ i l. any-none (suc n) f e (suc i) (omega arith) in
     rw (any-none (suc n) f e 0 (omega arith)) (ap suc (index-none n (λ i. f (suc i)) rest))
+
+pub index-end : (n : ℕ) (f : ℕ → Bool) → index n f ≡ n → any n f ≡ false
+index-end n f e = go (any n f) refl
+  where
+    go : (b : Bool) → any n f ≡ b → any n f ≡ false
+    go true h = absurd (omega (arith, e, index-within n f h))
+    go false h = h
+
+pub index-some : (n : ℕ) (f : ℕ → Bool) → index n f ≢ n → any n f ≡ true
+index-some n f e = go (any n f) refl
+  where
+    go : (b : Bool) → any n f ≡ b → any n f ≡ true
+    go true h = h
+    go false h = absurd (e (index-none n f h))
 
 pub index-eq : (n : ℕ) {f g : ℕ → Bool} → ((i : ℕ) → i < n → f i ≡ g i) → index n f ≡ index n g
 unfolding index

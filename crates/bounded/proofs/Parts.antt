@@ -2,6 +2,7 @@
 --
 --   both, each-true         both parts are true where the whole is; and the other way round
 --   not-both, both-false    a part is false where the whole is and the other part is true; and the other way round
+--   first-false, first-true the first part decides
 --   neither, nor            both parts are false where either would do; and the other way round
 --
 -- What this file is for: what a test of several parts says is said part by part. Assumes nothing.
@@ -22,6 +23,12 @@ not-both false b e h = absurd (true≢false (sym h))
 pub both-false : (a b : Bool) → (a ≡ true → b ≡ false) → a && b ≡ false
 both-false true b h = h refl
 both-false false b h = refl
+
+pub first-false : (a b : Bool) → a ≡ false → a && b ≡ false
+first-false a b e = rw e
+
+pub first-true : (a b : Bool) → a ≡ true → a || b ≡ true
+first-true a b e = rw e
 
 pub neither : (a b : Bool) → a || b ≡ false → (a ≡ false) × (b ≡ false)
 neither true b e = absurd (true≢false e)

@@ -21,7 +21,7 @@ use lib.ListN.{replicate}
 use borrow.Author.Tests.{lt-ltb, le-ltb, eq-eqb, ne-eqb}
 use Rattle.bounded.specs.Bounded.{at, sum}
 use Rattle.bounded.proofs.Sum.{sum-eq}
-use Rattle.bounded.proofs.Parts.{each-true, both-false, nor}
+use Rattle.bounded.proofs.Parts.{each-true, both-false, first-false, first-true, nor}
 use Rattle.calendar.specs.Dates.{leap, months, daysIn, real, earlier, key}
 use Rattle.calendar.specs.Calendar.{date, IsReal, daysOf, YearDays, firstDate, lastDate, following, InOrder, IsNext}
 use Rattle.calendar.specs.declared.Date.{Date}
@@ -41,12 +41,6 @@ counted-by y from to = sum-eq 13 (λ m _. sum-eq 32 λ d _. ap (λ b. cond b 1 0
     counts false = refl
 
 -- which years are leap years
-first-false : (a b : Bool) → a ≡ false → (a && b) ≡ false
-first-false a b e = rw e
-
-first-true : (a b : Bool) → a ≡ true → (a || b) ≡ true
-first-true a b e = rw e
-
 module _ (y : ℕ) where
   leap-none : y % 4 ≢ 0 → leap y ≡ false
   leap-none n = first-false (eqb (y % 4) 0) _ (ne-eqb (y % 4) 0 n)

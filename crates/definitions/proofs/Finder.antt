@@ -1,6 +1,6 @@
 -- Finding a plan in a file.
 --
---   season-at         the season of a part of the file is in its two bytes
+--   season-bytes      the season of a part of the file is in its two bytes
 --   find-at           a search that stops at row i of its refusals has that row's number
 --   find-exactly      which number is given, by the bytes of the file
 --   nowhere           the offset and the bytes of a refusal
@@ -37,8 +37,8 @@ season-from file a n l = ap₂ (λ a b. a * 256 + b) (byte 0 (omega arith)) (byt
     byte : (i : ℕ) → i < n → at (take n (drop a file)) i ≡ at (drop a file) i
     byte i l = getD-take n (drop a file) i 0 l
 
-pub season-at : (file : List ℕ) (a n : ℕ) → 1 < n → season (take n (drop a file)) ≡ pair file a
-season-at file a n l = season-from file a n l ∙ ap₂ (λ a b. a * 256 + b) (byte 0 ∙ ap (at file) (add-zero a)) (byte 1)
+pub season-bytes : (file : List ℕ) (a n : ℕ) → 1 < n → season (take n (drop a file)) ≡ pair file a
+season-bytes file a n l = season-from file a n l ∙ ap₂ (λ a b. a * 256 + b) (byte 0 ∙ ap (at file) (add-zero a)) (byte 1)
   where
     byte : (i : ℕ) → at (drop a file) i ≡ at file (a + i)
     byte i = getD-drop a file i 0

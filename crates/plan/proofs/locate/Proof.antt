@@ -10,7 +10,7 @@ use Rattle.bounded.proofs.Any.{some-any, any-more, any-start}
 use Rattle.definitions.specs.Plan.{season}
 use Rattle.definitions.specs.Finder.{plans, planAt, ofSeason, findRows}
 use Rattle.definitions.proofs.Refusals.{equal, unequal, not-true, turned-true}
-use Rattle.definitions.proofs.Finder.{season-at, find-at, nowhere, offset-found}
+use Rattle.definitions.proofs.Finder.{season-bytes, find-at, nowhere, offset-found}
 use borrow.Author.Needs.{needs}
 use Rattle.plan.proofs.locate.Statement.{statement}
 use Rattle.plan.proofs.locate.Tie as tie
@@ -37,7 +37,7 @@ returns-2 c =
     let k = b .loop .k in
     let l : k < plans file = omega arith in
     let s : season (planAt file k) ≡ b .before .before .before .args .season =
-    season-at file (k * 40) 40 (lit< tt) ∙ sym (c .before .pair .ensures) ∙ c .if2 .taken in
+    season-bytes file (k * 40) 40 (lit< tt) ∙ sym (c .before .pair .ensures) ∙ c .if2 .taken in
     let e = find-at _ _ 2 (equal _ _ (b .before .if1 .left), (not-true (some-any _ _ k l (eq-eqb _ _ s)), tt)) in
     (e, offset-found _ _ k l (b .loop .inv .1) s e)
 
@@ -47,7 +47,7 @@ loop-again c =
     let file = b .before .before .before .args .file .now in (
       search needs,
       any-more _ _ (b .loop .inv .1)
-          (ne-eqb _ _ λ e. c .if2 .left (c .before .pair .ensures ∙ sym (season-at file (b .loop .k * 40) 40 (lit< tt)) ∙ e)),
+          (ne-eqb _ _ λ e. c .if2 .left (c .before .pair .ensures ∙ sym (season-bytes file (b .loop .k * 40) 40 (lit< tt)) ∙ e)),
       b .loop .inv .2,
     )
 

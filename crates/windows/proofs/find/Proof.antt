@@ -8,7 +8,7 @@ use lib.Dec.{lit<}
 use borrow.Author.Needs.{needs}
 use borrow.Author.Tests.{lt-ltb, le-ltb, not-false}
 use Rattle.bounded.specs.Bounded.{any}
-use Rattle.bounded.proofs.Index.{index-within}
+use Rattle.bounded.proofs.Index.{index-within, index-end, index-some}
 use Rattle.calendar.specs.Dates.{real}
 use Rattle.calendar.specs.declared.Date.{Date}
 use Rattle.definitions.specs.Windows.{windows, windowAt, faulty, clashing, firstWith, seasonRows}
@@ -16,7 +16,7 @@ use Rattle.definitions.specs.Seasons.{IsWindow}
 use Rattle.definitions.proofs.Refusals.{_&_, equal, unequal, answered, answered-not, not-true, turned-true}
 use Rattle.windows.proofs.EndDays.{meet-two, first-with}
 use Rattle.definitions.proofs.Windows.{season-at, no-season}
-use Rattle.windows.proofs.Searched.{all-windows, nowhere, somewhere, season-found}
+use Rattle.windows.proofs.Searched.{all-windows, season-found}
 use Rattle.windows.proofs.find.Statement.{statement}
 use Rattle.windows.proofs.find.Tie as tie
 
@@ -66,7 +66,7 @@ found c =
 
 -- it is one of the file's
 within : (c : tie.Else6) → c .before .place .result < windows (file (searched (c .before)))
-within c = rw (found (c .before)) (index-within _ _ (somewhere _ _ λ e. c .if6 .left (found (c .before) ∙ e)))
+within c = rw (found (c .before)) (index-within _ _ (index-some _ _ λ e. c .if6 .left (found (c .before) ∙ e)))
 
 few : (c : tie.Else6) → windows (file (searched (c .before))) ≤ 64
 few c = searched (c .before) .before .before .if2 .left
@@ -118,7 +118,7 @@ returns-6 c =
     let s = keyed (o .before) in
     let few = s .before .before in
     let e = season-at _ _ 5 (equal _ _ (few .before .if1 .left) & le-ltb _ _ (few .if2 .left) & clear s & apart o
-    & not-true (is-asked r) & turned-true (nowhere _ _ (sym (found (c .before)) ∙ c .if6 .taken))) in
+    & not-true (is-asked r) & turned-true (index-end _ _ (sym (found (c .before)) ∙ c .if6 .taken))) in
     (e, sym (no-season _ _ λ z. omega (arith, e, z)))
 
 returns-7 : tie.Need-returns-7
@@ -130,7 +130,7 @@ returns-7 c =
     let s = keyed (o .before) in
     let few = s .before .before in
     let e = season-at _ _ 6 (equal _ _ (few .before .if1 .left) & le-ltb _ _ (few .if2 .left) & clear s & apart o
-    & not-true (is-asked r) & not-true (somewhere _ _ λ e. k .if6 .left (found (k .before) ∙ e)) & tt) in
+    & not-true (is-asked r) & not-true (index-some _ _ λ e. k .if6 .left (found (k .before) ∙ e)) & tt) in
     (e, season-found (file s) (asked r) (found (k .before)) e (c .pair .ensures))
 
 pub find-spec : {M : Type 1} → statement M
