@@ -17,6 +17,8 @@ pub mod Margin
 pub mod Published
 pub mod Finder
 pub mod Accepted
+pub mod Masking
+pub mod Masked
 pub mod Explaining
 pub mod Explained
 pub mod Printed

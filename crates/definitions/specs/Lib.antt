@@ -7,6 +7,7 @@ pub mod Published
 pub mod Search
 pub mod Calls
 pub mod Explaining
+pub mod Masking
 pub mod Finder
 pub mod Windows
 pub mod Room
@@ -21,5 +22,6 @@ pub mod Sound
 pub mod Photograph
 pub mod Reads
 pub mod Demands
+pub mod Masks
 pub mod Seasons
 pub mod Accepted

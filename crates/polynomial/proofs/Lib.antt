@@ -7,6 +7,7 @@ pub mod Distance
 pub mod Lines
 pub mod Far
 pub mod Poly
+pub mod Additive
 pub mod Known
 pub mod Record
 pub mod Points
