@@ -5,7 +5,8 @@
 --   tab-is               a list of n entries f i is the table
 --   tab-eq               tables of the same entries are one
 --   tab-append           a table in two parts
---   tab-more             the next entry written into a list whose front is the table
+--   tab-next             in a list whose front is the table the next entry is still the list's
+--   tab-more             the next entry written into such a list
 --   tab-whole            nothing of the list is left behind n entries
 --
 -- What this file is for: a row is said by its entries, and so is a buffer that is written from the front. Assumes nothing.
@@ -57,7 +58,10 @@ unfolding tab
 tab-append a zero f = rw (add-zero a) (sym (append-nil (tab a f)))
 tab-append a (suc b) f = rw (add-suc a b, tab-append a b f) (append-assoc (tab a f) _ _)
 
--- a table written from the front of the list d: one entry more, and all
+-- a table written from the front of the list d: the entry before it is written, one entry more, and all
+pub tab-next : (n : ℕ) (f : ℕ → ℕ) (d : List ℕ) → n < length d → at (tab n f ++ drop n d) n ≡ at d n
+tab-next n f d h = rw (drop-cons d n 0 h) (getD-at (tab n f) (getD d n 0) (drop (suc n) d) 0 n (length-tab n f))
+
 pub tab-more : (n : ℕ) (f : ℕ → ℕ) (d : List ℕ) → n < length d →
     set (tab n f ++ drop n d) n (f n) ≡ tab (n + 1) f ++ drop (n + 1) d
 unfolding tab

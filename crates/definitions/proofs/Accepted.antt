@@ -4,19 +4,22 @@
 --   accepted-measuring            measuring: a photograph of a sound plan, and a record
 --   accepted-reading              reading: a photograph
 --   accepted-writing              writing: what it asks of its arguments
+--   accepted-masking              masking: the same
 --   accepted-explaining           explaining: a photograph, a record of its plan and room for another
 --   photo-refused, photo-passes   the plan's own number; past the plan, that of the tests of a photograph
 --   write-refused, write-passes   the same of writing
+--   mask-refused, mask-passes     and of masking
 --   measure-refused, measure-at   the photograph's number; that of the test after it
 --   read-refused                  the photograph's number
 --   explain-refused               the plan's own number
 --   explain-short, explain-measured   past the plan, 6 for the buffer, else the number of measuring
 --   explain-six                   so 6 where any length is wrong
 --   writing-accepted              a record of a sound plan is written into a buffer of its length
+--   masking-accepted              and put on symbols of the plan
 --   measuring-accepted            a photograph and a record of its plan are measured
 --   explaining-accepted           and explained, where there is room for another record
 --   plan-first                    a plan that is refused has its own number in every call
---   written-exactly, taken-exactly, explains-exactly
+--   written-exactly, taken-exactly, masks-exactly, explains-exactly
 --                                 under a sound plan, 6 to 9 by what is wrong with the other arguments
 --
 -- What this file is for: the calls test in order, and each case of theirs is one law. Assumes nothing.
@@ -37,10 +40,12 @@ use Rattle.definitions.specs.Cost.{full}
 use Rattle.definitions.specs.Calls.{lengthRow, overflowing, recordRow, photoTests, photoRows}
 use Rattle.definitions.specs.Calls.{writeTests, writeRows, writeNumber, measureRows, measureNumber}
 use Rattle.definitions.specs.Calls.{nearest, missing, readRows, readNumber}
+use Rattle.definitions.specs.Masking.{maskTests, maskRows, maskNumber}
 use Rattle.definitions.specs.Explaining.{explainRows, explainNumber}
 use Rattle.definitions.specs.Photograph.{Photograph}
-use Rattle.definitions.specs.Accepted.{Writing, Expecting}
+use Rattle.definitions.specs.Accepted.{Writing, Masking, Expecting}
 use Rattle.definitions.specs.Demands.{PlanFirst, LengthsFit, WrittenExactly, TakenExactly, ExplainsExactly}
+use Rattle.definitions.specs.Masks.{MaskLengths, MaskExactly}
 use Rattle.definitions.proofs.Refusals.{testAt, first-clear, first-both, Stops, numberAt, first-at, first-refuses}
 use Rattle.definitions.proofs.Refusals.{first-passes, _&_, equal, unequal, holds}
 use Rattle.definitions.proofs.Sound.{sound, checked}
@@ -183,6 +188,51 @@ module _ (C : Code) (P : List ℕ) (e : checkNumber P ≡ 0) where
             (f & g & holds _ λ t. n (eqb-true _ _ (not-false _ f), (eqb-true _ _ (not-false _ g), eqb-true _ _ (not-false _ t))))
             (λ z. omega arith)
 
+module _ (C : Code) (P F s : List ℕ) where
+  abbrev masking : List Refusal
+  masking = maskTests (modulus P) F s (cells C P) (size C P)
+
+  pub mask-refused : (k : ℕ) → k ≡ checkNumber P → (k ≡ 0 → ⊥) → k ≡ maskNumber C P F s
+  unfolding maskNumber maskRows planRows checkNumber
+  mask-refused k e h = first-refuses (planRows P) masking tt k e h
+
+  pub mask-passes : checkNumber P ≡ 0 → first masking ≡ maskNumber C P F s
+  unfolding maskNumber maskRows planRows checkNumber
+  mask-passes = first-passes (planRows P) masking tt
+
+  pub masking-accepted : Masking C P F s → maskNumber C P F s ≡ 0
+  masking-accepted m = sym (mask-passes (checked P (m .sound))) ∙ sym (first-at masking 4
+      (equal _ _ (m .given .size) & equal _ _ (m .whole) & fit-symbols C P s [] (m .symbol)
+      & none-any _ _ (λ i l. lt-leb _ _ (m .given .below i l)) & tt))
+
+  pub accepted-masking : maskNumber C P F s ≡ 0 → Masking C P F s
+  unfolding maskNumber maskRows planRows checkNumber
+  accepted-masking e =
+      let b = first-both (planRows P) masking tt e in
+      let clear = first-clear masking tt (b .1) in
+      record {
+        sound = sound P (b .0);
+        given = record-fits C P F (eqb-true _ _ (not-false _ (clear 0))) (clear 3);
+        whole = eqb-true _ _ (not-false _ (clear 1));
+        symbol = symbols-fit C P s [] (clear 2);
+      }
+
+  pub masks-exactly : checkNumber P ≡ 0 → MaskExactly C P F s
+  masks-exactly e = record {
+    six = λ n. six n (not (eqb (length F) (size C P))) refl;
+    seven = λ (a, b) n. at-row 2 (equal _ _ a & equal _ _ b & holds _ λ t. n (symbols-fit C P s [] t));
+    nine = λ (a, b) y n. at-row 3
+        (equal _ _ a & equal _ _ b & fit-symbols C P s [] y & holds _ λ t. n (record-fits C P F a t));
+    zero = λ (a, b) y r. masking-accepted (record { sound = sound P e; given = r; whole = b; symbol = y });
+  }
+    where
+      at-row : (i : ℕ) → Stops masking i → maskNumber C P F s ≡ numberAt masking i
+      at-row i h = sym (first-at masking i h ∙ mask-passes e)
+
+      six : ¬ (MaskLengths C P F s) → (b : Bool) → not (eqb (length F) (size C P)) ≡ b → maskNumber C P F s ≡ 6
+      six n true t = at-row 0 t
+      six n false t = at-row 1 (t & holds _ λ f. n (eqb-true _ _ (not-false _ t), eqb-true _ _ (not-false _ f)))
+
 module _ (C : Code) (P s u F B : List ℕ) where
   -- the rows of measuring after the plan's, and those of explaining
   abbrev measured : List Refusal
@@ -235,5 +285,6 @@ plan-first P = record {
   write = λ C F B n. sym (write-refused C P F B _ refl n);
   measure = λ C s u F n. sym (measure-refused C P s u F _ (photo-refused C P s u F _ refl n) n);
   read = λ C s u B n. sym (read-refused C P s u B _ (photo-refused C P s u B _ refl n) n);
+  mask = λ C F s n. sym (mask-refused C P F s _ refl n);
   explain = λ C s u F B n. sym (explain-refused C P s u F B _ refl n);
 }

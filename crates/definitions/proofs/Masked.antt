@@ -1,41 +1,39 @@
 -- Reading a masked photograph.
 --
 --   added-photo         what is a photograph stays one when a mark is added to its read cells
---   mask-adds           what masking and unmasking leave, cell by cell
+--   masked-cells           what masking and unmasking leave, cell by cell
 --   value-plus          the values of a record plus another
 --   masked-mark         a mark with another put on it is the mark of the sum of their records
 --   masked-reads        its reading is the former one with the record plus the other
 --
 -- What this file is for: request 9, from the definition of reading alone: what a record costs of a photograph, that record plus Q
 -- costs of the masked one, so the nearest ones are the same up to Q. Assumes nothing.
-use mathlib.Core.Path.{_≡_, refl, sym, ap, ap₂, _∙_}
+use mathlib.Core.Path.{_≡_, refl, sym, ap, _∙_}
 use mathlib.Core.Logic.{_≢_, _⊎_, inl, inr}
 use mathlib.Core.Bool.{Bool, true, false, cond}
 use mathlib.Core.List.{List, [], _∷_}
 use mathlib.Core.Option.{Option, some, none}
-use Prim.Native.Nat.{ℕ, suc, _+_, _*_, _-_, _%_, _≤_, _<_}
+use Prim.Native.Nat.{ℕ, _+_, _*_, _-_, _%_, _≤_, _<_}
 use native.Mathlib.Omega.{arith}
 use native.Mathlib.Decide.{ℕ-discrete}
 use native.Mathlib.Nat.{mod-lt, mod-eq-of-lt}
 use lib.Dec.{eqb}
 use lib.ListN.{length}
-use borrow.Author.Tests.{eqb-true, eqb-false, ne-eqb}
+use borrow.Author.Tests.{ne-eqb}
 use Rattle.bounded.specs.Bounded.{at, tab, sum}
 use Rattle.bounded.proofs.Sum.{sum-eq}
 use Rattle.bounded.proofs.Tab.{length-tab, tab-at, tab-is, tab-eq}
-use Rattle.field.specs.Congruence.{Cong}
-use Rattle.field.proofs.Congruence.{same, ~sym, ~add, _⨾_, mod-cong}
+use Rattle.field.proofs.Congruence.{same, ~sym, mod-cong}
 use Rattle.distance.specs.Cost.{cell, differ}
 use Rattle.distance.proofs.Cost.{cell-full, cell-less}
-use Rattle.polynomial.specs.Layout.{value as valueAt}
 use Rattle.polynomial.specs.Sides.{cellPoint}
 use Rattle.polynomial.proofs.Additive.{value-sum}
 use Rattle.definitions.specs.Refusals.{_when_, first}
 use Rattle.definitions.specs.Plan.{modulus, planRows, degree, side, point}
 use Rattle.definitions.specs.Code.{Code, more, size, cells, value, mark, IsRecord}
-use Rattle.definitions.specs.Cost.{full, radius, unread, changedCell, unreadCell, class, margin}
+use Rattle.definitions.specs.Cost.{full, radius, unread}
 use Rattle.definitions.specs.Calls.{photoRows, costOf, changedOf, unreadOf, readingOf, within, missing, nearest}
-use Rattle.definitions.specs.Calls.{readRows, readNumber, readReading, readBuffer}
+use Rattle.definitions.specs.Calls.{readRows, readNumber}
 use Rattle.definitions.specs.Sound.{Sound}
 use Rattle.definitions.specs.Photograph.{Photograph}
 use Rattle.definitions.specs.Accepted.{Masking}
@@ -50,8 +48,8 @@ use Rattle.definitions.proofs.Written.{mark-length, mark-at}
 use Rattle.definitions.proofs.Photograph.{photo-accepted}
 use Rattle.definitions.proofs.Nearest.{within-cost, without-cost, nearest-says}
 use Rattle.definitions.proofs.Demands.{nearest-one}
-use Rattle.definitions.proofs.Masking.{back, shift-below, shift-back, accepted-masking, masking-accepted, mask-fills}
-use Rattle.definitions.proofs.Masking.{masked-at, masked-fits, masked-back}
+use Rattle.definitions.proofs.Accepted.{accepted-masking, masking-accepted}
+use Rattle.definitions.proofs.Masking.{back, shift-below, shift-back, mask-fills, masked-at, masked-fits, masked-back}
 
 -- what the calls leave, in the words of the statement
 module _ {C : Code} {P Q s : List ℕ} (m : Masking C P Q s) where
@@ -62,8 +60,8 @@ module _ {C : Code} {P Q s : List ℕ} (m : Masking C P Q s) where
     unread = λ c l e. rw (masked-at m on c l, e);
   }
 
-pub mask-adds : (C : Code) (P Q s : List ℕ) → maskNumber C P Q s ≡ 0 → Masked C P Q s
-mask-adds C P Q s e =
+pub masked-cells : (C : Code) (P Q s : List ℕ) → maskNumber C P Q s ≡ 0 → Masked C P Q s
+masked-cells C P Q s e =
     let m = accepted-masking C P Q s e in
     record {
       added = rw (← mask-fills C P Q s on refl e) (cells-added m);
@@ -202,11 +200,11 @@ module _ {P : List ℕ} (S : Sound P) (C : Code) where
       same-changed = sum-eq (cells C P) λ c l. elim (ℕ-discrete (at s c) 255) [
         | yes e ↦ rw (added .unread c l e, e)
         | no n ↦ rw (ne-eqb (at s c) unread n, ne-eqb (at s′ c) unread (λ e. n (was-unread c l e))) (omega (
-            arith,
-            same-cell 1 0 c l n,
-            twice (at s c) (value C P F c),
-            twice (at s′ c) (value C P G c),
-          ))
+          arith,
+          same-cell 1 0 c l n,
+          twice (at s c) (value C P F c),
+          twice (at s′ c) (value C P G c),
+        ))
       ]
 
       same-reading : readingOf C P s′ u G ≡ readingOf C P s u F

@@ -88,6 +88,7 @@ use Rattle.definitions.specs.Calls as calls
 use Rattle.definitions.specs.Calls.{costOf, readingOf, writeRows, writeNumber, writeBuffer}
 use Rattle.definitions.specs.Calls.{measureRows, measureNumber, measureReading}
 use Rattle.definitions.specs.Calls.{readRows, readNumber, readReading, readBuffer}
+use Rattle.definitions.specs.Masking.{Way, maskRows, maskNumber, maskBuffer}
 use Rattle.definitions.specs.Explaining.{explainRows, explainNumber, explainReason, explainBuffer, valuesOf}
 use Rattle.definitions.specs.Finder.{findRows, findNumber, findOffset, findBytes}
 use Rattle.definitions.specs.Photograph.{SymbolsFit, DoubtsFit, Photograph, sure}
@@ -104,6 +105,7 @@ pub record RefusalsKeep : Type 0 where
       measureReading C P s u F ≡ calls.refused (measureNumber C P s u F)
   pub read : (C : Code) (P s u B : List ℕ) → readNumber C P s u B ≢ 0 →
       (readReading C P s u B ≡ calls.refused (readNumber C P s u B)) × (readBuffer C P s u B ≡ B)
+  pub mask : (W : Way) (C : Code) (P F s : List ℕ) → maskNumber C P F s ≢ 0 → maskBuffer W C P F s ≡ s
   pub explain : (C : Code) (P s u F B : List ℕ) → explainNumber C P s u F B ≢ 0 →
       (explainReason C P s u F B ≡ Refused (explainNumber C P s u F B)) × (explainBuffer C P s u F B ≡ B)
   pub find : (file : List ℕ) (y : ℕ) → findNumber file y ≢ 0 → (findOffset file y ≡ 0) × (findBytes file y ≡ [])
@@ -132,6 +134,7 @@ pub record PlanFirst (P : List ℕ) : Type 0 where
   pub write : (C : Code) (F B : List ℕ) → checkNumber P ≢ 0 → writeNumber C P F B ≡ checkNumber P
   pub measure : (C : Code) (s u F : List ℕ) → checkNumber P ≢ 0 → measureNumber C P s u F ≡ checkNumber P
   pub read : (C : Code) (s u B : List ℕ) → checkNumber P ≢ 0 → readNumber C P s u B ≡ checkNumber P
+  pub mask : (C : Code) (F s : List ℕ) → checkNumber P ≢ 0 → maskNumber C P F s ≡ checkNumber P
   pub explain : (C : Code) (s u F B : List ℕ) → checkNumber P ≢ 0 → explainNumber C P s u F B ≡ checkNumber P
 
 abbrev pub LengthsFit : Code → (P s u F : List ℕ) → Type 0
@@ -246,6 +249,7 @@ pub record LowestGiven : Type 0 where
   pub write : (C : Code) (P F B : List ℕ) → Earliest table (writeRows C P F B) (writeNumber C P F B)
   pub measure : (C : Code) (P s u F : List ℕ) → Earliest table (measureRows C P s u F) (measureNumber C P s u F)
   pub read : (C : Code) (P s u B : List ℕ) → Earliest table (readRows C P s u B) (readNumber C P s u B)
+  pub mask : (C : Code) (P F s : List ℕ) → Earliest table (maskRows C P F s) (maskNumber C P F s)
   pub explain : (C : Code) (P s u F B : List ℕ) → Earliest table (explainRows C P s u F B) (explainNumber C P s u F B)
   pub find : (file : List ℕ) (season : ℕ) → Earliest table (findRows file season) (findNumber file season)
   pub widen : (old wide : List ℕ) → Earliest (11 ∷ 6 ∷ []) (widenRows old wide) (widenNumber old wide)

@@ -1,4 +1,4 @@
-// A mark's or a strip's radius, measuring, reading and writing, by `mark`.
+// A mark's or a strip's radius, measuring and reading, by `mark`.
 use definitions::Reading;
 use distance::word;
 use plan::Plan;
@@ -6,11 +6,10 @@ use polynomial::limit;
 ghost use mathlib.Core.Path.{_≡_};
 ghost use mathlib.Core.List.{List};
 ghost use Prim.Native.Nat.{ℕ};
-ghost use Rattle.definitions.specs.Code.{codeOf, IsRecord, mark as markOf};
+ghost use Rattle.definitions.specs.Code.{codeOf, IsRecord};
 ghost use Rattle.definitions.specs.Cost.{radius as radiusOf};
 ghost use Rattle.definitions.specs.Calls.{readingOf};
 ghost use Rattle.definitions.specs.Photograph.{Photograph};
-ghost use Rattle.definitions.specs.Accepted.{Writing};
 ghost use Rattle.definitions.specs.Reads.{Reads};
 ghost use Rattle.plan.specs.Says.{Says, Ready};
 ghost use Rattle.reading.specs.Loading.{Taken};
@@ -51,17 +50,4 @@ pub fn read(mark: bool, plan: Plan, symbols: &[u8], doubts: &[u8], record: &mut 
         return reading::mark::read_mark(plan, symbols, doubts, record);
     }
     reading::strip::read_strip(plan, symbols, doubts, record)
-}
-
-// The mark or the strip of a record.
-pub fn write(mark: bool, plan: Plan, record: &[u8], cells: &mut [u8])
-    requires { ⌜ ((P : List ℕ) × Says P plan × Writing (codeOf mark) P (now «record») (now cells)) ⌝ }
-    ensures { λ _. ⌜ ((P : List ℕ) → Says P plan → Writing (codeOf mark) P (now («record» .entry)) (now (cells .entry)) →
-        now (cells .exit) ≡ markOf (codeOf mark) P (now («record» .entry))) ⌝ }
-{
-    if mark {
-        writing::write_mark(plan, record, cells);
-        return;
-    }
-    writing::write_strip(plan, record, cells);
 }

@@ -1,5 +1,4 @@
 // The lowest place at which the marks of two records differ.
-use crate::kind;
 use plan::Plan;
 ghost use mathlib.Core.Path.{_≡_};
 ghost use mathlib.Core.Bool.{not};
@@ -48,8 +47,8 @@ fn lowest_between(
         Writing (codeOf mark) P (now (other .entry)) (now (found .entry)) →
         r ≡ differingPlace (codeOf mark) P (now («record» .entry)) (now (other .entry))) ⌝ }
 {
-    kind::write(mark, plan, record, expected);
-    kind::write(mark, plan, other, found);
+    writing::write(mark, plan, record, expected);
+    writing::write(mark, plan, other, found);
     first_difference(expected, found)
 }
 

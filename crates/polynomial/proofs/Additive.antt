@@ -6,10 +6,9 @@
 -- What this file is for: the marks of a plan are closed under addition, cell by cell. Assumes nothing.
 use mathlib.Core.Path.{_≡_, refl}
 use mathlib.Core.List.{List}
-use Prim.Native.Nat.{ℕ, zero, suc, _+_, _*_, _-_, _%_, _^_, _<_}
+use Prim.Native.Nat.{ℕ, zero, suc, _+_, _-_, _%_, _^_, _<_}
 use native.Mathlib.Omega.{arith}
 use native.Mathlib.Decide.{ℕ-discrete}
-use native.Mathlib.Numerals.{add-one}
 use Rattle.bounded.specs.Bounded.{at, sum}
 use Rattle.field.specs.Congruence.{Cong}
 use Rattle.field.proofs.Congruence.{same, _⨾_, ~sym, ~add, ~mul-right, to-mod, remainder}
@@ -42,6 +41,6 @@ module _ {q : ℕ} where
       value m (suc q) d H z ≡ (value m (suc q) d F z + value m (suc q) d G z) % suc q
   unfolding value
   value-sum m d F G H z e = to-mod (
-    sums (d + 1) _ _ (λ k l. groups m k _ _ z λ i h. e (start m k + i) (inside (d + 1) (count m) k i l h))
-    ⨾ ~sym (~add (remainder _) (remainder _))
-  )
+      sums (d + 1) _ _ (λ k l. groups m k _ _ z λ i h. e (start m k + i) (inside (d + 1) (count m) k i l h))
+      ⨾ ~sym (~add (remainder _) (remainder _))
+      )

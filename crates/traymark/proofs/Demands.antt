@@ -22,6 +22,9 @@
 --   shared-exactly                       what it means that two windows meet by their end days
 --   real-exactly, year-days, dates-in-order, next-day
 --                                        the calendar
+--   masked-reads                         document 02, request 9: the reading of a masked photograph
+--   masks-exactly, masked-cells           which number masking and unmasking give, and what they leave in each cell
+--   mask-undone, masked-mark            that each undoes the other, and what a masked mark is
 --   groups-fill                          document 02, request 4: where the coefficients of a record stand
 --   tray-parts, tray-refused             what `trayread` takes of its input, and when it refuses it
 --   why-parts, why-refused               the same of `traywhy`
@@ -45,10 +48,12 @@ use Rattle.calendar.specs.Calendar.{IsReal, YearDays, lastDate, following, InOr
 use Rattle.calendar.specs.declared.Date.{Date}
 use Rattle.calendar.proofs.Calendar as calendar
 use Rattle.definitions.specs.Plan.{planBytes, season, rows, columns, degree, planRows, checkNumber}
-use Rattle.definitions.specs.Code.{Code, size, cells, value, mark}
+use Rattle.definitions.specs.Code.{Code, size, cells, value, mark, IsRecord}
 use Rattle.definitions.specs.Cost.{full}
 use Rattle.definitions.specs.Calls.{photoRows, readingOf, writeRows, writeNumber, writeBuffer}
 use Rattle.definitions.specs.Calls.{measureRows, measureNumber, measureReading, readRows, readNumber, readReading, readBuffer}
+use Rattle.definitions.specs.Masking.{on, maskRows, maskNumber, maskBuffer}
+use Rattle.definitions.specs.Masks.{Added, plus, MaskedReads, MaskExactly, Masked, Undone}
 use Rattle.definitions.specs.Explaining.{explainRows, explainNumber, explainReason, explainBuffer, valuesOf}
 use Rattle.definitions.specs.Finder.{findRows, findNumber}
 use Rattle.definitions.specs.Windows.{meet, seasonNumber}
@@ -80,6 +85,8 @@ use Rattle.definitions.proofs.Sound.{sound, checked}
 use Rattle.definitions.proofs.Demands.{nearest-one}
 use Rattle.definitions.proofs.Accepted.{accepted-writing, accepted-measuring, accepted-reading, accepted-explaining}
 use Rattle.definitions.proofs.Accepted.{measuring-accepted}
+use Rattle.definitions.proofs.Masking as masking
+use Rattle.definitions.proofs.Masked as masked
 use Rattle.definitions.proofs.Explained as reasons
 use Rattle.definitions.proofs.Written.{mark-written}
 use Rattle.definitions.proofs.Own.{own-photo, own-reading, own-read}
@@ -130,6 +137,7 @@ demand-1 = record {
   write = λ C P F B n. sym (write-keeps C P F B refl n);
   measure = λ C P s u F n. sym (measure-refuses C P s u F refl n);
   read = read-keeps;
+  mask = λ W C P F s n. sym (masking.mask-keeps C P F s W refl n);
   explain = explain-keeps;
   find = finder.nowhere;
   widen = widening.widen-refused;
@@ -220,13 +228,14 @@ margins-from-30 = margins-in (λ y. 30 ≤ y) 250 full-from lowest-from highest-
 -- The number that a call gives is the first in the table's order of those that apply and concern the call, 13 standing between 3
 -- and 4. In widening 11 comes before 6.
 pub lowest-given : LowestGiven
-unfolding checkNumber writeNumber measureNumber readNumber explainNumber findNumber widenNumber
-    planRows photoRows writeRows measureRows readRows explainRows findRows widenRows index
+unfolding checkNumber writeNumber measureNumber readNumber maskNumber explainNumber findNumber widenNumber
+    planRows photoRows writeRows measureRows readRows maskRows explainRows findRows widenRows index
 lowest-given = record {
   check = λ P. first-earliest table (planRows P) tt refl;
   write = λ C P F B. first-earliest table (writeRows C P F B) tt refl;
   measure = λ C P s u F. first-earliest table (measureRows C P s u F) tt refl;
   read = λ C P s u B. first-earliest table (readRows C P s u B) tt refl;
+  mask = λ C P F s. first-earliest table (maskRows C P F s) tt refl;
   explain = λ C P s u F B. first-earliest table (explainRows C P s u F B) tt refl;
   find = λ file y. first-earliest table (findRows file y) tt refl;
   widen = λ old wide. first-earliest (11 ∷ 6 ∷ []) (widenRows old wide) tt refl;
@@ -314,6 +323,33 @@ dates-in-order = calendar.in-order
 -- Every real date but the last has a next one: it is later, and no real date lies between.
 pub next-day : (t : Date) → real t ≡ true → t ≢ lastDate → IsNext t (following t)
 next-day = calendar.next-day
+
+-- Request 9. For every sound plan and every photograph s, u in buffers of the right lengths, whatever the points, symbols and
+-- doubts, and every record Q: if the mark of Q is added modulo p to all read cells, doubts and unread cells unchanged, which gives
+-- s′, the reading is the former record plus Q, coefficient by coefficient modulo p, with the same cost, margin, changed and unread
+-- count and class; 10 stays 10; and no other number can arise.
+pub masked-reads : (C : Code) (P Q s s′ u B B′ : List ℕ) → Photograph C P s u → IsRecord C P Q → Added C P Q s s′ →
+    length B ≡ size C P → length B′ ≡ size C P → MaskedReads C P Q s s′ u B B′
+masked-reads C P Q s s′ u B B′ photo given added = masked.masked-reads (photo .sound) C photo given added B B′
+
+-- Under a sound plan masking and unmasking give 6 where a length is wrong, else 7 where a symbol is, else 9 where Q is no record,
+-- else 0.
+pub masks-exactly : (C : Code) (P Q s : List ℕ) → Sound P → MaskExactly C P Q s
+masks-exactly C P Q s S = accepted.masks-exactly C P Q s (checked P S)
+
+-- An accepted masking leaves the symbols with the mark of Q added, and an accepted unmasking those to which it has to be added
+-- for the symbols that were there.
+pub masked-cells : (C : Code) (P Q s : List ℕ) → maskNumber C P Q s ≡ 0 → Masked C P Q s
+masked-cells = masked.masked-cells
+
+-- Unmasking what was masked gives the bytes back, and so does masking what was unmasked, whatever the bytes are.
+pub mask-undone : (C : Code) (P Q s : List ℕ) → Undone C P Q s
+mask-undone = masking.mask-undone
+
+-- The mark of F with the mark of Q put on it is the mark of F plus Q.
+pub masked-mark : (C : Code) (P F Q : List ℕ) → Sound P → IsRecord C P Q →
+    maskBuffer on C P Q (mark C P F) ≡ mark C P (plus C P F Q)
+masked-mark C P F Q S = masked.masked-mark S C F Q
 
 -- The groups of degrees 0 to d fill the K = (d + 1)(d + 2)/2 places of a record one after another, with no gap and no overlap.
 pub groups-fill : (d : ℕ) → GroupsFill d

@@ -1,5 +1,5 @@
-// The refusals of writing, measuring, reading and explaining under a sound plan, for marks (`mark`) and for strips: one test for
-// each row of document 01's table "What is returned", in its order. Records and buffers may be any bytes of any length. A loop
+// The refusals of writing, masking, measuring, reading and explaining under a sound plan, for marks (`mark`) and for strips: one
+// test for each row of document 01's table "What is returned", in its order. Records and buffers may be any bytes of any length. A loop
 // over cells looks at all of them, with no way out, so that it is vectorised.
 use definitions::UNREAD;
 use field::bytes;
@@ -17,6 +17,7 @@ ghost use Rattle.definitions.specs.Refusals.{first};
 ghost use Rattle.definitions.specs.Code.{codeOf};
 ghost use Rattle.definitions.specs.Cost.{unread};
 ghost use Rattle.definitions.specs.Calls.{strange, misdoubted, photoRows, writeNumber, measureNumber};
+ghost use Rattle.definitions.specs.Masking.{maskNumber};
 ghost use Rattle.definitions.specs.Explaining.{explainNumber};
 ghost use Rattle.plan.specs.Says.{Says, Ready};
 ghost use Rattle.traymark.specs.Kind.{sizeOf, cellsOf};
@@ -33,6 +34,29 @@ pub(crate) fn write_refusal(mark: bool, plan: Plan, record: &[u8], buffer: &[u8]
     }
     if buffer.len() != cell_count(mark, g) {
         return 6;
+    }
+    if bytes::reaches(record, g.p as u8) {
+        return 9;
+    }
+    0
+}
+
+// Refusals 6, 7 and 9, those of masking.
+pub(crate) fn mask_refusal(mark: bool, plan: Plan, record: &[u8], symbols: &[u8]) -> u32
+    requires { ⌜ Ready plan ⌝ }
+    ensures { λ r. ⌜ ((P : List ℕ) → Says P plan →
+        r ≡ maskNumber (codeOf mark) P (now («record» .entry)) (now (symbols .entry))) ⌝ }
+{
+    let g = plan.grid;
+    if record.len() != record_size(mark, g) {
+        return 6;
+    }
+    let n = cell_count(mark, g);
+    if symbols.len() != n {
+        return 6;
+    }
+    if is_strange(g.p as u8, symbols, n) {
+        return 7;
     }
     if bytes::reaches(record, g.p as u8) {
         return 9;

@@ -3,6 +3,7 @@
 // refusals 1 to 16 are those of the table "What is returned", in its order: 13 stands between 3 and 4.
 mod checks;
 pub mod explain;
+pub mod mask;
 pub mod measure;
 pub mod plans;
 pub mod read;

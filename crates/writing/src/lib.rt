@@ -12,7 +12,7 @@ ghost use Rattle.bounded.specs.Bounded.{at, tab};
 ghost use Rattle.polynomial.specs.Record.{gridValue};
 ghost use Rattle.polynomial.specs.Powers.{Rows, Powers, Columns};
 ghost use Rattle.polynomial.specs.Fit.{Fit};
-ghost use Rattle.definitions.specs.Code.{strip as stripCode, oblong, mark as markOf};
+ghost use Rattle.definitions.specs.Code.{strip as stripCode, oblong, codeOf, mark as markOf};
 ghost use Rattle.definitions.specs.Accepted.{Writing};
 ghost use Rattle.plan.specs.Says.{Says};
 
@@ -56,4 +56,17 @@ pub fn write_strip(plan: Plan, record: &[u8], strip: &mut [u8])
     let powers = evaluation::powers(points, g.d, g.p, g.m);
     let values = evaluation::values(&powers, g.d, bytes::row(record), g.p, g.m);
     bytes::store(strip, &values);
+}
+
+// The mark, or where `mark` is false the strip.
+pub fn write(mark: bool, plan: Plan, record: &[u8], cells: &mut [u8])
+    requires { ⌜ ((P : List ℕ) × Says P plan × Writing (codeOf mark) P (now «record») (now cells)) ⌝ }
+    ensures { λ _. ⌜ ((P : List ℕ) → Says P plan → Writing (codeOf mark) P (now («record» .entry)) (now (cells .entry)) →
+        now (cells .exit) ≡ markOf (codeOf mark) P (now («record» .entry))) ⌝ }
+{
+    if mark {
+        write_mark(plan, record, cells);
+        return;
+    }
+    write_strip(plan, record, cells);
 }

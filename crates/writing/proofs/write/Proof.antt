@@ -1,7 +1,7 @@
--- `explaining::kind::write` meets its contract, for marks and for strips. Assumes nothing.
+-- `writing::write` meets its contract, for marks and for strips. Assumes nothing.
 use borrow.Author.Needs.{needs}
-use Rattle.explaining.proofs.kind.write.Statement.{statement}
-use Rattle.explaining.proofs.kind.write.Tie as tie
+use Rattle.writing.proofs.write.Statement.{statement}
+use Rattle.writing.proofs.write.Tie as tie
 
 returns : tie.Need-returns
 returns c P says writing =

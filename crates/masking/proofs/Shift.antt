@@ -1,0 +1,33 @@
+-- A symbol shifted within a byte.
+--
+--   part-most    what is subtracted is at most p
+--   shift-less   where the symbol is below what is subtracted, p less that is added
+--   shift-more   where it is not, that is subtracted
+--
+-- What this file is for: sums modulo p without a division. Assumes nothing.
+use mathlib.Core.Path.{_≡_, sym, ap, _∙_}
+use mathlib.Core.Bool.{Bool, true, false, cond}
+use Prim.Native.Nat.{ℕ, _+_, _-_, _%_, _≤_, _<_}
+use native.Mathlib.Omega.{arith}
+use native.Mathlib.Nat.{mod-eq-of-lt, add-mod-right}
+use Rattle.definitions.specs.Masking.{wayOf, shift}
+
+-- a number below p, and one that is p too much
+below : (p a r : ℕ) → r < p → a ≡ r → r ≡ a % p
+below p a r l e = sym (mod-eq-of-lt l) ∙ ap (λ n. n % p) (sym e)
+
+over : (p a r : ℕ) → r < p → a ≡ r + p → r ≡ a % p
+over p a r l e = sym (mod-eq-of-lt l) ∙ sym (add-mod-right r p) ∙ ap (λ n. n % p) (sym e)
+
+module _ (p s v : ℕ) (h : s < p) (k : v < p) where
+  pub part-most : (off : Bool) {part : ℕ} → part ≡ cond off v (p - v) → part ≤ p
+  part-most true e = omega arith
+  part-most false e = omega arith
+
+  pub shift-less : (off : Bool) {part : ℕ} → part ≡ cond off v (p - v) → s < part → s + (p - part) ≡ shift (wayOf off) p s v
+  shift-less true e l = below p (s + (p - v)) _ (omega arith) (omega arith)
+  shift-less false e l = below p (s + v) _ (omega arith) (omega arith)
+
+  pub shift-more : (off : Bool) {part : ℕ} → part ≡ cond off v (p - v) → part ≤ s → s - part ≡ shift (wayOf off) p s v
+  shift-more true e l = over p (s + (p - v)) _ (omega arith) (omega arith)
+  shift-more false e l = over p (s + v) _ (omega arith) (omega arith)
