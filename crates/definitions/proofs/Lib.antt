@@ -1,6 +1,7 @@
 -- What follows from the definitions.
 pub mod Cases
 pub mod SeasonCases
+pub mod MaskCases
 pub mod Refusals
 pub mod Search
 pub mod Sound

@@ -84,7 +84,9 @@ module _ (C : Code) (P s u B : List ℕ) (photo : Photograph C P s u) (room : le
   zero-or-ten = go (missing (nearest C P s u)) refl
     where
       last : first ((10 when missing (nearest C P s u)) ∷ []) ≡ readNumber C P s u B
-      last = first-passes (photoRows C P s u B) ((10 when missing (nearest C P s u)) ∷ []) tt (photo-accepted C P s u B photo room)
+      last =
+          let clear = photo-accepted C P s u B photo room in
+          first-passes (photoRows C P s u B) ((10 when missing (nearest C P s u)) ∷ []) tt clear
 
       go : (b : Bool) → missing (nearest C P s u) ≡ b → (readNumber C P s u B ≡ 0) ⊎ (readNumber C P s u B ≡ 10)
       go true e = inr (sym last ∙ rw e)
@@ -107,22 +109,23 @@ module _ {P : List ℕ} (S : Sound P) (C : Code) where
   abbrev shifted : Way → (F Q : List ℕ) → List ℕ
   shifted W F Q = tab (size C P) λ k. shift W p (at F k) (at Q k)
 
+  shifted-at : (W : Way) (F Q : List ℕ) (k : ℕ) → k < size C P → at (shifted W F Q) k ≡ shift W p (at F k) (at Q k)
+  shifted-at W F Q k l = tab-at (size C P) (λ k. shift W p (at F k) (at Q k)) k l
+
   shifted-record : (W : Way) (F Q : List ℕ) → IsRecord C P (shifted W F Q)
   shifted-record W F Q = record {
     size = length-tab (size C P) _;
-    below = λ k l. rw (tab-at (size C P) (λ k. shift W p (at F k) (at Q k)) k l) (shift-below positive W (at F k) (at Q k));
+    below = λ k l. rw (shifted-at W F Q k l) (shift-below positive W (at F k) (at Q k));
   }
 
   shifted-back : (W : Way) (F Q : List ℕ) → IsRecord C P F → IsRecord C P Q → shifted (back W) (shifted W F Q) Q ≡ F
   shifted-back W F Q f q = sym (tab-is (size C P) _ F (f .size) λ k l.
       let h : at Q k ≤ p = omega (arith, q .below k l) in
-      rw (tab-at (size C P) (λ k. shift W p (at F k) (at Q k)) k l)
-      (sym (shift-back positive W (at F k) (at Q k) (f .below k l) h)))
+      rw (shifted-at W F Q k l) (sym (shift-back positive W (at F k) (at Q k) (f .below k l) h)))
 
   pub value-plus : (F Q : List ℕ) (c : ℕ) → value C P (plus C P F Q) c ≡ (value C P F c + value C P Q c) % p
   value-plus F Q c = rw (plan-modulus S) at (value-sum {q = p - 1} (more C) (degree P) F Q (plus C P F Q)
-      (cellPoint (more C) (side P) (point P) c) λ k l.
-      rw (tab-at (size C P) (λ k. (at F k + at Q k) % p) k l) (mod-cong positive (at F k + at Q k)))
+      (cellPoint (more C) (side P) (point P) c) λ k l. rw (shifted-at on F Q k l) (mod-cong positive (at F k + at Q k)))
 
   pub masked-mark : (F Q : List ℕ) → IsRecord C P Q → maskBuffer on C P Q (mark C P F) ≡ mark C P (plus C P F Q)
   unfolding masked mark

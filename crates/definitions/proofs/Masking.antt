@@ -1,10 +1,12 @@
 -- The laws of masking.
 --
---   shift-below, shift-back       a shifted residue is a residue; shifted back it is as it was
---   cell-back                     so is the symbol of a cell that was read or not
---   cell-fits                     a masked symbol is one of the plan
---   mask-keeps, mask-fills        a refused call leaves the symbols, an accepted one masks them
---   mask-undone                   what was put on is taken off again, whatever the bytes are
+--   back W                    the other way
+--   shift-below, shift-back   a shifted residue is a residue; shifted back it is as it was
+--   cell-fits, cell-back      so a masked symbol is one of the plan, and masked back it is as it was, read or not
+--   mask-keeps, mask-fills    a refused call leaves the symbols, an accepted one masks them
+--   masked-at                 what masking leaves in a cell
+--   masked-fits, masked-back  masked symbols can be masked again; masked back they are as they were
+--   mask-undone               each way undoes the other, whatever the bytes are
 --
 -- What this file is for: masking and unmasking are one call with two ways, each of which undoes the other. Assumes nothing.
 use mathlib.Core.Path.{_≡_, refl, sym, ap, _∙_}

@@ -5,7 +5,8 @@
 --   Masking C P F s          the plan is sound, F is a record of it, and s are as many symbols of it as its mark has cells
 --   Expecting C P s u F B    s and u are a photograph of a sound plan, F is a record of it, and B has room for another
 --
--- What this file is for: where the plan's refusals and 6 to 9 do not apply, the writer, the masker and the explainer rest on these.
+-- What this file is for: where the plan's refusals and 6 to 9 do not apply, the writer, the masker and the explainer rest on
+-- these.
 use mathlib.Core.Path.{_≡_}
 use mathlib.Core.List.{List}
 use Prim.Native.Nat.{ℕ}

@@ -18,6 +18,7 @@ pub mod Dated
 pub mod Widening
 pub mod Cases
 pub mod SeasonCases
+pub mod MaskCases
 pub mod Sound
 pub mod Photograph
 pub mod Reads

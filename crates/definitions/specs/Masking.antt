@@ -1,5 +1,5 @@
--- "Masked marks" (document 02, request 9): the mark of a record is added to lent symbols, cell by cell, or taken off again. A call
--- is given a plan P, a record F and symbols s; everything is decided from these bytes alone.
+-- "Masked marks" (document 02, request 9): the mark of a record is added to lent symbols, cell by cell, or taken off again. A
+-- call is given a plan P, a record F and symbols s; everything is decided from these bytes alone.
 --
 --   Way                      on adds the mark, off takes it off
 --   wayOf b                  the way that an `off: bool` of the code stands for

@@ -4,10 +4,10 @@
 --   Added C P Q s s′        the mark of Q is added modulo p to all read cells of s, and unread cells are unchanged: that is s′
 --   plus, less C P F Q      the record F plus Q, and less Q, coefficient by coefficient modulo p
 --   MaskedReads C P Q s s′ u B B′
---                           the photographs s and s′ have the same doubts u. Reading s′ into B′ gives the numbers of reading s into
---                           B, and the record plus Q; 10 stays 10, and there is no other number
---   MaskExactly C P Q s     under a sound plan masking and unmasking give 6 where a length is wrong, else 7 where a symbol is, else
---                           9 where Q is no record of the plan, else 0
+--                           the photographs s and s′ have the same doubts u. Reading s′ into B′ gives the numbers of reading s
+--                           into B, and the record plus Q; 10 stays 10, and there is no other number
+--   MaskExactly C P Q s     under a sound plan masking and unmasking give 6 where a length is wrong, else 7 where a symbol is,
+--                           else 9 where Q is no record of the plan, else 0
 --   Masked C P Q s          what an accepted call leaves: after masking, s with the mark of Q added; after unmasking, symbols of
 --                           the plan to which the mark of Q has to be added for s
 --   Undone C P Q s          unmasking what was masked gives the bytes s back, masking what was unmasked too, and both calls have

@@ -26,10 +26,9 @@ module _ {P : List ℕ} {plan : Plan} (says : Says P plan) where
   modulus-small = rw (says .fields) (says .sound .small)
 
   module _ {C : Code} {F s v : List ℕ} (m : Masking C P F s) (e : v ≡ mark C P F) where
-    pub cells-fit : (plan .grid .p ≤ 251) × (length v ≡ length s) × ((c : ℕ) → c < length s → at v c < plan .grid .p)
+    pub cells-fit : (length v ≡ length s) × ((c : ℕ) → c < length s → at v c < plan .grid .p)
         × ((c : ℕ) → c < length s → (at s c < plan .grid .p) ⊎ (at s c ≡ unread))
     cells-fit = (
-      modulus-small,
       ap length e ∙ mark-length C P F ∙ sym (m .whole),
       (λ c l. let h = rw (m .whole) at l in rw (e, mark-at C P F c h, says .fields) (value-below (says .sound) C F c)),
       λ c l. rw (says .fields) (m .symbol c (rw (m .whole) at l)),

@@ -19,15 +19,24 @@ below p a r l e = sym (mod-eq-of-lt l) ∙ ap (λ n. n % p) (sym e)
 over : (p a r : ℕ) → r < p → a ≡ r + p → r ≡ a % p
 over p a r l e = sym (mod-eq-of-lt l) ∙ sym (add-mod-right r p) ∙ ap (λ n. n % p) (sym e)
 
-module _ (p s v : ℕ) (h : s < p) (k : v < p) where
-  pub part-most : (off : Bool) {part : ℕ} → part ≡ cond off v (p - v) → part ≤ p
-  part-most true e = omega arith
-  part-most false e = omega arith
+module _ (p v : ℕ) (k : v < p) (off : Bool) {part : ℕ} (e : part ≡ cond off v (p - v)) where
+  pub part-most : part ≤ p
+  part-most = go off e
+    where
+      go : (b : Bool) → part ≡ cond b v (p - v) → part ≤ p
+      go true i = omega arith
+      go false i = omega arith
 
-  pub shift-less : (off : Bool) {part : ℕ} → part ≡ cond off v (p - v) → s < part → s + (p - part) ≡ shift (wayOf off) p s v
-  shift-less true e l = below p (s + (p - v)) _ (omega arith) (omega arith)
-  shift-less false e l = below p (s + v) _ (omega arith) (omega arith)
+  pub shift-less : (s : ℕ) → s < part → s < p → s + (p - part) ≡ shift (wayOf off) p s v
+  shift-less s l h = go off e
+    where
+      go : (b : Bool) → part ≡ cond b v (p - v) → s + (p - part) ≡ shift (wayOf b) p s v
+      go true i = below p (s + (p - v)) _ (omega arith) (omega arith)
+      go false i = below p (s + v) _ (omega arith) (omega arith)
 
-  pub shift-more : (off : Bool) {part : ℕ} → part ≡ cond off v (p - v) → part ≤ s → s - part ≡ shift (wayOf off) p s v
-  shift-more true e l = over p (s + (p - v)) _ (omega arith) (omega arith)
-  shift-more false e l = over p (s + v) _ (omega arith) (omega arith)
+  pub shift-more : (s : ℕ) → part ≤ s → s < p → s - part ≡ shift (wayOf off) p s v
+  shift-more s l h = go off e
+    where
+      go : (b : Bool) → part ≡ cond b v (p - v) → s - part ≡ shift (wayOf b) p s v
+      go true i = over p (s + (p - v)) _ (omega arith) (omega arith)
+      go false i = over p (s + v) _ (omega arith) (omega arith)

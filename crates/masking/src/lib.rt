@@ -5,7 +5,7 @@ ghost use mathlib.Core.Path.{_≡_};
 ghost use mathlib.Core.Bool.{cond};
 ghost use mathlib.Core.Logic.{_⊎_};
 ghost use mathlib.Core.List.{List};
-ghost use Prim.Native.Nat.{ℕ, _-_, _≤_, _<_};
+ghost use Prim.Native.Nat.{ℕ, _-_, _<_};
 ghost use lib.ListN.{length};
 ghost use Rattle.bounded.specs.Bounded.{at, tab};
 ghost use Rattle.definitions.specs.Code.{codeOf};
@@ -39,7 +39,7 @@ fn mask_by(mark: bool, off: bool, plan: Plan, record: &[u8], values: &mut [u8], 
 
 // All symbols, each by the value of its cell.
 fn shift_all(off: bool, p: u8, values: &[u8], symbols: &mut [u8])
-    requires { ⌜ (p ≤ 251) × (length (now values) ≡ length (now symbols))
+    requires { ⌜ (length (now values) ≡ length (now symbols))
         × ((c : ℕ) → c < length (now symbols) → at (now values) c < p)
         × ((c : ℕ) → c < length (now symbols) → (at (now symbols) c < p) ⊎ (at (now symbols) c ≡ unread)) ⌝ }
     ensures { λ _. ⌜ now (symbols .exit) ≡ tab (length (now (symbols .entry)))
@@ -50,21 +50,22 @@ fn shift_all(off: bool, p: u8, values: &[u8], symbols: &mut [u8])
     }
 }
 
-// One symbol; that of an unread cell stays.
+// One symbol; that of an unread cell stays. It is shifted before that is asked, so that the loop is vectorised.
 fn masked_symbol(off: bool, p: u8, symbol: u8, value: u8) -> u8
-    requires { ⌜ (p ≤ 251) × (value < p) × ((symbol < p) ⊎ (symbol ≡ unread)) ⌝ }
+    requires { ⌜ (value < p) × ((symbol < p) ⊎ (symbol ≡ unread)) ⌝ }
     ensures { λ r. ⌜ r ≡ maskCell (wayOf off) p symbol value ⌝ }
 {
+    let moved = shifted(off, p, symbol, value);
     if symbol == UNREAD {
         return symbol;
     }
-    shifted(off, p, symbol, value)
+    moved
 }
 
 // The symbol with the value added modulo p, or subtracted, within a byte: to add a value is to subtract what it lacks of p.
 fn shifted(off: bool, p: u8, symbol: u8, value: u8) -> u8
-    requires { ⌜ (symbol < p) × (value < p) ⌝ }
-    ensures { λ r. ⌜ r ≡ shift (wayOf off) p symbol value ⌝ }
+    requires { ⌜ value < p ⌝ }
+    ensures { λ r. ⌜ (symbol < p → r ≡ shift (wayOf off) p symbol value) ⌝ }
 {
     let part = subtracted(off, p, value);
     if symbol < part {

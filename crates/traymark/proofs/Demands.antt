@@ -325,9 +325,9 @@ pub next-day : (t : Date) → real t ≡ true → t ≢ lastDate → IsNext t (f
 next-day = calendar.next-day
 
 -- Request 9. For every sound plan and every photograph s, u in buffers of the right lengths, whatever the points, symbols and
--- doubts, and every record Q: if the mark of Q is added modulo p to all read cells, doubts and unread cells unchanged, which gives
--- s′, the reading is the former record plus Q, coefficient by coefficient modulo p, with the same cost, margin, changed and unread
--- count and class; 10 stays 10; and no other number can arise.
+-- doubts, and every record Q: if the mark of Q is added modulo p to all read cells, doubts and unread cells unchanged, which
+-- gives s′, the reading is the former record plus Q, coefficient by coefficient modulo p, with the same cost, margin, changed and
+-- unread count and class; 10 stays 10; and no other number can arise.
 pub masked-reads : (C : Code) (P Q s s′ u B B′ : List ℕ) → Photograph C P s u → IsRecord C P Q → Added C P Q s s′ →
     length B ≡ size C P → length B′ ≡ size C P → MaskedReads C P Q s s′ u B B′
 masked-reads C P Q s s′ u B B′ photo given added = masked.masked-reads (photo .sound) C photo given added B B′

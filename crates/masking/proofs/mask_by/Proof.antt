@@ -11,7 +11,8 @@ write-requires c κs = let (P, says, w, _) = c .before .before .before .before .
 
 cast-shift-all : tie.Need-cast-shift-all
 cast-shift-all c =
-    let (P, says, _, _) = c .before .before .before .before .before .before .before .before .pre in omega (arith, modulus-small says)
+    let (P, says, _, _) = c .before .before .before .before .before .before .before .before .pre in
+    omega (arith, modulus-small says)
 
 shift-all-requires : tie.Need-shift-all-requires
 shift-all-requires c κs =

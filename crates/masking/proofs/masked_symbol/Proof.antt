@@ -4,6 +4,7 @@ use mathlib.Core.Logic.{_⊎_, inl, inr}
 use Prim.Native.Nat.{ℕ, _<_}
 use borrow.Author.Tests.{ne-eqb}
 use Rattle.definitions.specs.Cost.{unread}
+use borrow.Author.Needs.{needs}
 use Rattle.masking.proofs.masked_symbol.Statement.{statement}
 use Rattle.masking.proofs.masked_symbol.Tie as tie
 
@@ -15,11 +16,10 @@ seen (inr e) n = absurd (n e)
 returns : tie.Need-returns
 returns c = rw (c .if1 .taken)
 
-shifted-requires : tie.Need-shifted-requires
-shifted-requires c κs = let (_, v, s) = c .before .pre in (seen s (c .if1 .left), v)
-
 returns-2 : tie.Need-returns-2
-returns-2 c = c .shifted .ensures ∙ sym (rw (ne-eqb _ unread (c .before .if1 .left)))
+returns-2 c =
+    let moved = c .before in
+    moved .shifted .ensures (seen (moved .before .pre .1) (c .if1 .left)) ∙ sym (rw (ne-eqb _ unread (c .if1 .left)))
 
 pub masked-symbol-spec : {M : Type 1} → statement M
-masked-symbol-spec = tie.close (tie.spec returns shifted-requires returns-2)
+masked-symbol-spec = tie.close (tie.spec (λ c κs. search needs) returns returns-2)

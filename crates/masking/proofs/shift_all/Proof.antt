@@ -28,8 +28,8 @@ masked-symbol-requires c κs =
     let l = c .before .before .before .loop in
     let s = c .before .before .before .before .before .before in
     let h : l .c < length (s .args .symbols .now) = omega arith in
-    let (most, _, value, symbol) = s .pre in
-    (most, value (l .c) h, rw (l .inv .3, tab-next _ _ _ h) (symbol (l .c) h))
+    let (_, value, symbol) = s .pre in
+    (value (l .c) h, rw (l .inv .3, tab-next _ _ _ h) (symbol (l .c) h))
 
 loop-again : tie.Need-loop-again Inv-loop μ-loop
 loop-again c =
