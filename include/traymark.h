@@ -1,7 +1,7 @@
 /*
  * traymark: square and oblong marks on fruit trays, written and read.
  *
- * Twelve calls over plain bytes. Each is proved to give what its comment says, for any bytes and any lengths.
+ * Sixteen calls over plain bytes. Each is proved to give what its comment says, for any bytes and any lengths.
  * `make lib` writes the library, and `cc -Iinclude program.c target/staticlib/libtraymark.a` links a program with it.
  *
  * Words
@@ -29,8 +29,8 @@
  * Buffers
  *   A buffer is a pointer and a length, in that order. The pointer is not null and points to that many bytes; where the
  *   length is 0 it is not followed. A `const` buffer is only read. A buffer that a call writes must overlap no other
- *   buffer of that call; its old bytes are not looked at. Nothing is kept after the call returns, nothing is allocated,
- *   there is no state: calls may run in several threads at once.
+ *   buffer of that call; its old bytes are not looked at, but for symbols that are masked or unmasked in place. Nothing is
+ *   kept after the call returns, nothing is allocated, there is no state: calls may run in several threads at once.
  *
  * Numbers
  *   Every call answers with a number: 0, or the refusal that applies. Where several apply, the first of those that the
@@ -252,6 +252,74 @@ traymark_reason traymark_explain_strip(const uint8_t *plan, size_t plan_len,
                                        const uint8_t *symbols, size_t symbols_len,
                                        const uint8_t *doubts, size_t doubts_len,
                                        uint8_t *other, size_t other_len);
+
+/*
+ * Masks: the mark, or strip, of a record Q is put on symbols cell by cell, and taken off. A station prints trial marks with one
+ * Q on all of them, so that evaluators can't tell plots by eye.
+ *
+ * To print a masked mark, write the mark of the tray's record and mask it with Q. It is then the mark of that record plus Q,
+ * coefficient by coefficient modulo p.
+ *
+ * To get the tray's record from a photograph of a masked mark, unmask the symbols with Q, by the same plan, and read them with
+ * the doubts as they are. For every Q, a photograph that has Q's mark on all its read cells and the one without it read alike:
+ * both with 10, or both with 0, the same cost, margin, changed and unread counts and class, and the record with Q's mark on is
+ * the one without plus Q, coefficient by coefficient modulo p. So what is read of the unmasked symbols is the masked
+ * photograph's record less Q.
+ *
+ * Unmasking what was masked gives the same bytes again, and so does masking what was unmasked, for any bytes whatever: the
+ * two refuse the same bytes with the same number. Doubts have no part in it. An unread cell stays unread and keeps the full
+ * doubt, so a photograph stays one.
+ *
+ * Masks a mark, photographed or written.
+ *
+ *   plan     read
+ *   record   read; K bytes, Q
+ *   symbols  changed where the number is 0: each that is not 255 becomes itself plus Q's value in that cell, modulo p; an unread
+ *            cell, 255, stays; rows * columns bytes
+ *   result   0; refusals 1 2 3 13 4 5 6 7 9
+ */
+uint32_t traymark_mask_mark(const uint8_t *plan, size_t plan_len,
+                            const uint8_t *record, size_t record_len,
+                            uint8_t *symbols, size_t symbols_len);
+
+/*
+ * Unmasks a mark.
+ *
+ *   plan     read
+ *   record   read; K bytes, Q
+ *   symbols  changed where the number is 0: each that is not 255 becomes itself less Q's value in that cell, modulo p; an unread
+ *            cell, 255, stays; rows * columns bytes
+ *   result   0; refusals 1 2 3 13 4 5 6 7 9
+ */
+uint32_t traymark_unmask_mark(const uint8_t *plan, size_t plan_len,
+                              const uint8_t *record, size_t record_len,
+                              uint8_t *symbols, size_t symbols_len);
+
+/*
+ * The same two for a strip. Masks a strip, photographed or written.
+ *
+ *   plan     read
+ *   record   read; d + 1 bytes, Q
+ *   symbols  changed where the number is 0: each that is not 255 becomes itself plus Q's value in that cell, modulo p; an unread
+ *            cell, 255, stays; rows bytes
+ *   result   0; refusals 1 2 3 13 4 5 6 7 9
+ */
+uint32_t traymark_mask_strip(const uint8_t *plan, size_t plan_len,
+                             const uint8_t *record, size_t record_len,
+                             uint8_t *symbols, size_t symbols_len);
+
+/*
+ * Unmasks a strip.
+ *
+ *   plan     read
+ *   record   read; d + 1 bytes, Q
+ *   symbols  changed where the number is 0: each that is not 255 becomes itself less Q's value in that cell, modulo p; an unread
+ *            cell, 255, stays; rows bytes
+ *   result   0; refusals 1 2 3 13 4 5 6 7 9
+ */
+uint32_t traymark_unmask_strip(const uint8_t *plan, size_t plan_len,
+                               const uint8_t *record, size_t record_len,
+                               uint8_t *symbols, size_t symbols_len);
 
 #ifdef __cplusplus
 }
