@@ -128,9 +128,45 @@ extern "C" {
         other: *mut u8,
         other_len: usize,
     ) -> RawReason;
+
+    pub fn traymark_mask_mark(
+        plan: *const u8,
+        plan_len: usize,
+        record: *const u8,
+        record_len: usize,
+        symbols: *mut u8,
+        symbols_len: usize,
+    ) -> u32;
+
+    pub fn traymark_unmask_mark(
+        plan: *const u8,
+        plan_len: usize,
+        record: *const u8,
+        record_len: usize,
+        symbols: *mut u8,
+        symbols_len: usize,
+    ) -> u32;
+
+    pub fn traymark_mask_strip(
+        plan: *const u8,
+        plan_len: usize,
+        record: *const u8,
+        record_len: usize,
+        symbols: *mut u8,
+        symbols_len: usize,
+    ) -> u32;
+
+    pub fn traymark_unmask_strip(
+        plan: *const u8,
+        plan_len: usize,
+        record: *const u8,
+        record_len: usize,
+        symbols: *mut u8,
+        symbols_len: usize,
+    ) -> u32;
 }
 
-/// Writing a mark or a strip: plan, record, mark.
+/// Writing a mark or a strip: plan, record, mark. Masking and unmasking one: plan, record, symbols.
 pub type Write = unsafe extern "C" fn(*const u8, usize, *const u8, usize, *mut u8, usize) -> u32;
 
 /// Measuring: plan, record, symbols, doubts.

@@ -1,7 +1,8 @@
 //! Square and oblong marks on fruit trays, written and read: a safe wrapper over the proved static library.
 //!
 //! Plans, records, marks, strips, photographs and season windows are plain bytes; `include/traymark.h` says what each holds.
-//! A call that writes takes the buffer to write into, of the exact length; a refusal changes no byte of it.
+//! A call that writes takes the buffer to write into, of the exact length; a refusal changes no byte of it. Masking and unmasking
+//! change the symbols that they are given.
 //!
 //! A doubt is 0 to the full doubt, which is 100 for plans of seasons before 30 and 250 for plans of season 30 and later; that
 //! of an unread cell is the full doubt.
@@ -210,6 +211,54 @@ pub fn explain_strip(
     other: &mut [u8],
 ) -> Result<Reason, Refusal> {
     explain_by(ffi::traymark_explain_strip, plan, record, symbols, doubts, other)
+}
+
+/// Puts the mark of `record` on a mark, photographed or written: each of the rows * columns `symbols` that is not 255 becomes
+/// itself plus the value in its cell, modulo p, and an unread cell stays 255. A photograph then reads as it did, but for the
+/// record, which is the former one plus `record`, coefficient by coefficient modulo p. Refusals 1 2 3 13 4 5 6 7 9.
+///
+/// ```
+/// # let mut plan = [0; traymark::PLAN_LENGTH];
+/// # plan[..9].copy_from_slice(&[0, 12, 7, 3, 3, 1, 1, 2, 4]);
+/// # plan[22..25].copy_from_slice(&[1, 2, 4]);
+/// // a station prints the mark of 3 + X + 2Y with that of 5 + 4X + 6Y on it, which is the mark of 1 + 5X + Y
+/// let (tray, mask) = ([3, 1, 2], [5, 4, 6]);
+/// let mut printed = [0; 9];
+/// traymark::write_mark(&plan, &tray, &mut printed)?;
+/// traymark::mask_mark(&plan, &mask, &mut printed)?;
+/// assert_eq!(printed, [0, 1, 3, 5, 6, 1, 1, 2, 4]);
+///
+/// // a photograph of it, its first cell misread and its last unread, is unmasked and read: the record is the tray's
+/// let (mut symbols, doubts) = ([6, 1, 3, 5, 6, 1, 1, 2, 255], [0, 0, 0, 0, 0, 0, 0, 0, 100]);
+/// let mut record = [0; 3];
+/// let masked = traymark::read_mark(&plan, &symbols, &doubts, &mut record)?;
+/// assert_eq!(record, [1, 5, 1]);
+/// traymark::unmask_mark(&plan, &mask, &mut symbols)?;
+/// assert_eq!(symbols, [5, 1, 5, 0, 2, 6, 2, 4, 255]);
+/// assert_eq!(traymark::read_mark(&plan, &symbols, &doubts, &mut record)?, masked);
+/// assert_eq!(record, tray);
+/// # Ok::<(), traymark::Refusal>(())
+/// ```
+pub fn mask_mark(plan: &[u8], record: &[u8], symbols: &mut [u8]) -> Result<(), Refusal> {
+    write_by(ffi::traymark_mask_mark, plan, record, symbols)
+}
+
+/// Takes the mark of `record` off a mark, photographed or written: each of the rows * columns `symbols` that is not 255 becomes
+/// itself less the value in its cell, modulo p, and an unread cell stays 255. Refusals 1 2 3 13 4 5 6 7 9.
+pub fn unmask_mark(plan: &[u8], record: &[u8], symbols: &mut [u8]) -> Result<(), Refusal> {
+    write_by(ffi::traymark_unmask_mark, plan, record, symbols)
+}
+
+/// Puts the strip of `record`, d + 1 bytes, on a strip, as many `symbols` as there are rows, as `mask_mark` does with marks.
+/// Refusals 1 2 3 13 4 5 6 7 9.
+pub fn mask_strip(plan: &[u8], record: &[u8], symbols: &mut [u8]) -> Result<(), Refusal> {
+    write_by(ffi::traymark_mask_strip, plan, record, symbols)
+}
+
+/// Takes the strip of `record`, d + 1 bytes, off a strip, as many `symbols` as there are rows, as `unmask_mark` does with marks.
+/// Refusals 1 2 3 13 4 5 6 7 9.
+pub fn unmask_strip(plan: &[u8], record: &[u8], symbols: &mut [u8]) -> Result<(), Refusal> {
+    write_by(ffi::traymark_unmask_strip, plan, record, symbols)
 }
 
 // Safety of the calls below: every pointer and its length come from one slice, and a `&mut` slice overlaps no other.

@@ -1,6 +1,6 @@
 //! Each call through the wrapper: cases a, c and f of document 01, wrong and unread cells at once, strips, oblong marks, doubts
-//! in 250ths, the three reasons, season windows, and a refusal of each call. Buffers that are to be written hold 9s before, so
-//! that it is seen when a refusal changes one.
+//! in 250ths, the three reasons, season windows, masks, and a refusal of each call. Buffers that are to be written hold 9s
+//! before, so that it is seen when a refusal changes one.
 
 use traymark::{Reading, Reason, Refusal, OLD_PLAN_LENGTH, PLAN_LENGTH, WINDOW_LENGTH};
 
@@ -59,17 +59,38 @@ const STRIP_READING: Reading = Reading { cost: 299, margin: 1, changed: 1, unrea
 const WIDE_PLAN: [u8; PLAN_LENGTH] = plan([0, 12, 7, 2, 3, 1], [1, 3, 0], [0, 2, 5]);
 const HALF_PLAN: [u8; PLAN_LENGTH] = plan([0, 12, 7, 3, 2, 1], [0, 2, 5], [1, 3, 0]);
 const OBLONGS: [Oblong; 2] = [
-    Oblong { plan: WIDE_PLAN, mark: [4, 1, 0, 6, 3, 2], strip: &[4, 6], strip_radius: 100 },
-    Oblong { plan: HALF_PLAN, mark: [5, 2, 0, 4, 3, 0], strip: &[3, 5, 1], strip_radius: 200 },
+    Oblong {
+        plan: WIDE_PLAN,
+        mark: [4, 1, 0, 6, 3, 2],
+        masked_mark: [6, 1, 4, 2, 4, 0],
+        strip: &[4, 6],
+        masked_strip: &[6, 2],
+        strip_radius: 100,
+    },
+    Oblong {
+        plan: HALF_PLAN,
+        mark: [5, 2, 0, 4, 3, 0],
+        masked_mark: [2, 4, 5, 0, 6, 1],
+        strip: &[3, 5, 1],
+        masked_strip: &[1, 4, 5],
+        strip_radius: 200,
+    },
 ];
 
-/// A plan, the mark of the record under it, with radius 300, and the strip of 3 + X.
+/// A plan, the mark of the record under it, with radius 300, and the strip of 3 + X; both with the mask on.
 struct Oblong {
     plan: [u8; PLAN_LENGTH],
     mark: [u8; 6],
+    masked_mark: [u8; 6],
     strip: &'static [u8],
+    masked_strip: &'static [u8],
     strip_radius: i32,
 }
+
+/// 5 + 4X + 6Y: the mark of the record with its mark on is that of 1 + 5X + Y, and the strip of 3 + X that of 1 + 5X.
+const MASK: [u8; 3] = [5, 4, 6];
+const MASKED_MARK: [u8; 9] = [0, 1, 3, 5, 6, 1, 1, 2, 4];
+const MASKED_RECORD: [u8; 3] = [1, 5, 1];
 
 /// A plan of at most three points each way: season, p, rows, columns, d; the points.
 const fn plan(fields: [u8; 6], row_points: [u8; 3], column_points: [u8; 3]) -> [u8; PLAN_LENGTH] {
@@ -351,4 +372,80 @@ fn explain_oblong_marks() {
         let reason = traymark::explain_mark(&plan, &record, &mark, &[0; 6], &mut other);
         assert_eq!((reason, other), (Ok(Reason::Other { place }), RECORD));
     }
+}
+
+/// A call that puts a record's mark, or strip, on symbols or takes it off.
+type Mask = fn(&[u8], &[u8], &mut [u8]) -> Result<(), Refusal>;
+
+/// What one of these calls leaves of the symbols.
+fn left(call: Mask, plan: &[u8], record: &[u8], symbols: &[u8]) -> (Result<(), Refusal>, Vec<u8>) {
+    let mut left = symbols.to_vec();
+    (call(plan, record, &mut left), left)
+}
+
+/// Masked and unmasked, the other symbols come out.
+fn there_and_back([mask, unmask]: [Mask; 2], plan: &[u8], record: &[u8], symbols: &[u8], masked: &[u8]) {
+    assert_eq!(left(mask, plan, record, symbols), (Ok(()), masked.to_vec()));
+    assert_eq!(left(unmask, plan, record, masked), (Ok(()), symbols.to_vec()));
+}
+
+const OF_MARKS: [Mask; 2] = [traymark::mask_mark, traymark::unmask_mark];
+const OF_STRIPS: [Mask; 2] = [traymark::mask_strip, traymark::unmask_strip];
+
+#[test]
+fn mask_and_unmask_marks() {
+    there_and_back(OF_MARKS, &PLAN, &MASK, &MARK, &MASKED_MARK);
+    // an unread cell stays, a cell of 0 does not; a mask of 0
+    there_and_back(OF_MARKS, &PLAN, &MASK, &[255, 1, 5, 0, 2, 6, 2, 4, 255], &[255, 1, 3, 5, 6, 1, 1, 2, 255]);
+    there_and_back(OF_MARKS, &LATER_PLAN, &[0, 0, 0], &MARK, &MARK);
+    for Oblong { plan, mark, masked_mark, .. } in OBLONGS {
+        there_and_back(OF_MARKS, &plan, &MASK, &mark, &masked_mark);
+    }
+}
+
+#[test]
+fn mask_and_unmask_strips() {
+    there_and_back(OF_STRIPS, &PLAN, &MASK[..2], &[4, 5, 0], &[6, 4, 0]);
+    there_and_back(OF_STRIPS, &PLAN, &MASK[..2], &[255, 1, 255], &[255, 0, 255]);
+    for Oblong { plan, strip, masked_strip, .. } in OBLONGS {
+        there_and_back(OF_STRIPS, &plan, &MASK[..2], strip, masked_strip);
+    }
+}
+
+#[test]
+fn masks_refused() {
+    // a symbol is 7 in the last cell, a coefficient is 7
+    let (record, symbols) = ([7, 4, 6], [0, 1, 3, 5, 6, 1, 1, 2, 7]);
+    for (calls, size, cells) in [(OF_MARKS, 3, 9), (OF_STRIPS, 2, 3)] {
+        let (record, symbols) = (&record[..size], &symbols[9 - cells..]);
+        for call in calls {
+            let refused = |plan: &[u8], record: &[u8], symbols: &[u8], refusal: Refusal| {
+                assert_eq!(left(call, plan, record, symbols), (Err(refusal), symbols.to_vec()));
+            };
+            refused(&PLAN[..39], record, symbols, Refusal::PlanForm);
+            refused(&PLAN, &record[1..], symbols, Refusal::BufferLength);
+            refused(&PLAN, record, &symbols[1..], Refusal::BufferLength);
+            refused(&PLAN, record, &[], Refusal::BufferLength);
+            refused(&PLAN, record, symbols, Refusal::Symbol);
+            refused(&PLAN, record, &MARK[..cells], Refusal::Coefficient);
+        }
+    }
+}
+
+/// A photograph of a masked mark, unmasked, is read as the tray's record; with the mask on it is read as that plus the mask.
+#[test]
+fn masked_photographs() {
+    for (symbols, doubts, reading) in PHOTOS {
+        let (mut masked, mut record) = (symbols, [9; 3]);
+        assert_eq!(traymark::mask_mark(&PLAN, &MASK, &mut masked), Ok(()));
+        assert_eq!(traymark::read_mark(&PLAN, &masked, &doubts, &mut record), Ok(reading));
+        assert_eq!(record, MASKED_RECORD);
+        assert_eq!(traymark::unmask_mark(&PLAN, &MASK, &mut masked), Ok(()));
+        assert_eq!(traymark::read_mark(&PLAN, &masked, &doubts, &mut record), Ok(reading));
+        assert_eq!(record, RECORD);
+    }
+    let (mut masked, mut record) = (CASE_D, [9; 3]);
+    assert_eq!(traymark::mask_mark(&PLAN, &MASK, &mut masked), Ok(()));
+    assert_eq!(traymark::read_mark(&PLAN, &masked, &SURE, &mut record), Err(Refusal::NoRecord));
+    assert_eq!(record, [9; 3]);
 }
