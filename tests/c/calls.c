@@ -1,6 +1,6 @@
-/* The twelve calls from C: the layout of the answers, the cases of document 01, wrong and unread cells at once, oblong
-   marks and strips beside them, doubts in 250ths, plans widened, seasons by date, the three reasons, and the refusals at empty
-   buffers. */
+/* The sixteen calls from C: the layout of the answers, the cases of document 01, wrong and unread cells at once, oblong
+   marks and strips beside them, doubts in 250ths, plans widened, seasons by date, the three reasons, masks, and the refusals at
+   empty buffers. */
 #include <stdio.h>
 #include <stdlib.h>
 #include <string.h>
@@ -35,6 +35,10 @@ traymark_reading traymark_read_mark(in, size_t, in, size_t, in, size_t, uint8_t 
 traymark_reading traymark_read_strip(in, size_t, in, size_t, in, size_t, uint8_t *, size_t);
 traymark_reason traymark_explain_mark(in, size_t, in, size_t, in, size_t, in, size_t, uint8_t *, size_t);
 traymark_reason traymark_explain_strip(in, size_t, in, size_t, in, size_t, in, size_t, uint8_t *, size_t);
+uint32_t traymark_mask_mark(in, size_t, in, size_t, uint8_t *, size_t);
+uint32_t traymark_unmask_mark(in, size_t, in, size_t, uint8_t *, size_t);
+uint32_t traymark_mask_strip(in, size_t, in, size_t, uint8_t *, size_t);
+uint32_t traymark_unmask_strip(in, size_t, in, size_t, uint8_t *, size_t);
 
 static int tests;
 
@@ -493,6 +497,136 @@ static void explain_oblongs(void)
     EXPECT(memcmp(other, record_a, 3) == 0);
 }
 
+/* masking and unmasking marks, and strips */
+typedef uint32_t mask_call(in, size_t, in, size_t, uint8_t *, size_t);
+static mask_call *const of_marks[2] = {traymark_mask_mark, traymark_unmask_mark};
+static mask_call *const of_strips[2] = {traymark_mask_strip, traymark_unmask_strip};
+
+/* 5 + 4X + 6Y, and the mark of 3 + X + 2Y with that of it on, which is the mark of 1 + 5X + Y */
+static const uint8_t mask_q[3] = {5, 4, 6}, masked_a[9] = {0, 1, 3, 5, 6, 1, 1, 2, 4}, record_masked[3] = {1, 5, 1};
+
+/* whether the call gives this number and leaves these symbols, with the bytes beside them as they were */
+static int turns(mask_call *call, in plan, size_t plan_length, in record, size_t record_length, in symbols, in left, size_t cells,
+                 uint32_t number)
+{
+    static uint8_t lent[258];
+    lent[0] = 77, lent[cells + 1] = 88;
+    memcpy(lent + 1, symbols, cells);
+    return call(plan, plan_length, record, record_length, lent + 1, cells) == number && memcmp(lent + 1, left, cells) == 0
+           && lent[0] == 77 && lent[cells + 1] == 88;
+}
+
+/* masked and then unmasked */
+static int masks(mask_call *const calls[2], const uint8_t plan[40], in record, size_t record_length, in symbols, in masked,
+                 size_t cells)
+{
+    return turns(calls[0], plan, 40, record, record_length, symbols, masked, cells, 0)
+           && turns(calls[1], plan, 40, record, record_length, masked, symbols, cells, 0);
+}
+
+static void mask(void)
+{
+    const uint8_t zeros[9] = {0}, none[9] = {255, 255, 255, 255, 255, 255, 255, 255, 255};
+    const uint8_t unread[9] = {255, 1, 5, 0, 255, 6, 2, 4, 255}, unread_masked[9] = {255, 1, 3, 5, 255, 1, 1, 2, 255};
+    const uint8_t mark_q[9] = {1, 0, 5, 5, 4, 2, 6, 5, 3}, masked_w[6] = {6, 1, 4, 2, 4, 0}, masked_t[6] = {2, 4, 5, 0, 6, 1};
+    EXPECT(masks(of_marks, plan_a, ALL(mask_q), mark_a, ALL(masked_a)));
+    EXPECT(masks(of_marks, plan_a, ALL(mask_q), unread, ALL(unread_masked)));
+    EXPECT(masks(of_marks, plan_a, ALL(mask_q), zeros, ALL(mark_q)) && masks(of_marks, plan_a, zeros, 3, mark_a, ALL(mark_a)));
+    EXPECT(masks(of_marks, plan_a, ALL(mask_q), none, ALL(none)));
+    EXPECT(masks(of_marks, plan_w, ALL(mask_q), mark_w, ALL(masked_w)));
+    EXPECT(masks(of_marks, plan_t, ALL(mask_q), mark_t, ALL(masked_t)));
+
+    /* strips go by the row points */
+    const uint8_t strip[3] = {4, 5, 0}, masked[3] = {6, 4, 0}, lost[3] = {255, 1, 255}, lost_masked[3] = {255, 0, 255};
+    const uint8_t strip_w_masked[2] = {6, 2}, strip_t_masked[3] = {1, 4, 5};
+    EXPECT(masks(of_strips, plan_a, mask_q, 2, strip, ALL(masked)));
+    EXPECT(masks(of_strips, plan_a, mask_q, 2, lost, ALL(lost_masked)));
+    EXPECT(masks(of_strips, plan_w, mask_q, 2, strip_w, ALL(strip_w_masked)));
+    EXPECT(masks(of_strips, plan_t, mask_q, 2, strip_t, ALL(strip_t_masked)));
+}
+
+/* every symbol and every value of p 251, and an unread cell among them; 16 by 16 cells, of which the last four are unread */
+static void mask_largest(void)
+{
+    uint8_t plan[40] = {0, 30, 251, 16, 16, 0}, symbols[256], masked[256];
+    int alike = 1;
+    for (uint8_t k = 0; k < 16; k++)
+        plan[6 + k] = plan[22 + k] = (uint8_t)(k * 16);
+    for (int value = 0; value < 251; value++) {
+        const uint8_t record[1] = {(uint8_t)value};
+        for (int k = 0; k < 256; k++) {
+            symbols[k] = k == 77 || k > 251 ? 255 : (uint8_t)(k < 77 ? k : k - 1);
+            masked[k] = symbols[k] == 255 ? 255 : (uint8_t)((symbols[k] + value) % 251);
+        }
+        alike &= masks(of_marks, plan, ALL(record), symbols, ALL(masked));
+        alike &= masks(of_strips, plan, ALL(record), symbols + 69, masked + 69, 16);
+    }
+    EXPECT(alike);
+}
+
+/* refusals of the plan, in order, then 6, 7 and 9: no symbol changes */
+static void mask_refused(void)
+{
+    const uint8_t sevens[10] = {7, 7, 7, 7, 7, 7, 7, 7, 7, 7}, last_7[9] = {0, 1, 3, 5, 6, 1, 1, 2, 7};
+    const uint8_t first_254[9] = {254, 255, 255, 255, 255, 255, 255, 255, 255}, last_p[3] = {5, 4, 7}, far[3] = {255, 255, 0};
+    const struct { size_t place; uint8_t repaired; uint32_t before; } repairs[6] = {
+        {39, 0, 1}, {2, 7, 2}, {3, 3, 3}, {4, 3, 13}, {5, 1, 4}, {6, 1, 5}};
+    for (int k = 0; k < 2; k++) {
+        mask_call *mark = of_marks[k], *strip = of_strips[k];
+        uint8_t plan[40];
+        memcpy(plan, plan_a, 40);
+        plan[2] = 9, plan[3] = 0, plan[4] = 0, plan[5] = 16, plan[6] = 7, plan[39] = 1;
+        for (size_t r = 0; r < 6; r++) {
+            EXPECT(turns(mark, ALL(plan), sevens, 2, sevens, sevens, 8, repairs[r].before));
+            EXPECT(turns(strip, ALL(plan), sevens, 1, sevens, sevens, 2, repairs[r].before));
+            plan[repairs[r].place] = repairs[r].repaired;
+        }
+        EXPECT(turns(mark, plan, 39, sevens, 3, sevens, sevens, 9, 1) && turns(strip, plan, 0, sevens, 0, sevens, sevens, 0, 1));
+        for (size_t length = 0; length <= 10; length++) {
+            EXPECT(turns(mark, ALL(plan), sevens, length, sevens, sevens, 9, length == 3 ? 7 : 6));
+            EXPECT(turns(mark, ALL(plan), sevens, 3, sevens, sevens, length, length == 9 ? 7 : 6));
+            EXPECT(turns(strip, ALL(plan), sevens, length, sevens, sevens, 3, length == 2 ? 7 : 6));
+            EXPECT(turns(strip, ALL(plan), sevens, 2, sevens, sevens, length, length == 3 ? 7 : 6));
+        }
+        EXPECT(turns(mark, ALL(plan), ALL(mask_q), last_7, ALL(last_7), 7));
+        EXPECT(turns(mark, ALL(plan), ALL(last_p), last_7, ALL(last_7), 7));
+        EXPECT(turns(mark, ALL(plan), ALL(mask_q), first_254, ALL(first_254), 7));
+        EXPECT(turns(mark, ALL(plan), ALL(last_p), mark_a, ALL(mark_a), 9));
+        EXPECT(turns(mark, ALL(plan), ALL(far), mark_a, ALL(mark_a), 9));
+        EXPECT(turns(strip, ALL(plan), mask_q, 2, last_7 + 6, last_7 + 6, 3, 7));
+        EXPECT(turns(strip, ALL(plan), far, 2, last_7 + 6, last_7 + 6, 3, 7));
+        EXPECT(turns(strip, ALL(plan), last_p + 1, 2, mark_a, mark_a, 3, 9));
+    }
+}
+
+/* the station's way: written, masked and printed; photographed with a cell misread and one unread; unmasked and read */
+static void mask_and_read(void)
+{
+    const uint8_t doubts[9] = {0, 100};
+    uint8_t cells[9], record[3] = {9, 9, 9};
+    EXPECT(traymark_write_mark(ALL(plan_a), ALL(record_a), ALL(cells)) == 0);
+    EXPECT(traymark_mask_mark(ALL(plan_a), ALL(mask_q), ALL(cells)) == 0 && memcmp(cells, masked_a, 9) == 0);
+    cells[0] = 3, cells[1] = 255;
+    EXPECT(is(traymark_read_mark(ALL(plan_a), ALL(cells), ALL(doubts), ALL(record)), 300, 300, 1, 1, 1));
+    EXPECT(memcmp(record, record_masked, 3) == 0);
+    EXPECT(traymark_unmask_mark(ALL(plan_a), ALL(mask_q), ALL(cells)) == 0);
+    EXPECT(is(read_a(cells, doubts), 300, 300, 1, 1, 1));
+
+    /* three cells misread, which is the radius: 10 stays 10 */
+    memcpy(cells, case_d, 9), memset(record, 9, 3);
+    EXPECT(traymark_mask_mark(ALL(plan_a), ALL(mask_q), ALL(cells)) == 0);
+    EXPECT(refused(traymark_read_mark(ALL(plan_a), ALL(cells), ALL(sure), ALL(record)), 10) && record[0] == 9);
+
+    const uint8_t strip_doubts[3] = {99};
+    EXPECT(traymark_write_strip(ALL(plan_a), record_a, 2, cells, 3) == 0);
+    EXPECT(traymark_mask_strip(ALL(plan_a), mask_q, 2, cells, 3) == 0);
+    EXPECT(is(traymark_read_strip(ALL(plan_a), cells, 3, ALL(strip_doubts), record, 2), 99, 101, 0, 0, 0));
+    EXPECT(record[0] == 1 && record[1] == 5 && record[2] == 9);
+    EXPECT(traymark_unmask_strip(ALL(plan_a), mask_q, 2, cells, 3) == 0);
+    EXPECT(is(traymark_read_strip(ALL(plan_a), cells, 3, ALL(strip_doubts), record, 2), 99, 101, 0, 0, 0));
+    EXPECT(record[0] == 3 && record[1] == 1 && record[2] == 9);
+}
+
 /* 16 by 16 cells from season 30 on: the highest margin, the lowest, as much as an answer costs, and the largest excess */
 static void largest(void)
 {
@@ -548,6 +682,10 @@ int main(void)
     explain_strips();
     explain_refused();
     explain_oblongs();
+    mask();
+    mask_largest();
+    mask_refused();
+    mask_and_read();
     largest();
     printf("calls.c: ok: %d tests\n", tests);
     return 0;
