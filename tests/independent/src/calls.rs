@@ -84,13 +84,7 @@ pub fn widen_plans(old: &[u8], wide: &mut [u8]) -> u32 {
 }
 
 pub fn write(code: Code, plan: &[u8], record: &[u8], mark: &mut [u8]) -> u32 {
-    match written(code, plan, record, mark.len()) {
-        Ok(word) => {
-            mark.copy_from_slice(&word);
-            0
-        }
-        Err(number) => number,
-    }
+    put(written(code, plan, record, mark.len()), mark)
 }
 
 fn written(code: Code, plan: &[u8], record: &[u8], room: usize) -> Result<Vec<u8>, u32> {
@@ -98,6 +92,50 @@ fn written(code: Code, plan: &[u8], record: &[u8], room: usize) -> Result<Vec<u8
     check_lengths(&[(record.len(), code.size(&plan)), (room, code.cells(&plan))])?;
     check_record(&plan, record)?;
     Ok(bytes(&code.word(&plan, &numbers(record))))
+}
+
+/// The mark, or strip, of the record is added to the symbols that were read.
+pub fn mask(code: Code, plan: &[u8], record: &[u8], symbols: &mut [u8]) -> u32 {
+    put(on_read(code, plan, record, symbols, |p, symbol, value| (symbol + value) % p), symbols)
+}
+
+/// Each symbol that was read becomes the one that masking makes it of.
+pub fn unmask(code: Code, plan: &[u8], record: &[u8], symbols: &mut [u8]) -> u32 {
+    let unmasked = |p: u32, symbol: u32, value: u32| {
+        (0..p).find(|unmasked| (unmasked + value) % p == symbol).expect("all remainders come up")
+    };
+    put(on_read(code, plan, record, symbols, unmasked), symbols)
+}
+
+/// What becomes of the symbols where each that was read changes by p, itself and the record's value in its cell.
+fn on_read(
+    code: Code,
+    plan: &[u8],
+    record: &[u8],
+    symbols: &[u8],
+    change: impl Fn(u32, u32, u32) -> u32,
+) -> Result<Vec<u8>, u32> {
+    let plan = Plan::parse(plan)?;
+    check_lengths(&[(record.len(), code.size(&plan)), (symbols.len(), code.cells(&plan))])?;
+    check_symbols(&plan, symbols)?;
+    check_record(&plan, record)?;
+    let cells = numbers(symbols).into_iter().zip(code.word(&plan, &numbers(record)));
+    let changed = cells.map(|(symbol, value)| match symbol {
+        UNREAD => UNREAD,
+        _ => change(plan.p, symbol, value),
+    });
+    Ok(bytes(&changed.collect::<Vec<u32>>()))
+}
+
+/// The bytes go into the buffer, or the number says why there are none.
+fn put(bytes: Result<Vec<u8>, u32>, buffer: &mut [u8]) -> u32 {
+    match bytes {
+        Ok(bytes) => {
+            buffer.copy_from_slice(&bytes);
+            0
+        }
+        Err(number) => number,
+    }
 }
 
 pub fn measure(code: Code, plan: &[u8], record: &[u8], symbols: &[u8], doubts: &[u8]) -> Reading {
@@ -204,9 +242,7 @@ fn reading(code: Code, plan: &Plan, record: &[u32], symbols: &[u32], doubts: &[u
 fn check_photograph(code: Code, plan: &Plan, symbols: &[u8], doubts: &[u8], record: usize) -> Result<(), u32> {
     let cells = code.cells(plan);
     check_lengths(&[(symbols.len(), cells), (doubts.len(), cells), (record, code.size(plan))])?;
-    if numbers(symbols).iter().any(|&symbol| symbol >= plan.p && symbol != UNREAD) {
-        return Err(7);
-    }
+    check_symbols(plan, symbols)?;
     let full = plan.full_doubt();
     let wrong = |(&symbol, &doubt): (&u32, &u32)| doubt > full || symbol == UNREAD && doubt != full;
     if numbers(symbols).iter().zip(&numbers(doubts)).any(wrong) {
@@ -219,6 +255,14 @@ fn check_photograph(code: Code, plan: &Plan, symbols: &[u8], doubts: &[u8], reco
 fn check_lengths(lengths: &[(usize, usize)]) -> Result<(), u32> {
     if lengths.iter().any(|(is, owed)| is != owed) {
         return Err(6);
+    }
+    Ok(())
+}
+
+/// Refusal 7.
+fn check_symbols(plan: &Plan, symbols: &[u8]) -> Result<(), u32> {
+    if numbers(symbols).iter().any(|&symbol| symbol >= plan.p && symbol != UNREAD) {
+        return Err(7);
     }
     Ok(())
 }
@@ -268,6 +312,24 @@ mod tests {
             assert_eq!(explained(season, [3, 1, 2], three), (Reason::nothing(0), [9; 3]));
             assert_eq!(explained(season, [1, 0, 0], three), (Reason::nothing(five_wrong), [9; 3]));
             assert_eq!(explained(season, [3, 1, 7], three), (Reason::refused(9), [9; 3]));
+        }
+    }
+
+    #[test]
+    fn masking_adds_and_unmasking_takes_off() {
+        let plan = plan_a(12);
+        // 1 0 5 5 4 2 6 5 3 is the mark of 5 + 4X + 6Y; 6 + 1 is 7, and two cells are unread
+        let [symbols, masked] = [[6, 1, 5, 0, 255, 6, 2, 4, 255], [0, 1, 3, 5, 255, 1, 1, 2, 255]];
+        let mut cells = symbols;
+        assert_eq!(mask(Code::Mark, &plan, &[5, 4, 6], &mut cells), 0);
+        assert_eq!(cells, masked);
+        assert_eq!(unmask(Code::Mark, &plan, &[5, 4, 6], &mut cells), 0);
+        assert_eq!(cells, symbols);
+        for call in [mask, unmask] {
+            assert_eq!(call(Code::Mark, &plan, &[5, 4, 7], &mut [7; 8]), 6);
+            assert_eq!(call(Code::Mark, &plan, &[5, 4, 7], &mut [7; 9]), 7);
+            assert_eq!(call(Code::Mark, &plan, &[5, 4, 7], &mut cells), 9);
+            assert_eq!(cells, symbols);
         }
     }
 

@@ -18,7 +18,7 @@ pub mod strip;
 pub mod windows;
 
 pub use calendar::{Date, DAYS};
-pub use calls::{check_plan, explain, find_plan, measure, read, widen_plans, write, Reading, Reason};
+pub use calls::{check_plan, explain, find_plan, mask, measure, read, unmask, widen_plans, write, Reading, Reason};
 pub use code::Code;
 pub use plan::{Plan, FINER, OLD_PLAN, PLAN};
 pub use windows::{find_season, Window, Windows, WINDOW};
