@@ -107,7 +107,7 @@ fn outcome<R: Reduction>(call: Call, given: &Arguments) -> Outcome {
             let mut buffer = other.clone();
             Outcome::explained(told(port::explain_mark::<R>(plan, record, symbols, doubts, &mut buffer)), buffer)
         }
-        Call::Check => unreachable!("the ports have no such call"),
+        Call::Check | Call::Mask | Call::Unmask => unreachable!("the ports have no such call"),
     }
 }
 

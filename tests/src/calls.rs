@@ -5,8 +5,8 @@ use crate::library;
 use crate::random::Random;
 use independent::{Code, Reading, Reason};
 
-/// All that a call on a plan can be given. `record` is the given record, or for reading the buffer for one; `other` is the
-/// buffer for another record that explaining takes.
+/// All that a call on a plan can be given. `record` is the given record, or for reading the buffer for one; `symbols` are changed
+/// by masking and unmasking; `other` is the buffer for another record that explaining takes.
 #[derive(Clone, Debug)]
 pub struct Arguments {
     pub code: Code,
@@ -18,6 +18,14 @@ pub struct Arguments {
     pub other: Vec<u8>,
 }
 
+impl Arguments {
+    /// A plan, and no byte beside it.
+    pub fn on_plan(code: Code, plan: &[u8]) -> Arguments {
+        let [record, symbols, doubts, mark, other] = [const { Vec::new() }; 5];
+        Arguments { code, plan: plan.to_vec(), record, symbols, doubts, mark, other }
+    }
+}
+
 /// The calls on a plan.
 #[derive(Clone, Copy, Debug, PartialEq, Eq)]
 pub enum Call {
@@ -26,10 +34,13 @@ pub enum Call {
     Measure,
     Read,
     Explain,
+    Mask,
+    Unmask,
 }
 
 impl Call {
-    pub const ALL: [Call; 5] = [Call::Check, Call::Write, Call::Measure, Call::Read, Call::Explain];
+    pub const ALL: [Call; 7] =
+        [Call::Check, Call::Write, Call::Measure, Call::Read, Call::Explain, Call::Mask, Call::Unmask];
 }
 
 /// What a call answers, and what the buffer that it writes holds afterwards. The number is in the reading, whatever the call;
@@ -56,6 +67,15 @@ impl Outcome {
     pub fn explained(reason: Reason, buffer: Vec<u8>) -> Outcome {
         Outcome { reading: Reading::refused(reason.number), reason, buffer }
     }
+
+    /// Whether it is one that the call writes its buffer with.
+    pub fn is_written(&self, call: Call) -> bool {
+        match call {
+            Call::Check | Call::Measure => false,
+            Call::Explain => self.reason.reason == 2,
+            Call::Write | Call::Read | Call::Mask | Call::Unmask => self.reading.number == 0,
+        }
+    }
 }
 
 /// What document 01 says, by the independent decoder.
@@ -76,16 +96,30 @@ pub fn expected(call: Call, given: &Arguments) -> Outcome {
             let mut buffer = other.clone();
             Outcome::explained(independent::explain(*code, plan, record, symbols, doubts, &mut buffer), buffer)
         }
+        Call::Mask => {
+            let mut buffer = symbols.clone();
+            Outcome::numbered(independent::mask(*code, plan, record, &mut buffer), buffer)
+        }
+        Call::Unmask => {
+            let mut buffer = symbols.clone();
+            Outcome::numbered(independent::unmask(*code, plan, record, &mut buffer), buffer)
+        }
     }
 }
 
 /// Holds the library's outcome against the expected one, and returns it.
 pub fn hold(call: Call, given: &Arguments, random: &mut Random, counts: &mut Counts) -> Result<Outcome, String> {
     let expected = expected(call, given);
-    let outcome = library::outcome(call, given, random).map_err(|what| format!("{call:?} {what}; {given:?}"))?;
+    let outcome = answered(call, given, random, counts)?;
     if outcome != expected {
         return Err(format!("{call:?} gave {outcome:?}, expected {expected:?}; {given:?}"));
     }
+    Ok(outcome)
+}
+
+/// The library's outcome, counted.
+pub fn answered(call: Call, given: &Arguments, random: &mut Random, counts: &mut Counts) -> Result<Outcome, String> {
+    let outcome = library::outcome(call, given, random).map_err(|what| format!("{call:?} {what}; {given:?}"))?;
     counts.answer(call, given, &outcome);
     Ok(outcome)
 }

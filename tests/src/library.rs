@@ -18,6 +18,8 @@ pub fn outcome(call: Call, given: &Arguments, random: &mut Random) -> Result<Out
         Call::Measure => measure(given, random),
         Call::Read => read(given, random),
         Call::Explain => explain(given, random),
+        Call::Mask => mask(given, random),
+        Call::Unmask => unmask(given, random),
     }
 }
 
@@ -31,24 +33,48 @@ fn check(given: &Arguments, random: &mut Random) -> Result<Outcome, String> {
 }
 
 fn write(given: &Arguments, random: &mut Random) -> Result<Outcome, String> {
+    match given.code {
+        Code::Strip => by_record(ffi::traymark_write_strip, traymark::write_strip, given, &given.mark, random),
+        Code::Mark => by_record(ffi::traymark_write_mark, traymark::write_mark, given, &given.mark, random),
+    }
+}
+
+fn mask(given: &Arguments, random: &mut Random) -> Result<Outcome, String> {
+    match given.code {
+        Code::Strip => by_record(ffi::traymark_mask_strip, traymark::mask_strip, given, &given.symbols, random),
+        Code::Mark => by_record(ffi::traymark_mask_mark, traymark::mask_mark, given, &given.symbols, random),
+    }
+}
+
+fn unmask(given: &Arguments, random: &mut Random) -> Result<Outcome, String> {
+    match given.code {
+        Code::Strip => by_record(ffi::traymark_unmask_strip, traymark::unmask_strip, given, &given.symbols, random),
+        Code::Mark => by_record(ffi::traymark_unmask_mark, traymark::unmask_mark, given, &given.symbols, random),
+    }
+}
+
+/// A call that takes a plan, a record and these cells, which it writes.
+fn by_record(
+    by_c: Write,
+    by_rust: WriteSafe,
+    given: &Arguments,
+    cells: &[u8],
+    random: &mut Random,
+) -> Result<Outcome, String> {
     let [plan, record] = [&given.plan, &given.record].map(|bytes| Lent::new(bytes, random));
-    let mut mark = Lent::new(&given.mark, random);
-    let (by_c, by_rust): (Write, WriteSafe) = match given.code {
-        Code::Strip => (ffi::traymark_write_strip, traymark::write_strip),
-        Code::Mark => (ffi::traymark_write_mark, traymark::write_mark),
-    };
+    let mut cells = Lent::new(cells, random);
     let number = {
-        let (plan, record, mark) = (plan.bytes(), record.bytes(), mark.bytes_mut());
-        unsafe { by_c(plan.as_ptr(), plan.len(), record.as_ptr(), record.len(), mark.as_mut_ptr(), mark.len()) }
+        let (plan, record, cells) = (plan.bytes(), record.bytes(), cells.bytes_mut());
+        unsafe { by_c(plan.as_ptr(), plan.len(), record.as_ptr(), record.len(), cells.as_mut_ptr(), cells.len()) }
     };
-    let outcome = Outcome::numbered(number, mark.bytes().to_vec());
-    guarded(&mark)?;
+    let outcome = Outcome::numbered(number, cells.bytes().to_vec());
+    guarded(&cells)?;
     untouched(&[&plan, &record])?;
-    mark.restore();
-    alike(number, number, || refused(by_rust(plan.bytes(), record.bytes(), mark.bytes_mut())))?;
-    guarded(&mark)?;
+    cells.restore();
+    alike(number, number, || refused(by_rust(plan.bytes(), record.bytes(), cells.bytes_mut())))?;
+    guarded(&cells)?;
     untouched(&[&plan, &record])?;
-    same_buffer(&outcome, &mark)?;
+    same_buffer(&outcome, &cells)?;
     Ok(outcome)
 }
 

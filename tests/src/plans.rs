@@ -2,6 +2,7 @@
 
 use crate::random::Random;
 use independent::calls::bytes;
+use independent::plan::is_prime;
 use independent::{Code, Plan, OLD_PLAN};
 use std::sync::LazyLock;
 
@@ -10,6 +11,11 @@ pub type Shape = (u32, usize, usize, usize);
 
 /// The primes of the random plans.
 pub const PRIMES: [u32; 9] = [2, 3, 5, 7, 11, 13, 101, 241, 251];
+
+/// All primes that a plan can have, which are 54.
+pub fn primes() -> impl Iterator<Item = u32> {
+    (2..=251).filter(|&p| is_prime(p)).map(u32::from)
+}
 
 /// p 251: 16 by 16 cells with the lowest, a middle and the highest d, and oblongs about as long.
 pub const LARGE_SQUARES: [Shape; 3] = [(251, 16, 16, 0), (251, 16, 16, 7), (251, 16, 16, 15)];

@@ -6,9 +6,8 @@
 
 use independent::calls::bytes;
 use independent::{Code, Plan, Reading, Reason, UNREAD};
-use traymark_tests::calls::{hold, Arguments, Call, Outcome};
+use traymark_tests::calls::{answered, hold, Arguments, Call, Outcome};
 use traymark_tests::counts::Counts;
-use traymark_tests::library::outcome;
 use traymark_tests::photo::{photograph_in, rival, Photo};
 use traymark_tests::plans;
 use traymark_tests::random::Random;
@@ -72,8 +71,7 @@ fn alike(call: Call, given: &Arguments, random: &mut Random, counts: &mut Counts
     let mut said = Vec::new();
     for age in [0, 0, 1, 1] {
         let given = aged(given, [age, age], random);
-        let outcome = outcome(call, &given, random)?;
-        counts.answer(call, &given, &outcome);
+        let outcome = answered(call, &given, random, counts)?;
         said.push(divided(outcome, TIMES[age].into()).map_err(|what| format!("{call:?} gave {what}; {given:?}"))?);
     }
     if said.iter().any(|outcome| *outcome != said[0]) {

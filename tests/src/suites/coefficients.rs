@@ -1,12 +1,11 @@
 //! Where each coefficient of a record stands: that of X^(k - j) Y^j at k(k + 1)/2 + j of (d + 1)(d + 2)/2 places. One
-//! that is alone is written, measured and read back, for every place, number of rows and of columns and d of p 251. The
-//! points mostly differ each way, so that it shows where X takes a column point or Y a row point.
+//! that is alone is written, put on and taken off as a mask, measured and read back, for every place, number of rows and of
+//! columns and d of p 251. The points mostly differ each way, so that it shows where X takes a column point or Y a row point.
 
 use independent::field::power;
 use independent::{Code, Plan, Reading};
-use traymark_tests::calls::{Arguments, Call, Outcome};
+use traymark_tests::calls::{answered, Arguments, Call, Outcome};
 use traymark_tests::counts::Counts;
-use traymark_tests::library::outcome;
 use traymark_tests::plans;
 use traymark_tests::random::Random;
 
@@ -39,14 +38,17 @@ fn alone(plan: &Plan, k: usize, j: usize, random: &mut Random, counts: &mut Coun
         other: random.bytes(record.len()),
     };
     let to_read = Arguments { record: random.bytes(record.len()), ..given.clone() };
+    let blank = vec![0; mark.len()];
+    let to_mask = Arguments { symbols: blank.clone(), ..given.clone() };
     let clean = Reading { margin: Code::Mark.radius(plan) as i32, ..Reading::default() };
     for (call, given, expected) in [
-        (Call::Write, &given, Outcome::numbered(0, mark)),
+        (Call::Write, &given, Outcome::numbered(0, mark.clone())),
+        (Call::Mask, &to_mask, Outcome::numbered(0, mark)),
+        (Call::Unmask, &given, Outcome::numbered(0, blank)),
         (Call::Measure, &given, Outcome::read(clean, Vec::new())),
         (Call::Read, &to_read, Outcome::read(clean, record)),
     ] {
-        let answer = outcome(call, given, random)?;
-        counts.answer(call, given, &answer);
+        let answer = answered(call, given, random, counts)?;
         if answer != expected {
             return Err(format!("{call:?} gave {answer:?}, expected {expected:?}; {given:?}"));
         }

@@ -4,11 +4,9 @@
 
 use independent::calls::{by_equations, bytes, numbers, SEARCHED};
 use independent::cost::cost;
-use independent::plan::is_prime;
 use independent::{exhaustive, Code, Plan, Reason};
-use traymark_tests::calls::{hold, Arguments, Call, Outcome};
+use traymark_tests::calls::{answered, hold, Arguments, Call, Outcome};
 use traymark_tests::counts::Counts;
-use traymark_tests::library::outcome;
 use traymark_tests::photo::{noise, photograph, rival, Photo};
 use traymark_tests::plans::{self, Shape, LARGE_OBLONGS, LARGE_SQUARES};
 use traymark_tests::random::Random;
@@ -46,10 +44,10 @@ pub fn large_mark(seed: u64, random: &mut Random, counts: &mut Counts) -> Result
 
 /// Every prime, as division differs between them.
 pub fn every_prime(seed: u64, random: &mut Random, counts: &mut Counts) -> Result<(), String> {
-    let primes: Vec<u8> = (2..=251).filter(|&p| is_prime(p)).collect();
+    let primes: Vec<u32> = plans::primes().collect();
     let p = primes[seed as usize % primes.len()];
-    let [rows, columns] = [0, 1].map(|_| random.between(1, p.min(16).into()) as usize);
-    let plan = plans::plan((p.into(), rows, columns, random.below(rows.min(columns))), random);
+    let [rows, columns] = [0, 1].map(|_| random.between(1, p.min(16)) as usize);
+    let plan = plans::plan((p, rows, columns, random.below(rows.min(columns))), random);
     planted(random.pick(&[Code::Strip, Code::Mark]), &plan, random, counts)
 }
 
@@ -151,8 +149,7 @@ fn explained(
     counts: &mut Counts,
 ) -> Result<(), String> {
     let measured = hold(Call::Measure, given, random, counts)?.reading;
-    let outcome = outcome(Call::Explain, given, random)?;
-    counts.answer(Call::Explain, given, &outcome);
+    let outcome = answered(Call::Explain, given, random, counts)?;
     let follows = match read.reading.number {
         0 if measured.margin > 0 => Outcome::explained(Reason::answer(), given.other.clone()),
         0 => Outcome::explained(Reason::other(first_difference(given, plan, read)?), read.buffer.clone()),

@@ -4,9 +4,8 @@
 use independent::calls::bytes;
 use independent::cost::cost;
 use independent::{Code, Plan, Reason};
-use traymark_tests::calls::{Arguments, Call, Outcome};
+use traymark_tests::calls::{answered, Arguments, Call, Outcome};
 use traymark_tests::counts::Counts;
-use traymark_tests::library::outcome;
 use traymark_tests::photo::{agreeing, photograph};
 use traymark_tests::plans::{self, LARGE_OBLONGS, LARGE_SQUARES};
 use traymark_tests::random::Random;
@@ -93,8 +92,7 @@ fn expected_in_turn(
                 mark: Vec::new(),
                 other: random.bytes(record.len()),
             };
-            let outcome = outcome(Call::Explain, &given, random)?;
-            counts.answer(Call::Explain, &given, &outcome);
+            let outcome = answered(Call::Explain, &given, random, counts)?;
             if outcome != explained(reason, answer, &given) {
                 return Err(format!("costs {costs:?}, place {place}, explained {outcome:?}; {given:?}"));
             }

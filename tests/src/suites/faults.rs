@@ -143,11 +143,12 @@ fn photographed(given: &mut Arguments, plan: &Plan, cost: u32, random: &mut Rand
 }
 
 const ON_PLAN: &[Call] = &Call::ALL;
-const ON_RECORD: &[Call] = &[Call::Write, Call::Measure, Call::Read, Call::Explain];
-const ON_PHOTO: &[Call] = &[Call::Measure, Call::Read, Call::Explain];
+const ON_RECORD: &[Call] = &[Call::Write, Call::Measure, Call::Read, Call::Explain, Call::Mask, Call::Unmask];
+const ON_SYMBOLS: &[Call] = &[Call::Measure, Call::Read, Call::Explain, Call::Mask, Call::Unmask];
+const ON_DOUBTS: &[Call] = &[Call::Measure, Call::Read, Call::Explain];
 const ON_MARK: &[Call] = &[Call::Write];
 const ON_OTHER: &[Call] = &[Call::Explain];
-const GIVEN_RECORD: &[Call] = &[Call::Write, Call::Measure, Call::Explain];
+const GIVEN_RECORD: &[Call] = &[Call::Write, Call::Measure, Call::Explain, Call::Mask, Call::Unmask];
 const READING: &[Call] = &[Call::Read];
 
 macro_rules! fault {
@@ -191,12 +192,12 @@ const FAULTS: &[&Fault] = &[
     fault!("column points fall", "column points", 5, ON_PLAN, |g, _, _| g.plan.swap(22, 23)),
     fault!("an unused column point", "unused", 5, ON_PLAN, |g, plan, r| g.plan[22 + plan.columns()] = r.between(1, 255) as u8),
     fault!("the last unused column point", "unused", 5, ON_PLAN, |g, _, _| g.plan[37] = 1),
-    fault!("no symbols", "symbols length", 6, ON_PHOTO, |g, _, _| g.symbols.clear()),
-    fault!("symbols one short", "symbols length", 6, ON_PHOTO, |g, _, _| shorten(&mut g.symbols)),
-    fault!("symbols one long", "symbols length", 6, ON_PHOTO, |g, _, _| g.symbols.push(0)),
-    fault!("no doubts", "doubts length", 6, ON_PHOTO, |g, _, _| g.doubts.clear()),
-    fault!("doubts one short", "doubts length", 6, ON_PHOTO, |g, _, _| shorten(&mut g.doubts)),
-    fault!("doubts one long", "doubts length", 6, ON_PHOTO, |g, _, _| g.doubts.push(0)),
+    fault!("no symbols", "symbols length", 6, ON_SYMBOLS, |g, _, _| g.symbols.clear()),
+    fault!("symbols one short", "symbols length", 6, ON_SYMBOLS, |g, _, _| shorten(&mut g.symbols)),
+    fault!("symbols one long", "symbols length", 6, ON_SYMBOLS, |g, _, _| g.symbols.push(0)),
+    fault!("no doubts", "doubts length", 6, ON_DOUBTS, |g, _, _| g.doubts.clear()),
+    fault!("doubts one short", "doubts length", 6, ON_DOUBTS, |g, _, _| shorten(&mut g.doubts)),
+    fault!("doubts one long", "doubts length", 6, ON_DOUBTS, |g, _, _| g.doubts.push(0)),
     fault!("no record", "record length", 6, ON_RECORD, |g, _, _| g.record.clear()),
     fault!("record one short", "record length", 6, ON_RECORD, |g, _, _| shorten(&mut g.record)),
     fault!("record one long", "record length", 6, ON_RECORD, |g, _, _| g.record.push(0)),
@@ -206,23 +207,23 @@ const FAULTS: &[&Fault] = &[
     fault!("no other", "other length", 6, ON_OTHER, |g, _, _| g.other.clear()),
     fault!("other one short", "other length", 6, ON_OTHER, |g, _, _| shorten(&mut g.other)),
     fault!("other one long", "other length", 6, ON_OTHER, |g, _, _| g.other.push(0)),
-    fault!("symbol p", "a symbol", 7, ON_PHOTO, |g, plan, r| *any(&mut g.symbols, r) = plan.p as u8),
-    fault!("first symbol p", "a symbol", 7, ON_PHOTO, |g, plan, _| g.symbols[0] = plan.p as u8),
-    fault!("last symbol p", "a symbol", 7, ON_PHOTO, |g, plan, _| *last(&mut g.symbols) = plan.p as u8),
-    fault!("symbol 254", "a symbol", 7, ON_PHOTO, |g, _, r| *any(&mut g.symbols, r) = 254),
-    fault!("symbol above p", "a symbol", 7, ON_PHOTO, |g, plan, r| *any(&mut g.symbols, r) = large(plan, r).min(254)),
-    fault!("doubt one above the full", "a doubt", 8, ON_PHOTO, |g, plan, r| *any(&mut g.doubts, r) = full(plan) + 1),
-    fault!("first doubt one above the full", "a doubt", 8, ON_PHOTO, |g, plan, _| g.doubts[0] = full(plan) + 1),
-    fault!("last doubt one above the full", "a doubt", 8, ON_PHOTO, |g, plan, _| *last(&mut g.doubts) = full(plan) + 1),
-    fault!("doubt above the full", "a doubt", 8, ON_PHOTO, |g, plan, r| *any(&mut g.doubts, r) = above_full(plan, r)),
-    fault!("doubt 251", "a doubt", 8, ON_PHOTO, |g, _, r| *any(&mut g.doubts, r) = 251),
-    fault!("doubt 255", "a doubt", 8, ON_PHOTO, |g, _, r| *any(&mut g.doubts, r) = 255),
-    fault!("unread one below the full doubt", "a doubt", 8, ON_PHOTO, |g, plan, r| misdoubted(g, full(plan) - 1, r)),
-    fault!("unread one above the full doubt", "a doubt", 8, ON_PHOTO, |g, plan, r| misdoubted(g, full(plan) + 1, r)),
-    fault!("unread below the full doubt", "a doubt", 8, ON_PHOTO, |g, plan, r| misdoubted(g, below_full(plan, r), r)),
-    fault!("unread with doubt 0", "a doubt", 8, ON_PHOTO, |g, _, r| misdoubted(g, 0, r)),
-    fault!("unread as in the other age", "a doubt", 8, ON_PHOTO, |g, plan, r| misdoubted(g, other_full(plan), r)),
-    fault!("all unread as in the other age", "a doubt", 8, ON_PHOTO, |g, plan, _| all_unread(g, other_full(plan))),
+    fault!("symbol p", "a symbol", 7, ON_SYMBOLS, |g, plan, r| *any(&mut g.symbols, r) = plan.p as u8),
+    fault!("first symbol p", "a symbol", 7, ON_SYMBOLS, |g, plan, _| g.symbols[0] = plan.p as u8),
+    fault!("last symbol p", "a symbol", 7, ON_SYMBOLS, |g, plan, _| *last(&mut g.symbols) = plan.p as u8),
+    fault!("symbol 254", "a symbol", 7, ON_SYMBOLS, |g, _, r| *any(&mut g.symbols, r) = 254),
+    fault!("symbol above p", "a symbol", 7, ON_SYMBOLS, |g, plan, r| *any(&mut g.symbols, r) = large(plan, r).min(254)),
+    fault!("doubt one above the full", "a doubt", 8, ON_DOUBTS, |g, plan, r| *any(&mut g.doubts, r) = full(plan) + 1),
+    fault!("first doubt one above the full", "a doubt", 8, ON_DOUBTS, |g, plan, _| g.doubts[0] = full(plan) + 1),
+    fault!("last doubt one above the full", "a doubt", 8, ON_DOUBTS, |g, plan, _| *last(&mut g.doubts) = full(plan) + 1),
+    fault!("doubt above the full", "a doubt", 8, ON_DOUBTS, |g, plan, r| *any(&mut g.doubts, r) = above_full(plan, r)),
+    fault!("doubt 251", "a doubt", 8, ON_DOUBTS, |g, _, r| *any(&mut g.doubts, r) = 251),
+    fault!("doubt 255", "a doubt", 8, ON_DOUBTS, |g, _, r| *any(&mut g.doubts, r) = 255),
+    fault!("unread one below the full doubt", "a doubt", 8, ON_DOUBTS, |g, plan, r| misdoubted(g, full(plan) - 1, r)),
+    fault!("unread one above the full doubt", "a doubt", 8, ON_DOUBTS, |g, plan, r| misdoubted(g, full(plan) + 1, r)),
+    fault!("unread below the full doubt", "a doubt", 8, ON_DOUBTS, |g, plan, r| misdoubted(g, below_full(plan, r), r)),
+    fault!("unread with doubt 0", "a doubt", 8, ON_DOUBTS, |g, _, r| misdoubted(g, 0, r)),
+    fault!("unread as in the other age", "a doubt", 8, ON_DOUBTS, |g, plan, r| misdoubted(g, other_full(plan), r)),
+    fault!("all unread as in the other age", "a doubt", 8, ON_DOUBTS, |g, plan, _| all_unread(g, other_full(plan))),
     fault!("coefficient p", "a coefficient", 9, GIVEN_RECORD, |g, plan, r| *any(&mut g.record, r) = plan.p as u8),
     fault!("first coefficient p", "a coefficient", 9, GIVEN_RECORD, |g, plan, _| g.record[0] = plan.p as u8),
     fault!("last coefficient p", "a coefficient", 9, GIVEN_RECORD, |g, plan, _| *last(&mut g.record) = plan.p as u8),

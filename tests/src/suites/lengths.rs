@@ -1,4 +1,5 @@
-//! The plan of every length to 80, and every other buffer of every call empty, one short, one long, and far too long.
+//! The plan of every length to 80, and every other buffer of every call empty, one short, one long, and far too long; all also
+//! longer by as much as a byte, two bytes or more don't count.
 
 use super::faults::sound;
 use independent::Code;
@@ -18,6 +19,19 @@ pub fn case(seed: u64, random: &mut Random, counts: &mut Counts) -> Result<(), S
     for choose in [record, symbols, doubts, mark, other] {
         let length = choose(&mut given.clone()).len();
         for wrong in [0, 1, length - 1, length, length + 1, 2 * length, 1000] {
+            resized(&given, choose, wrong, random, counts)?;
+        }
+    }
+    Ok(())
+}
+
+/// Every buffer of every call with a length of which the low byte, or the low two, are those of its own, and with 1 MiB.
+pub fn far(seed: u64, random: &mut Random, counts: &mut Counts) -> Result<(), String> {
+    let code = [Code::Strip, Code::Mark][seed as usize % 2];
+    let (_, given) = sound(code, random);
+    for choose in [plan, record, symbols, doubts, mark, other] {
+        let length = choose(&mut given.clone()).len();
+        for wrong in [length + (1 << 8), length + (1 << 16), 1 << 20] {
             resized(&given, choose, wrong, random, counts)?;
         }
     }

@@ -58,6 +58,7 @@ pub fn all() -> Vec<Suite> {
         Suite { name: "faults-together", cases: 20_000, case: faults::together },
         Suite { name: "faults-in-plans", cases: 300, case: faults::in_plans },
         Suite { name: "lengths", cases: 400, case: lengths::case },
+        Suite { name: "lengths-far", cases: 20, case: lengths::far },
         Suite { name: "rubbish", cases: 20_000, case: rubbish::case },
     ]
 }

@@ -24,7 +24,7 @@ pub fn fields(seed: u64, random: &mut Random, counts: &mut Counts) -> Result<(),
                 };
                 let fields = [random.byte(), random.byte(), p, rows, columns, d];
                 let bytes = [&fields[..], &points(rows), &points(columns), &[0, 0]].concat();
-                hold(Call::Check, &given(bytes), random, counts)?;
+                hold(Call::Check, &Arguments::on_plan(Code::Mark, &bytes), random, counts)?;
             }
         }
     }
@@ -42,16 +42,11 @@ pub fn bytes(seed: u64, random: &mut Random, counts: &mut Counts) -> Result<(), 
         for value in 0..=255 {
             let mut bytes = sound.to_vec();
             bytes[place] = value;
-            let number = hold(Call::Check, &given(bytes), random, counts)?.reading.number;
+            let number = hold(Call::Check, &Arguments::on_plan(Code::Mark, &bytes), random, counts)?.reading.number;
             if place < 2 && number != 0 || place > 37 && (number == 1) != (value != 0) {
                 return Err(format!("byte {place} of {sound:?} set to {value} gave {number}"));
             }
         }
     }
     Ok(())
-}
-
-fn given(plan: Vec<u8>) -> Arguments {
-    let [record, symbols, doubts, mark, other] = [const { Vec::new() }; 5];
-    Arguments { code: Code::Mark, plan, record, symbols, doubts, mark, other }
 }

@@ -119,11 +119,6 @@ fn nines(length: usize) -> Vec<u8> {
     vec![9; length]
 }
 
-fn given(code: Code, plan: &[u8]) -> Arguments {
-    let [record, symbols, doubts, mark, other] = [const { Vec::new() }; 5];
-    Arguments { code, plan: plan.to_vec(), record, symbols, doubts, mark, other }
-}
-
 fn said([cost, margin, changed, unread, class]: [i32; 5]) -> Reading {
     let [cost, changed, unread, class] = [cost, changed, unread, class].map(|number| number as u32);
     Reading { number: 0, cost, margin, changed, unread, class }
@@ -131,7 +126,7 @@ fn said([cost, margin, changed, unread, class]: [i32; 5]) -> Reading {
 
 pub fn check(plan: &[u8], number: u32) -> Row {
     let outcome = Outcome::numbered(number, Vec::new());
-    Row { call: Call::Check, given: given(Code::Mark, plan), outcome }
+    Row { call: Call::Check, given: Arguments::on_plan(Code::Mark, plan), outcome }
 }
 
 pub fn write(code: Code, plan: &[u8], record: &[u8], room: usize, result: Result<&[u8], u32>) -> Row {
@@ -139,15 +134,27 @@ pub fn write(code: Code, plan: &[u8], record: &[u8], room: usize, result: Result
         Ok(mark) => Outcome::numbered(0, mark.to_vec()),
         Err(number) => Outcome::numbered(number, nines(room)),
     };
-    let given = Arguments { record: record.to_vec(), mark: nines(room), ..given(code, plan) };
+    let given = Arguments { record: record.to_vec(), mark: nines(room), ..Arguments::on_plan(code, plan) };
     Row { call: Call::Write, given, outcome }
+}
+
+/// The symbols are masked, and unmasked they are what they were; or both are refused.
+pub fn masks(code: Code, plan: &[u8], record: &[u8], symbols: &[u8], result: Result<&[u8], u32>) -> [Row; 2] {
+    let (number, masked) = match result {
+        Ok(masked) => (0, masked),
+        Err(number) => (number, symbols),
+    };
+    [(Call::Mask, symbols, masked), (Call::Unmask, masked, symbols)].map(|(call, symbols, left)| {
+        let given = Arguments { record: record.to_vec(), symbols: symbols.to_vec(), ..Arguments::on_plan(code, plan) };
+        Row { call, given, outcome: Outcome::numbered(number, left.to_vec()) }
+    })
 }
 
 /// The answer is D, margin, changed, unread and class.
 pub fn measure(code: Code, plan: &[u8], record: &[u8], symbols: &[u8], doubts: &[u8], answer: [i32; 5]) -> Row {
     let outcome = Outcome::read(said(answer), Vec::new());
     let [record, symbols, doubts] = [record, symbols, doubts].map(<[u8]>::to_vec);
-    Row { call: Call::Measure, given: Arguments { record, symbols, doubts, ..given(code, plan) }, outcome }
+    Row { call: Call::Measure, given: Arguments { record, symbols, doubts, ..Arguments::on_plan(code, plan) }, outcome }
 }
 
 /// The record and its answer; or the refusal and the length of the buffer, which is then unchanged.
@@ -160,7 +167,7 @@ pub fn read(code: Code, plan: &[u8], symbols: &[u8], doubts: &[u8], result: Said
     };
     let [symbols, doubts] = [symbols, doubts].map(<[u8]>::to_vec);
     let record = nines(outcome.buffer.len());
-    Row { call: Call::Read, given: Arguments { record, symbols, doubts, ..given(code, plan) }, outcome }
+    Row { call: Call::Read, given: Arguments { record, symbols, doubts, ..Arguments::on_plan(code, plan) }, outcome }
 }
 
 /// What explaining says: of another answer its record and the place, of none the excess.
@@ -180,5 +187,9 @@ pub fn explain(code: Code, plan: &[u8], record: &[u8], symbols: &[u8], doubts: &
         Refused(number) => Outcome::explained(Reason::refused(number), other.clone()),
     };
     let [record, symbols, doubts] = [record, symbols, doubts].map(<[u8]>::to_vec);
-    Row { call: Call::Explain, given: Arguments { record, symbols, doubts, other, ..given(code, plan) }, outcome }
+    Row {
+        call: Call::Explain,
+        given: Arguments { record, symbols, doubts, other, ..Arguments::on_plan(code, plan) },
+        outcome,
+    }
 }

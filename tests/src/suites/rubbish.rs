@@ -9,9 +9,18 @@ use traymark_tests::plans::{plan, shapes};
 use traymark_tests::random::Random;
 
 pub fn case(_: u64, random: &mut Random, counts: &mut Counts) -> Result<(), String> {
+    let given = arguments(random);
+    for call in Call::ALL {
+        hold(call, &given, random, counts)?;
+    }
+    Ok(())
+}
+
+/// Any bytes, for all buffers or for some.
+pub fn arguments(random: &mut Random) -> Arguments {
     let code = random.pick(&[Code::Strip, Code::Mark]);
     let sound = plan(random.pick(shapes()), random);
-    let given = match random.below(4) {
+    match random.below(4) {
         0 => of_any_length(code, random),
         1 => of_right_length(code, &sound, random.bytes(PLAN), random),
         2 => of_right_length(code, &sound, sound.bytes().to_vec(), random),
@@ -20,11 +29,7 @@ pub fn case(_: u64, random: &mut Random, counts: &mut Counts) -> Result<(), Stri
             let [symbols, doubts] = [photo.symbols, photo.doubts].map(|numbers| bytes(&numbers));
             Arguments { symbols, doubts, ..of_right_length(code, &sound, sound.bytes().to_vec(), random) }
         }
-    };
-    for call in Call::ALL {
-        hold(call, &given, random, counts)?;
     }
-    Ok(())
 }
 
 fn of_any_length(code: Code, random: &mut Random) -> Arguments {

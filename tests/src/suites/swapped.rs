@@ -34,12 +34,8 @@ fn alike(plan: &Plan, record: &[u32], random: &mut Random, counts: &mut Counts) 
         let mut back = hold(call, &mirrored, random, counts)?;
         back.reason.place = there.reason.place;
         reverse_groups(plan.degree, &mut back.buffer);
-        let is_written = match call {
-            Call::Read => there.reading.number == 0,
-            _ => there.reason.reason == 2,
-        };
         let same = (there.reading, there.reason) == (back.reading, back.reason);
-        if !same || is_written && there.buffer != back.buffer {
+        if !same || there.is_written(call) && there.buffer != back.buffer {
             return Err(format!("{call:?} gave {there:?}, and exchanged {back:?}; {given:?}"));
         }
     }
