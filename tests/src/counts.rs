@@ -1,7 +1,7 @@
 //! What was seen, so that tests that test nothing show.
 
 use crate::calls::{Arguments, Call, Outcome};
-use independent::plan::is_prime;
+use crate::plans::primes;
 use independent::windows::MOST_WINDOWS;
 use independent::{Code, Date, Plan, Reading, Reason, Windows, FINER};
 use std::collections::BTreeMap;
@@ -46,6 +46,11 @@ pub struct Counts {
     pub first_days: u64,
     pub last_days: u64,
     pub beside: u64,
+    /// records that were masks with every coefficient 0, and with every coefficient p - 1
+    pub masks_of_0: u64,
+    pub fullest_masks: u64,
+    /// cells that were masked: unread; with the symbol 0 and another value; with the value 0; with a sum of p; with 250 and 250
+    pub masked_cells: [u64; 5],
     /// answers by number, and accepted readings and measurements by class
     pub numbers: [u64; 17],
     pub classes: [u64; 4],
@@ -63,6 +68,20 @@ pub struct Age {
     pub around: [u64; 3],
     /// the lowest margin and the highest
     pub margins: [i32; 2],
+    /// photographs read with and without a mask, both with 0 and both with 10: of squares, oblongs and strips
+    pub masked: [[u64; 2]; 3],
+    /// of these that cost R - 1, R and R + 1
+    pub masked_around: [u64; 3],
+}
+
+/// Whether a cost is R - 1, R and R + 1.
+fn around(cost: u32, radius: u32) -> [bool; 3] {
+    [cost + 1 == radius, cost == radius, cost == radius + 1]
+}
+
+/// Adds to each sum what it has more, or one where it was seen.
+fn add_each<const N: usize, A: Into<u64>>(sums: &mut [u64; N], more: [A; N]) {
+    sums.iter_mut().zip(more).for_each(|(sum, n)| *sum += n.into());
 }
 
 /// The lowest margin of all and the highest, in each age.
@@ -84,18 +103,25 @@ impl Age {
         self.calls += other.calls;
         self.readings += other.readings;
         self.misdoubted += other.misdoubted;
-        self.around.iter_mut().zip(other.around).for_each(|(sum, n)| *sum += n);
+        add_each(&mut self.around, other.around);
         self.margin(other.margins);
+        self.masked.iter_mut().zip(other.masked).for_each(|(sums, n)| add_each(sums, n));
+        add_each(&mut self.masked_around, other.masked_around);
     }
 }
 
 impl fmt::Display for Age {
     fn fmt(&self, f: &mut fmt::Formatter<'_>) -> fmt::Result {
-        let Age { calls, readings, misdoubted, around: [below, at, above], margins: [lowest, highest] } = self;
+        let Age { calls, readings, misdoubted, around, margins: [lowest, highest], masked, masked_around } = self;
+        let [read, none] = [0, 1].map(|k| masked.map(|kind| kind[k]));
         write!(
             f,
-            "{calls} calls, {readings} readings, {misdoubted} times 8, cost R - 1, R, R + 1: {below} {at} {above}, \
-             margins {lowest} to {highest}"
+            "{calls} calls, {readings} readings, {misdoubted} times 8, cost R - 1, R, R + 1: {}, \
+             margins {lowest} to {highest}, masked squares, oblongs, strips read: {}, refused with 10: {}, cost as above: {}",
+            list(around),
+            list(&read),
+            list(&none),
+            list(masked_around)
         )
     }
 }
@@ -125,6 +151,10 @@ impl Counts {
                 self.mixed_strips += mixed;
             }
             (Call::Explain, _, 0) => self.reason(given, outcome.reason),
+            (Call::Mask, _, 0) => {
+                let cells = given.symbols.iter().zip(&outcome.buffer);
+                cells.for_each(|(&symbol, &masked)| self.masked_cell(given.plan[2], symbol, masked));
+            }
             _ => (),
         }
         if matches!(call, Call::Measure | Call::Read) && reading.number == 0 {
@@ -149,8 +179,34 @@ impl Counts {
 
     /// What a photograph costs against the mark that it is of.
     pub fn cost(&mut self, plan: &Plan, cost: u32, radius: u32) {
-        let around = [cost + 1 == radius, cost == radius, cost == radius + 1];
-        self.ages[age(plan.season)].around.iter_mut().zip(around).for_each(|(sum, seen)| *sum += u64::from(seen));
+        add_each(&mut self.ages[age(plan.season)].around, around(cost, radius));
+    }
+
+    /// A photograph that costs so much, read with a mask on and without, both with this number.
+    pub fn masked(&mut self, code: Code, plan: &Plan, mask: &[u8], cost: Option<u32>, number: u32) {
+        let kind = match code {
+            Code::Mark => usize::from(plan.rows() != plan.columns()),
+            Code::Strip => 2,
+        };
+        let age = &mut self.ages[age(plan.season)];
+        add_each(&mut age.masked[kind], [number == 0, number == 10]);
+        add_each(&mut age.masked_around, cost.map_or([false; 3], |cost| around(cost, code.radius(plan))));
+        self.masks_of_0 += u64::from(mask.iter().all(|&coefficient| coefficient == 0));
+        self.fullest_masks += u64::from(mask.iter().all(|&coefficient| u32::from(coefficient) + 1 == plan.p));
+    }
+
+    /// A cell before masking and after.
+    fn masked_cell(&mut self, p: u8, symbol: u8, masked: u8) {
+        let value = (i32::from(masked) - i32::from(symbol)).rem_euclid(p.into());
+        let is_read = symbol != 255;
+        let seen = [
+            !is_read,
+            symbol == 0 && value > 0,
+            is_read && value == 0,
+            symbol > 0 && masked == 0,
+            symbol == 250 && value == 250,
+        ];
+        add_each(&mut self.masked_cells, seen);
     }
 
     /// A window file.
@@ -210,8 +266,11 @@ impl Counts {
         self.first_days += other.first_days;
         self.last_days += other.last_days;
         self.beside += other.beside;
-        self.numbers.iter_mut().zip(other.numbers).for_each(|(sum, n)| *sum += n);
-        self.classes.iter_mut().zip(other.classes).for_each(|(sum, n)| *sum += n);
+        self.masks_of_0 += other.masks_of_0;
+        self.fullest_masks += other.fullest_masks;
+        add_each(&mut self.masked_cells, other.masked_cells);
+        add_each(&mut self.numbers, other.numbers);
+        add_each(&mut self.classes, other.classes);
     }
 
     /// What should have been seen and was not.
@@ -249,6 +308,17 @@ impl Counts {
             (self.last_days < 40_000, "fewer than 40,000 last days of windows"),
             (self.beside < 10_000, "fewer than 10,000 days beside a window and in none"),
             (self.numbers[14..].iter().any(|&n| n < 100_000), "fewer than 100,000 refusals of 14, 15 or 16"),
+            (
+                (0..3).any(|kind| (0..2).any(|k| self.few(1_000, |age| age.masked[kind][k]))),
+                "fewer than 1,000 squares, oblongs or strips of one age read with a mask on, or refused with 10",
+            ),
+            (
+                (0..3).any(|k| self.few(1_000, |age| age.masked_around[k])),
+                "few costs around the radius with a mask on in one age",
+            ),
+            (self.masks_of_0 < 1_000, "fewer than 1,000 masks of 0"),
+            (self.fullest_masks < 1_000, "fewer than 1,000 masks with the largest coefficients"),
+            (self.masked_cells.iter().any(|&n| n < 1_000), "fewer than 1,000 masked cells of one kind"),
             (self.numbers.contains(&0), "a number that was never answered"),
             (self.classes.contains(&0), "a class that was never answered"),
         ]
@@ -269,14 +339,16 @@ impl Counts {
 
     /// How many reasons were never given, of all primes.
     fn reasons_unseen(&self) -> usize {
-        let primes = (2..=251).filter(|&p| is_prime(p));
-        primes.flat_map(|p| [1, 2, 3].map(|k| (p, k))).filter(|key| !self.reasons.contains_key(key)).count()
+        primes().flat_map(|p| [1, 2, 3].map(|k| (p as u8, k))).filter(|key| !self.reasons.contains_key(key)).count()
     }
+}
+
+fn list(counts: &[u64]) -> String {
+    counts.iter().map(u64::to_string).collect::<Vec<_>>().join(" ")
 }
 
 impl fmt::Display for Counts {
     fn fmt(&self, f: &mut fmt::Formatter<'_>) -> fmt::Result {
-        let list = |counts: &[u64]| counts.iter().map(u64::to_string).collect::<Vec<_>>().join(" ");
         write!(
             f,
             "{} calls, {} marks, {} of them oblong, {} strips; others exchanged: {}; changed and unread at once: {} {}; \
@@ -284,7 +356,7 @@ impl fmt::Display for Counts {
              both methods: {}; first of several plans: {}, unsound before sound: {}; \
              widened: {}; reasons: {}; other at the first, the last, the latest cell: {} {} {}; excess 0, 1: {} {}; \
              window files with 64, one season twice, touching: {} {} {}; first days, last days, beside a window: {} {} {}; \
-             numbers: {}; classes: {}",
+             masks of 0, of p - 1: {} {}; cells masked unread, 0, by 0, to p, to 500: {}; numbers: {}; classes: {}",
             self.calls,
             self.marks,
             self.oblongs,
@@ -310,6 +382,9 @@ impl fmt::Display for Counts {
             self.first_days,
             self.last_days,
             self.beside,
+            self.masks_of_0,
+            self.fullest_masks,
+            list(&self.masked_cells),
             list(&self.numbers),
             list(&self.classes)
         )

@@ -10,6 +10,7 @@ mod faults;
 mod files;
 mod finer;
 mod lengths;
+mod masks;
 mod plans;
 mod rows;
 mod rubbish;
@@ -17,7 +18,7 @@ mod seasons;
 mod swapped;
 mod widening;
 
-use traymark_tests::plans::{shapes, shapes_of};
+use traymark_tests::plans::{primes, shapes, shapes_of};
 use traymark_tests::run::Suite;
 
 pub fn all() -> Vec<Suite> {
@@ -53,6 +54,11 @@ pub fn all() -> Vec<Suite> {
         Suite { name: "season-bytes", cases: seasons::files::PLACES, case: seasons::files::bytes },
         Suite { name: "season-lengths", cases: seasons::files::LENGTHS, case: seasons::files::lengths },
         Suite { name: "season-faults", cases: 100, case: seasons::faults::case },
+        Suite { name: "masks", cases: masks::documented::CASES, case: masks::documented::case },
+        Suite { name: "mask-values", cases: primes().count() as u64, case: masks::cells::values },
+        Suite { name: "mask-undone", cases: 20_000, case: masks::cells::undone },
+        Suite { name: "masked", cases: shapes, case: masks::photographs::masked },
+        Suite { name: "printed", cases: shapes, case: masks::photographs::printed },
         Suite { name: "faults-alone", cases: 1_000, case: faults::alone },
         Suite { name: "faults-largest", cases: 140, case: faults::largest },
         Suite { name: "faults-together", cases: 20_000, case: faults::together },
