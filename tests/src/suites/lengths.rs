@@ -1,5 +1,5 @@
-//! The plan of every length to 80, and every other buffer of every call empty, one short, one long, and far too long; all also
-//! longer by as much as a byte, two bytes or more don't count.
+//! The plan of every length to 80, and every other buffer of every call empty, one short, one long, and far too long; all of them
+//! also longer by 256 and by 65,536, which a length in one byte or in two would not show, and 1 MiB long.
 
 use super::faults::sound;
 use independent::Code;
@@ -25,7 +25,7 @@ pub fn case(seed: u64, random: &mut Random, counts: &mut Counts) -> Result<(), S
     Ok(())
 }
 
-/// Every buffer of every call with a length of which the low byte, or the low two, are those of its own, and with 1 MiB.
+/// Lengths whose low byte, or low two bytes, are those of the right one, and 1 MiB.
 pub fn far(seed: u64, random: &mut Random, counts: &mut Counts) -> Result<(), String> {
     let code = [Code::Strip, Code::Mark][seed as usize % 2];
     let (_, given) = sound(code, random);

@@ -151,14 +151,15 @@ impl Trial<'_> {
         Ok(plain)
     }
 
-    /// Under the radius the tray's own record comes back, at its cost, and at the radius none does.
+    /// Under the radius the tray's own record comes back, at its cost, and at the radius none does; a photograph is never refused
+    /// but with 10.
     fn theory(&self, read: &Outcome) -> Result<(), String> {
         let radius = self.code.radius(self.plan);
         let reading = read.reading;
         let holds = match self.cost {
             Some(cost) if cost < radius => (reading.number, reading.cost, &read.buffer) == (0, cost, &self.record),
             Some(cost) if cost == radius => reading.number == 10,
-            _ => true,
+            _ => matches!(reading.number, 0 | 10),
         };
         match holds {
             true => Ok(()),
