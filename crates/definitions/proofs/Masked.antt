@@ -5,6 +5,7 @@
 --   value-plus          the values of a record plus another
 --   masked-mark         a mark with another put on it is the mark of the sum of their records
 --   masked-reads        its reading is the former one with the record plus the other
+--   unmasked-reads      so a photograph is read as its unmasked symbols are, but for the record
 --
 -- What this file is for: request 9, from the definition of reading alone: what a record costs of a photograph, that record plus Q
 -- costs of the masked one, so the nearest ones are the same up to Q. Assumes nothing.
@@ -66,6 +67,7 @@ masked-cells C P Q s e =
     record {
       added = rw (← mask-fills C P Q s on refl e) (cells-added m);
       taken = rw (← mask-fills C P Q s off refl e) (rw (masked-back m off) at (cells-added (masked-fits m off)));
+      whole = λ W. rw (← mask-fills C P Q s W refl e) (masked-fits m W .whole);
       symbols = λ W. rw (← mask-fills C P Q s W refl e) (masked-fits m W .symbol);
     }
 
@@ -271,3 +273,21 @@ module _ {P : List ℕ} (S : Sound P) (C : Code) where
           go : (o : Option (List ℕ)) → SearchSays p (size C P) (within C P s u) o → MaskedReads C P Q s s′ u B B′
           go (some F) (f, t) = near F f (within-cost C P s u F t)
           go none h = far λ F f. without-cost C P s u F (h F f)
+
+-- a photograph t, and what unmasking it leaves
+pub unmasked-reads : (C : Code) (P Q t u B B′ : List ℕ) → Photograph C P t u → IsRecord C P Q → length B ≡ size C P →
+    length B′ ≡ size C P → MaskedReads C P Q (maskBuffer off C P Q t) t u B B′
+unmasked-reads C P Q t u B B′ photo given room room′ = masked-reads (photo .sound) C unmasked given (left .taken) B B′ room room′
+  where
+    left : Masked C P Q t
+    left = masked-cells C P Q t (masking-accepted C P Q t
+        (record { sound = photo .sound; given = given; whole = photo .symbols; symbol = photo .symbol }))
+
+    unmasked : Photograph C P (maskBuffer off C P Q t) u
+    unmasked = record {
+      sound = photo .sound;
+      symbols = left .whole off;
+      doubts = photo .doubts;
+      symbol = left .symbols off;
+      doubt = λ c l. (photo .doubt c l .0, λ e. photo .doubt c l .1 (left .taken .unread c l e));
+    }

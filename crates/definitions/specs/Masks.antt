@@ -8,8 +8,8 @@
 --                           into B, and the record plus Q; 10 stays 10, and there is no other number
 --   MaskExactly C P Q s     under a sound plan masking and unmasking give 6 where a length is wrong, else 7 where a symbol is,
 --                           else 9 where Q is no record of the plan, else 0
---   Masked C P Q s          what an accepted call leaves: after masking, s with the mark of Q added; after unmasking, symbols of
---                           the plan to which the mark of Q has to be added for s
+--   Masked C P Q s          what an accepted call leaves: after masking, s with the mark of Q added; after unmasking, what gives
+--                           s when the mark of Q is added; either way symbols of the plan, one for each cell
 --   Undone C P Q s          unmasking what was masked gives the bytes s back, masking what was unmasked too, and both calls have
 --                           one number
 --
@@ -62,6 +62,7 @@ pub record MaskExactly (C : Code) (P Q s : List ℕ) : Type 0 where
 pub record Masked (C : Code) (P Q s : List ℕ) : Type 0 where
   pub added : Added C P Q s (maskBuffer on C P Q s)
   pub taken : Added C P Q (maskBuffer off C P Q s) s
+  pub whole : (W : Way) → length (maskBuffer W C P Q s) ≡ cells C P
   pub symbols : (W : Way) → SymbolsFit C P (maskBuffer W C P Q s)
 
 -- whatever the bytes are: of refused ones nothing is changed, and the second call refuses them too

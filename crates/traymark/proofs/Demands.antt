@@ -22,7 +22,7 @@
 --   shared-exactly                       what it means that two windows meet by their end days
 --   real-exactly, year-days, dates-in-order, next-day
 --                                        the calendar
---   masked-reads                         document 02, request 9: the reading of a masked photograph
+--   masked-reads, unmasked-reads         document 02, request 9: the reading of a masked photograph, and of an unmasked one
 --   masks-exactly, masked-cells           which number masking and unmasking give, and what they leave in each cell
 --   mask-undone, masked-mark            that each undoes the other, and what a masked mark is
 --   groups-fill                          document 02, request 4: where the coefficients of a record stand
@@ -52,7 +52,7 @@ use Rattle.definitions.specs.Code.{Code, size, cells, value, mark, IsRecord}
 use Rattle.definitions.specs.Cost.{full}
 use Rattle.definitions.specs.Calls.{photoRows, readingOf, writeRows, writeNumber, writeBuffer}
 use Rattle.definitions.specs.Calls.{measureRows, measureNumber, measureReading, readRows, readNumber, readReading, readBuffer}
-use Rattle.definitions.specs.Masking.{on, maskRows, maskNumber, maskBuffer}
+use Rattle.definitions.specs.Masking.{on, off, maskRows, maskNumber, maskBuffer}
 use Rattle.definitions.specs.Masks.{Added, plus, MaskedReads, MaskExactly, Masked, Undone}
 use Rattle.definitions.specs.Explaining.{explainRows, explainNumber, explainReason, explainBuffer, valuesOf}
 use Rattle.definitions.specs.Finder.{findRows, findNumber}
@@ -331,6 +331,12 @@ next-day = calendar.next-day
 pub masked-reads : (C : Code) (P Q s s′ u B B′ : List ℕ) → Photograph C P s u → IsRecord C P Q → Added C P Q s s′ →
     length B ≡ size C P → length B′ ≡ size C P → MaskedReads C P Q s s′ u B B′
 masked-reads C P Q s s′ u B B′ photo given added = masked.masked-reads (photo .sound) C photo given added B B′
+
+-- So the station unmasks the symbols t of a photograph and reads them: the record is that of t less Q, with the same cost,
+-- margin, changed and unread count and class; and it is 10 exactly when reading t is.
+pub unmasked-reads : (C : Code) (P Q t u B B′ : List ℕ) → Photograph C P t u → IsRecord C P Q → length B ≡ size C P →
+    length B′ ≡ size C P → MaskedReads C P Q (maskBuffer off C P Q t) t u B B′
+unmasked-reads = masked.unmasked-reads
 
 -- Under a sound plan masking and unmasking give 6 where a length is wrong, else 7 where a symbol is, else 9 where Q is no record,
 -- else 0.
