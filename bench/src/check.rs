@@ -1,12 +1,14 @@
-//! The ports held against the tests' decoder: cheap random plans and photographs, and faults in what is lent; and against the
-//! tests' calendar: random window files, and dates in and beside their windows.
+//! The ports held against the tests' decoder: cheap random plans and photographs, and faults in what is lent; those of masking
+//! against it and against the library; and against the tests' calendar: random window files, and dates in and beside their
+//! windows.
 
+use crate::masks::Shift;
 use crate::port::{self, Plain, Reduction, Tuned};
 use independent::calls::bytes;
 use independent::windows::window_bytes;
 use independent::{Code, Date, Plan, Windows, DAYS};
 use traymark::Refusal;
-use traymark_tests::calls::{expected, Arguments, Call, Outcome};
+use traymark_tests::calls::{expected, hold, Arguments, Call, Outcome};
 use traymark_tests::counts::Counts;
 use traymark_tests::library::{answered, told};
 use traymark_tests::photo::{noise, photograph, rival, unread};
@@ -21,6 +23,9 @@ pub const SUITES: [Suite; 2] = [
     Suite { name: "ports from season 30 on", cases: 7_000, case: |seed, random, counts| case(1, seed, random, counts) },
 ];
 
+/// Marks and strips masked and unmasked.
+pub const MASKS: Suite = Suite { name: "ports of masking", cases: 7_000, case: mask_case };
+
 /// The season of a date.
 pub const SEASONS: Suite = Suite { name: "port of the season of a date", cases: 7_000, case: season_case };
 
@@ -29,25 +34,46 @@ fn case(age: usize, seed: u64, random: &mut Random, counts: &mut Counts) -> Resu
     let shapes = plans::shapes();
     let plan = plans::plan(shapes[seed as usize % shapes.len()], random);
     let plan = Plan { season: plans::seasons(random)[age], ..plan };
-    let mut given = arguments(&plan, random);
+    let mut given = arguments(Code::Mark, &plan, random);
     if random.one_in(4) {
         spoil(&mut given, random);
     }
     for call in [Call::Write, Call::Measure, Call::Read, Call::Explain] {
         let expected = expected(call, &given);
-        for (name, outcome) in [("plain", outcome::<Plain>(call, &given)), ("tuned", outcome::<Tuned>(call, &given))] {
-            if outcome != expected {
-                return Err(format!("{name} {call:?} gave {outcome:?}, expected {expected:?}; {given:?}"));
-            }
-        }
+        ports_give(call, &given, &expected)?;
         counts.answer(call, &given, &expected);
     }
     Ok(())
 }
 
+/// One plan, and a mark or a strip of it; every fourth time something lent is spoiled. The library is held against the tests'
+/// decoder, and the ports against the library.
+fn mask_case(seed: u64, random: &mut Random, counts: &mut Counts) -> Result<(), String> {
+    let shapes = plans::shapes();
+    let plan = plans::plan(shapes[seed as usize % shapes.len()], random);
+    let mut given = arguments(random.pick(&[Code::Mark, Code::Strip]), &plan, random);
+    if random.one_in(4) {
+        spoil(&mut given, random);
+    }
+    for call in [Call::Mask, Call::Unmask] {
+        let outcome = hold(call, &given, random, counts)?;
+        ports_give(call, &given, &outcome)?;
+    }
+    Ok(())
+}
+
+/// Both ports have this outcome.
+fn ports_give(call: Call, given: &Arguments, expected: &Outcome) -> Result<(), String> {
+    for (name, outcome) in [("plain", outcome::<Plain>(call, given)), ("tuned", outcome::<Tuned>(call, given))] {
+        if outcome != *expected {
+            return Err(format!("{name} {call:?} gave {outcome:?}, expected {expected:?}; {given:?}"));
+        }
+    }
+    Ok(())
+}
+
 /// A record, or a rival of it, and a photograph that costs about the radius, or one of nothing, or one with all cells unread.
-fn arguments(plan: &Plan, random: &mut Random) -> Arguments {
-    let code = Code::Mark;
+fn arguments(code: Code, plan: &Plan, random: &mut Random) -> Arguments {
     let record = plans::record(code, plan, random);
     let records = [rival(code, plan, &record, random), record];
     let [rival, word] = records.each_ref().map(|record| code.word(plan, record));
@@ -91,7 +117,7 @@ fn spoil(given: &mut Arguments, random: &mut Random) {
 
 /// What a port answers, and what the buffer that it writes holds afterwards.
 fn outcome<R: Reduction>(call: Call, given: &Arguments) -> Outcome {
-    let Arguments { plan, record, symbols, doubts, mark, other, .. } = given;
+    let Arguments { code, plan, record, symbols, doubts, mark, other } = given;
     match call {
         Call::Write => {
             let mut buffer = mark.clone();
@@ -107,8 +133,21 @@ fn outcome<R: Reduction>(call: Call, given: &Arguments) -> Outcome {
             let mut buffer = other.clone();
             Outcome::explained(told(port::explain_mark::<R>(plan, record, symbols, doubts, &mut buffer)), buffer)
         }
-        Call::Check | Call::Mask | Call::Unmask => unreachable!("the ports have no such call"),
+        Call::Mask => masked(*code, [port::mask_mark::<R>, port::mask_strip::<R>], given),
+        Call::Unmask => masked(*code, [port::unmask_mark::<R>, port::unmask_strip::<R>], given),
+        Call::Check => unreachable!("the ports have no such call"),
     }
+}
+
+/// What the call for marks or the one for strips answers, and what it leaves of the symbols.
+fn masked(code: Code, [of_mark, of_strip]: [Shift; 2], given: &Arguments) -> Outcome {
+    let call = match code {
+        Code::Mark => of_mark,
+        Code::Strip => of_strip,
+    };
+    let mut buffer = given.symbols.clone();
+    let number = call(&given.plan, &given.record, &mut buffer).map_or_else(Refusal::number, |()| 0);
+    Outcome::numbered(number, buffer)
 }
 
 /// The ends of the calendar, and days that some years have, with the dates next to them.

@@ -1,10 +1,10 @@
 //! Times of the proved library beside those of its method in plain Rust and of the tests' decoder, all in one run and
-//! over the same streams of distinct marks; and of finding the season of a date, beside plain Rust.
+//! over the same streams of distinct marks; and of masking and unmasking and of finding the season of a date, beside plain Rust.
 //!
 //! - `bench [N]` prints the tables and whether the targets are met; of each stream it takes at most N marks or dates.
-//! - `bench check` holds the ports in Rust against the tests' decoder and calendar.
+//! - `bench check` holds the ports in Rust against the tests' decoder and calendar; those of masking against the library too.
 //! - `bench profile P ROWS COLUMNS D KIND COUNT` runs the library alone, on COUNT marks of a line of season 12, for a profiler.
-//!   KIND is clean, errors, doubts, rivals or noise for reading such marks, or write, measure or explain.
+//!   KIND is clean, errors, doubts, rivals or noise for reading such marks, or write, measure, explain, mask or unmask.
 //!
 //! Each line of the first table is a plan and a stream: the microseconds of the median mark, each mark by its least time of
 //! several rounds, by the library, by the port with division (`plain`), by the port with the reciprocal (`tuned`) and by
@@ -12,10 +12,12 @@
 //! the library reads, with how many of the plan's clean marks it lasts. Absolute times move with the machine; compare
 //! those of one run. All is of season 12, with doubts in 100ths, but for one line of season 30, in 250ths, which says so.
 //!
-//! Each line of the second is a kind of window file and date, with the microseconds of a call, of the median batch of calls.
+//! Each line of the second is a plan, for marks or for strips, and whether they are masked or unmasked; each line of the third
+//! is a kind of window file and date. Both have the microseconds of a call, of the median batch of calls.
 
 mod check;
 mod contender;
+mod masks;
 mod port;
 mod question;
 mod stream;
@@ -23,13 +25,16 @@ mod table;
 mod timing;
 
 use contender::{Call, Contender, EQUATIONS, LIBRARY, MARKS, PLAIN, TUNED};
-use question::{Question, BATCH, FINDERS};
+use independent::Code;
+use masks::{Masking, Way};
+use question::{Question, FINDERS};
 use std::hint::black_box;
 use std::iter;
 use std::process::ExitCode;
 use std::str::FromStr;
 use stream::{Kind, Mark, FINER_SEASON, SEASON};
-use table::{Line, SeasonLine};
+use table::{Line, MaskLine, SeasonLine};
+use timing::BATCH;
 use traymark_tests::plans::Shape;
 use traymark_tests::run::{run, Suite};
 
@@ -90,6 +95,8 @@ fn number<T: FromStr>(word: &str) -> Result<T, String> {
 fn compare(number: usize) -> Result<(), String> {
     compare_marks(number);
     println!();
+    compare_masks(number);
+    println!();
     compare_seasons(number);
     Ok(())
 }
@@ -101,7 +108,7 @@ fn compare_marks(number: usize) {
     for shape in PLANS {
         let mut clean = None;
         for (season, call, kind) in lines_of(shape) {
-            let marks = stream::marks(season, shape, kind, number);
+            let marks = stream::marks(Code::Mark, season, shape, kind, number);
             agree(&marks, call);
             let streams = CONTENDERS.each_ref().map(|contender| &marks[..contender.marks.min(marks.len())]);
             let mut times = timing::times(streams, |contender, mark| CONTENDERS[contender].call(call, mark));
@@ -114,6 +121,24 @@ fn compare_marks(number: usize) {
         }
     }
     table::print_targets(&lines);
+}
+
+/// Masking and unmasking, marks and strips.
+fn compare_masks(number: usize) {
+    table::print_mask_head();
+    let maskings = masks::PLANS.into_iter().flat_map(|(code, shape)| Way::ALL.map(|way| Masking { code, shape, way }));
+    let lines = maskings.map(|masking| {
+        let marks = masking.marks(number);
+        marks.iter().for_each(|mark| agree_on_mask(masking, mark));
+        let calls = masking.calls();
+        let batches: Vec<&[Mark]> = marks.chunks(BATCH).collect();
+        let mut times = timing::times([&batches[..]; 3], |contender, batch| masks::run(calls[contender], batch));
+        let [library, plain, tuned] = times.each_mut().map(|times| times.median() / BATCH as f64);
+        let line = MaskLine { masking, library, plain, tuned };
+        line.print();
+        line
+    });
+    table::print_mask_target(&lines.collect::<Vec<MaskLine>>());
 }
 
 /// The season of a date, by all kinds of window files.
@@ -151,16 +176,37 @@ fn agree(marks: &[Mark], call: Call) {
     }
 }
 
+/// The library and the ports mask or unmask the mark, to the same symbols.
+fn agree_on_mask(masking: Masking, mark: &Mark) {
+    let [library, plain, tuned] = masking.calls().map(|call| masks::left(call, mark));
+    assert_eq!(library.0, Ok(()), "the library: {masking:?} {mark:?}");
+    assert_eq!(plain, library, "{} and the library: {masking:?} {mark:?}", PLAIN.name);
+    assert_eq!(tuned, library, "{} and the library: {masking:?} {mark:?}", TUNED.name);
+}
+
 /// The library and the port find the same season, or none alike.
 fn agree_on(question: &Question) {
     let [library, plain] = FINDERS.map(|find| question.ask(find));
     assert_eq!(plain, library, "{} and the library: {question:?}", PLAIN.name);
 }
 
-/// Holds the ports against the tests' decoder, for the seasons before 30 and for those from 30 on, and against their calendar.
+/// Holds the ports against the tests' decoder, for the seasons before 30 and for those from 30 on, those of masking against that
+/// and the library, and that of the season of a date against the tests' calendar.
 fn check() -> Result<(), String> {
     check::SUITES.into_iter().try_for_each(check_suite)?;
+    check_masks(check::MASKS)?;
     check_seasons(check::SEASONS)
+}
+
+fn check_masks(suite: Suite) -> Result<(), String> {
+    let name = suite.name;
+    let counts = run(&[suite]).map_err(|failures| failures.join("\n"))?;
+    let numbers = [0, 1, 2, 3, 13, 4, 5, 6, 7, 9].map(|number| counts.numbers[number]);
+    if numbers.contains(&0) {
+        return Err(format!("a number that was never answered: {numbers:?}"));
+    }
+    println!("{name}: ok: {} calls, {} of them not refused", counts.calls, numbers[0]);
+    Ok(())
 }
 
 fn check_seasons(suite: Suite) -> Result<(), String> {
@@ -196,6 +242,12 @@ fn check_suite(suite: Suite) -> Result<(), String> {
 /// The library works on the marks of one line of season 12.
 fn profile([p, rows, columns, d]: [&str; 4], word: &str, count: &str) -> Result<(), String> {
     let shape = (number(p)?, number(rows)?, number(columns)?, number(d)?);
+    if let Some(way) = Way::ALL.into_iter().find(|way| way.name() == word) {
+        let masking = Masking { code: Code::Mark, shape, way };
+        let [library, ..] = masking.calls();
+        masks::run(library, &masking.marks(number(count)?)[..number(count)?]);
+        return Ok(());
+    }
     let named = |&(call, kind): &(Call, Kind)| match call {
         Call::Read => kind.name() == word,
         Call::Write => word == "write",
@@ -203,7 +255,7 @@ fn profile([p, rows, columns, d]: [&str; 4], word: &str, count: &str) -> Result<
         Call::Explain => word == "explain",
     };
     let (call, kind) = CALLS.into_iter().find(named).ok_or(USAGE)?;
-    for mark in stream::marks(SEASON, shape, kind, number(count)?) {
+    for mark in stream::marks(Code::Mark, SEASON, shape, kind, number(count)?) {
         black_box(LIBRARY.call(call, black_box(&mark)));
     }
     Ok(())

@@ -1,6 +1,7 @@
 //! Streams of distinct questions for the season of a date, each with a window file of its own.
 
 use crate::port;
+use crate::timing::BATCH;
 use independent::{Date, Window, DAYS};
 use std::array::from_fn;
 use std::collections::BTreeSet;
@@ -12,9 +13,6 @@ pub type Find = fn(&[u8], u32, u32, u32) -> Result<u16, Refusal>;
 
 /// Who is timed: the proved library, and the port.
 pub static FINDERS: [Find; 2] = [traymark::find_season, port::find_season];
-
-/// How many questions are timed as one: to look at the clock takes as long as a call on a small file.
-pub const BATCH: usize = 10;
 
 /// How many windows the file has, and whether its last window has the date or none has it.
 #[derive(Clone, Copy)]

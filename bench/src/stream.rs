@@ -1,4 +1,4 @@
-//! Streams of distinct marks: repeating one mark would hide mispredicted branches.
+//! Streams of distinct marks, or strips: repeating one mark would hide mispredicted branches.
 
 use independent::calls::bytes;
 use independent::{Code, Plan, PLAN};
@@ -52,19 +52,19 @@ impl Kind {
     }
 }
 
-/// So many marks of one plan, of this season. A square has the same points each way, as every plan that was widened.
-pub fn marks(season: u16, shape: Shape, kind: Kind, number: usize) -> Vec<Mark> {
+/// So many marks or strips of one plan, of this season. A square has the same points each way, as every plan that was widened.
+pub fn marks(code: Code, season: u16, shape: Shape, kind: Kind, number: usize) -> Vec<Mark> {
     let random = &mut Random::new(kind as u64);
     let plan = match shape {
         (p, rows, columns, d) if rows == columns => plans::square(p, rows, d, random),
         _ => plans::plan(shape, random),
     };
     let plan = Plan { season, ..plan };
-    let radius = Code::Mark.radius(&plan);
+    let radius = code.radius(&plan);
     let mut mark = || {
-        let record = plans::record(Code::Mark, &plan, random);
-        let rival = rival(Code::Mark, &plan, &record, random);
-        let [word, rival_word] = [&record, &rival].map(|record| Code::Mark.word(&plan, record));
+        let record = plans::record(code, &plan, random);
+        let rival = rival(code, &plan, &record, random);
+        let [word, rival_word] = [&record, &rival].map(|record| code.word(&plan, record));
         let mut photo = |cost: u32, place: Place, harm: Harm| {
             let damage = Damage { place, harm, towards_rival: matches!(kind, Kind::Rivals) };
             damaged(&plan, &word, &rival_word, cost, damage, random)
@@ -74,7 +74,7 @@ pub fn marks(season: u16, shape: Shape, kind: Kind, number: usize) -> Vec<Mark> 
             Kind::Errors => photo(radius / 2, Place::Anywhere, Harm::Error),
             Kind::Doubts => photo(radius - 1, Place::Anywhere, Harm::Any),
             Kind::Rivals => photo(radius - 1, Place::Rows, Harm::Error),
-            Kind::Noise => noise(Code::Mark, &plan, random),
+            Kind::Noise => noise(code, &plan, random),
         };
         Mark {
             plan: plan.bytes(),

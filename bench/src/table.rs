@@ -1,8 +1,11 @@
-//! The tables, a line for each plan and stream and one for each kind of window file, and whether they meet the targets.
+//! The tables, a line for each plan and stream, one for each kind of masking and one for each kind of window file, and whether
+//! they meet the targets.
 
 use crate::contender::{Call, EQUATIONS, LIBRARY, PLAIN, TUNED};
+use crate::masks::Masking;
 use crate::question;
 use crate::stream::{Kind, SEASON};
+use independent::Code;
 use traymark_tests::plans::Shape;
 
 /// A plan and a stream, with the median microseconds of each contender.
@@ -21,8 +24,20 @@ pub struct Line {
     pub clean: f64,
 }
 
+/// The head of a column with ratios to the library's times.
+fn over(name: &str) -> String {
+    format!("{name}/lib")
+}
+
+/// A plan of that shape.
+fn described(shape: Shape) -> String {
+    match shape {
+        (p, rows, columns, d) if rows == columns => format!("p {p} n {rows} d {d}"),
+        (p, rows, columns, d) => format!("p {p} {rows} by {columns} d {d}"),
+    }
+}
+
 pub fn print_head() {
-    let over = |name: &str| format!("{name}/lib");
     println!(
         "{:<24} {:<35} {:>9} {:>9} {:>9} {:>9} {:>9} {:>9} {:>13} {:>9} {:>13}",
         "plan",
@@ -52,10 +67,7 @@ impl Line {
 
     /// The season is said where it is another than that of most lines.
     fn plan(&self) -> String {
-        let shape = match self.shape {
-            (p, rows, columns, d) if rows == columns => format!("p {p} n {rows} d {d}"),
-            (p, rows, columns, d) => format!("p {p} {rows} by {columns} d {d}"),
-        };
+        let shape = described(self.shape);
         match self.season {
             SEASON => shape,
             season => format!("{shape} season {season}"),
@@ -145,6 +157,52 @@ fn print_target(says: &str, missed: Vec<(String, f64)>) {
     }
 }
 
+/// A kind of masking, with the median microseconds of each contender.
+pub struct MaskLine {
+    pub masking: Masking,
+    pub library: f64,
+    pub plain: f64,
+    pub tuned: f64,
+}
+
+pub fn print_mask_head() {
+    println!(
+        "{:<34} {:>9} {:>9} {:>9} {:>9} {:>9}",
+        "masking",
+        LIBRARY.name,
+        PLAIN.name,
+        TUNED.name,
+        over(PLAIN.name),
+        over(TUNED.name)
+    );
+}
+
+impl MaskLine {
+    pub fn print(&self) {
+        let MaskLine { library, plain, tuned, .. } = self;
+        print!("{:<34} {library:>9.3} {plain:>9.3} {tuned:>9.3}", self.what());
+        println!(" {:>9.2} {:>9.2}", self.plain_ratio(), tuned / library);
+    }
+
+    fn what(&self) -> String {
+        let Masking { code, shape, way } = self.masking;
+        let what = match code {
+            Code::Mark => "a mark",
+            Code::Strip => "a strip",
+        };
+        format!("{} {} {what}", described(shape), way.name())
+    }
+
+    fn plain_ratio(&self) -> f64 {
+        self.plain / self.library
+    }
+}
+
+pub fn print_mask_target(lines: &[MaskLine]) {
+    let missed = lines.iter().filter(|line| line.plain_ratio() < 1.0);
+    print_target(NO_LONGER, missed.map(|line| (line.what(), line.plain_ratio())).collect());
+}
+
 /// A kind of window file and date, with the median microseconds of each contender.
 pub struct SeasonLine {
     pub kind: question::Kind,
@@ -153,13 +211,7 @@ pub struct SeasonLine {
 }
 
 pub fn print_season_head() {
-    println!(
-        "{:<34} {:>9} {:>9} {:>9}",
-        "the season of a date",
-        LIBRARY.name,
-        PLAIN.name,
-        format!("{}/lib", PLAIN.name)
-    );
+    println!("{:<34} {:>9} {:>9} {:>9}", "the season of a date", LIBRARY.name, PLAIN.name, over(PLAIN.name));
 }
 
 impl SeasonLine {

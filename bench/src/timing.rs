@@ -3,6 +3,9 @@
 use std::hint::black_box;
 use std::time::{Duration, Instant};
 
+/// How many short calls are timed as one: to look at the clock takes as long as the shortest, on a small window file or a strip.
+pub const BATCH: usize = 10;
+
 /// How often a stream is gone through after the round that warms up.
 const ROUNDS: usize = 9;
 

@@ -18,15 +18,21 @@ pub fn lengths(lengths: &[(usize, usize)]) -> Result<(), Refusal> {
 /// Refusals 6, 7 and 8 of a photograph with a record or the buffer for one.
 pub fn photograph<R: Reduction>(plan: &Plan<R>, symbols: &[u8], doubts: &[u8], record: usize) -> Result<(), Refusal> {
     lengths(&[(symbols.len(), plan.cells()), (doubts.len(), plan.cells()), (record, plan.size())])?;
-    let p = plan.field.p as u8;
-    if any(symbols.iter().map(|&symbol| (symbol >= p) & (symbol != UNREAD))) {
-        return Err(Refusal::Symbol);
-    }
+    self::symbols(plan, symbols)?;
     let full = plan.full as u8;
     if any(symbols.iter().zip(doubts).map(|(&symbol, &doubt)| (doubt > full) | (symbol == UNREAD) & (doubt != full))) {
         return Err(Refusal::Doubt);
     }
     Ok(())
+}
+
+/// Refusal 7.
+pub fn symbols<R: Reduction>(plan: &Plan<R>, symbols: &[u8]) -> Result<(), Refusal> {
+    let p = plan.field.p as u8;
+    match any(symbols.iter().map(|&symbol| (symbol >= p) & (symbol != UNREAD))) {
+        true => Err(Refusal::Symbol),
+        false => Ok(()),
+    }
 }
 
 /// Refusal 9.

@@ -102,6 +102,15 @@ impl<R: Reduction> Field<R> {
         self.product(self.p - a, inverses[usize::from(b)])
     }
 
+    /// a + b.
+    pub fn sum(&self, a: u16, b: u16) -> u16 {
+        if a + b >= self.p {
+            a + b - self.p
+        } else {
+            a + b
+        }
+    }
+
     /// a - b.
     pub fn difference(&self, a: u16, b: u16) -> u16 {
         if a >= b {
@@ -149,7 +158,7 @@ impl<R: Reduction> Field<R> {
 
     /// a + b.
     pub fn add(&self, a: &Row, b: &Row) -> Row {
-        joined(a, b, |a, b| if a + b >= self.p { a + b - self.p } else { a + b })
+        joined(a, b, |a, b| self.sum(a, b))
     }
 
     /// The step of an interpolation by values: a + c b in the place of a, and b w in that of b.

@@ -1,18 +1,19 @@
 //! The library's method once more, in plain Rust and unproved: what its times are held against.
 //!
-//! The five calls take the same bytes as those of `traymark`, make the same checks and give the same answers. Below
+//! The nine calls take the same bytes as those of `traymark`, make the same checks and give the same answers. Below
 //! those for marks the layers are those of the library: numbers modulo p (`field`), polynomials (`polynomial`), the strip
 //! decoder (`order`, `newton`, `interpolation`, `strip`), the mark decoder (`draft`, `steps`), the mark reader (`mark`).
 //! They are generic over how a number is taken modulo p: by division (`Plain`) or with a reciprocal (`Tuned`).
 //!
-//! The season of a date (`season`) is found as one would in Rust, by sorting the windows, whatever the library does. Nothing
-//! is allocated.
+//! Marks and strips are masked and unmasked (`masking`), and the season of a date (`season`) is found, by sorting the windows, as
+//! one would in Rust, whatever the library does. Nothing is allocated.
 
 mod checks;
 mod draft;
 mod field;
 mod interpolation;
 mod mark;
+mod masking;
 mod newton;
 mod order;
 mod plan;
@@ -23,6 +24,7 @@ mod strip;
 mod tally;
 
 pub use field::{Plain, Reduction, Tuned};
+pub use masking::{mask_mark, mask_strip, unmask_mark, unmask_strip};
 pub use season::find_season;
 
 use plan::Plan;

@@ -1,4 +1,5 @@
-//! Polynomials in X and Y of total degree d at most, as columns: row t has the coefficients of Y^t, by rising power of X.
+//! Polynomials in X and Y of total degree d at most, as columns: row t has the coefficients of Y^t, by rising power of X. And
+//! those in X alone.
 
 use super::field::{Field, Reduction, Row, Square};
 use super::plan::Plan;
@@ -68,6 +69,12 @@ impl<R: Reduction> Powers<R> {
         let coefficients = in_y[..=self.degree].iter().map(|coefficients| coefficients[r]);
         self.field.sum_of_multiples(coefficients.zip(self.of_columns()))
     }
+}
+
+/// The values at the row points of a polynomial in X, of which a record has the coefficients.
+pub fn strip<R: Reduction>(plan: &Plan<R>, record: &[u8]) -> Row {
+    let powers = powers(&plan.field, plan.degree, &plan.row_points);
+    plan.field.sum_of_multiples(record.iter().map(|&coefficient| coefficient.into()).zip(&powers))
 }
 
 /// The powers of some points up to the degree.
