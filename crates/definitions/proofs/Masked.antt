@@ -1,7 +1,7 @@
 -- Reading a masked photograph.
 --
 --   added-photo         what is a photograph stays one when a mark is added to its read cells
---   masked-cells           what masking and unmasking leave, cell by cell
+--   masked-cells        what masking and unmasking leave, cell by cell
 --   value-plus          the values of a record plus another
 --   masked-mark         a mark with another put on it is the mark of the sum of their records
 --   masked-reads        its reading is the former one with the record plus the other
@@ -21,10 +21,10 @@ use native.Mathlib.Nat.{mod-lt, mod-eq-of-lt}
 use lib.Dec.{eqb}
 use lib.ListN.{length}
 use borrow.Author.Tests.{ne-eqb}
-use Rattle.bounded.specs.Bounded.{at, tab, sum}
+use Rattle.bounded.specs.Bounded.{at, tab}
 use Rattle.bounded.proofs.Sum.{sum-eq}
 use Rattle.bounded.proofs.Tab.{length-tab, tab-at, tab-is, tab-eq}
-use Rattle.field.proofs.Congruence.{same, ~sym, mod-cong}
+use Rattle.field.proofs.Congruence.{~sym, mod-cong}
 use Rattle.distance.specs.Cost.{cell, differ}
 use Rattle.distance.proofs.Cost.{cell-full, cell-less}
 use Rattle.polynomial.specs.Sides.{cellPoint}
