@@ -255,7 +255,7 @@ traymark_reason traymark_explain_strip(const uint8_t *plan, size_t plan_len,
 
 /*
  * Masks: the mark, or strip, of a record Q is put on symbols cell by cell, and taken off. A station prints the marks of a
- * trial with one Q on all of them, and whoever judges the trial recognises no plot by its mark.
+ * trial with one Q on all of them, to keep its evaluators from telling plots by eye.
  *
  * To print a masked mark, write the mark of the tray's record and mask it with Q. It is then the mark of that record plus Q,
  * coefficient by coefficient modulo p.

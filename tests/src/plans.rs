@@ -78,6 +78,13 @@ pub fn plan(shape: Shape, random: &mut Random) -> Plan {
     Plan { season, p, degree, row_points: points(p, rows, random), column_points: points(p, columns, random) }
 }
 
+/// A plan of any sides and degree; the seeds go through the primes.
+pub fn of_every_prime(seed: u64, random: &mut Random) -> Plan {
+    let p = primes().nth(seed as usize % primes().count()).expect("a prime of that place");
+    let [rows, columns] = [0, 1].map(|_| random.between(1, p.min(16)) as usize);
+    plan((p, rows, columns, random.below(rows.min(columns))), random)
+}
+
 /// A plan for a square with the same points each way.
 pub fn square(p: u32, n: usize, degree: usize, random: &mut Random) -> Plan {
     let points = points(p, n, random);

@@ -6,6 +6,7 @@
 --   MaskedReads C P Q s s′ u B B′
 --                           the photographs s and s′ have the same doubts u. Reading s′ into B′ gives the numbers of reading s
 --                           into B, and the record plus Q; 10 stays 10, and there is no other number
+--   MaskLengths C P Q s     Q is as long as a record of the plan, and s has a symbol for each cell
 --   MaskExactly C P Q s     under a sound plan masking and unmasking give 6 where a length is wrong, else 7 where a symbol is,
 --                           else 9 where Q is no record of the plan, else 0
 --   Masked C P Q s          what an accepted call leaves: after masking, s with the mark of Q added; after unmasking, what gives

@@ -3,6 +3,7 @@
 --   value-eval   the record's value at a point is the polynomial's
 --   eval-cell    a polynomial's value at the point of a cell is its value in the cell
 --   sum-place    a place before the end of a sum is in one of its terms
+--   sum-inside   and a place in one of its terms is before its end
 --   record-one   records with congruent coefficients are one
 --
 -- What this file is for: laws of polynomials say what holds of records. A record's value is a sum by total degree, and the
@@ -12,7 +13,7 @@ use mathlib.Core.List.{List}
 use mathlib.Core.Bool.{cond}
 use Prim.Native.Nat.{ℕ, zero, suc, _+_, _*_, _-_, _/_, _%_, _^_, _≤_, _<_}
 use native.Mathlib.Omega.{arith}
-use native.Mathlib.Decide.{decLt}
+use native.Mathlib.Decide.{ℕ-discrete, decLt}
 use native.Mathlib.Numerals.{add-one}
 use native.Mathlib.Nat.{add-zero, add-assoc, mod-eq-of-lt}
 use borrow.Author.Tests.{eq-eqb, ne-eqb}
@@ -109,6 +110,13 @@ sum-place zero f i h = absurd (omega arith)
 sum-place (suc n) f i h = elim (decLt i (sum n f)) [
   | yes k ↦ let (j, l, a, b, e) = sum-place n f i k in (j, l, omega arith, b, e)
   | no k ↦ (n, i - sum n f, omega arith, omega arith, omega arith)
+]
+
+pub sum-inside : (n : ℕ) (f : ℕ → ℕ) (j l : ℕ) → j < n → l < f j → sum j f + l < sum n f
+sum-inside zero f j l h k = absurd (omega arith)
+sum-inside (suc n) f j l h k = elim (ℕ-discrete j n) [
+  | yes e ↦ rw e (omega (arith, rw e at k))
+  | no e ↦ omega (arith, sum-inside n f j l (omega arith) k)
 ]
 
 -- every coefficient of a group

@@ -23,8 +23,8 @@
 --   real-exactly, year-days, dates-in-order, next-day
 --                                        the calendar
 --   masked-reads, unmasked-reads         document 02, request 9: the reading of a masked photograph, and of an unmasked one
---   masks-exactly, masked-cells           which number masking and unmasking give, and what they leave in each cell
---   mask-undone, masked-mark            that each undoes the other, and what a masked mark is
+--   masks-exactly, masked-cells          which number masking and unmasking give, and what they leave in each cell
+--   mask-undone, masked-mark             that each undoes the other, and what a masked mark is
 --   groups-fill                          document 02, request 4: where the coefficients of a record stand
 --   tray-parts, tray-refused             what `trayread` takes of its input, and when it refuses it
 --   why-parts, why-refused               the same of `traywhy`

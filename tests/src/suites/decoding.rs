@@ -44,10 +44,7 @@ pub fn large_mark(seed: u64, random: &mut Random, counts: &mut Counts) -> Result
 
 /// Every prime, as division differs between them.
 pub fn every_prime(seed: u64, random: &mut Random, counts: &mut Counts) -> Result<(), String> {
-    let primes: Vec<u32> = plans::primes().collect();
-    let p = primes[seed as usize % primes.len()];
-    let [rows, columns] = [0, 1].map(|_| random.between(1, p.min(16)) as usize);
-    let plan = plans::plan((p, rows, columns, random.below(rows.min(columns))), random);
+    let plan = plans::of_every_prime(seed, random);
     planted(random.pick(&[Code::Strip, Code::Mark]), &plan, random, counts)
 }
 

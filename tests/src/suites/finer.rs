@@ -7,7 +7,6 @@ use independent::Code::{self, Mark, Strip};
 use std::array::from_fn;
 use std::ops::Range;
 use traymark_tests::counts::Counts;
-use traymark_tests::library::outcome;
 use traymark_tests::random::Random;
 
 pub const CASES: u64 = 73;
@@ -44,10 +43,7 @@ pub fn every_season(seed: u64, random: &mut Random, counts: &mut Counts) -> Resu
         for low in 0..=255 {
             let season = u16::from_be_bytes([seed as u8, low]);
             let row = if season < 30 { &earlier } else { &later };
-            let given = row.at(season);
-            let answer = outcome(row.call, &given, random)?;
-            counts.number(answer.reading.number);
-            row.told(answer, &given)?;
+            row.answer_at(season, random, counts)?;
         }
     }
     Ok(())

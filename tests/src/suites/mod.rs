@@ -56,6 +56,8 @@ pub fn all() -> Vec<Suite> {
         Suite { name: "season-faults", cases: 100, case: seasons::faults::case },
         Suite { name: "masks", cases: masks::documented::CASES, case: masks::documented::case },
         Suite { name: "mask-values", cases: primes().count() as u64, case: masks::cells::values },
+        Suite { name: "mask-primes", cases: 54 * 40, case: masks::cells::every_prime },
+        Suite { name: "mask-seasons", cases: 256, case: masks::documented::every_season },
         Suite { name: "mask-undone", cases: 20_000, case: masks::cells::undone },
         Suite { name: "masked", cases: shapes, case: masks::photographs::masked },
         Suite { name: "printed", cases: shapes, case: masks::photographs::printed },

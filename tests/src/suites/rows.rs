@@ -6,6 +6,7 @@ use independent::{Reading, Reason, PLAN};
 use std::ops::Range;
 use traymark_tests::calls::{hold, Arguments, Call, Outcome};
 use traymark_tests::counts::Counts;
+use traymark_tests::library::outcome;
 use traymark_tests::plans::with_season;
 use traymark_tests::random::Random;
 use Why::{Answer, Nothing, Other, Refused};
@@ -28,6 +29,14 @@ impl Row {
             let given = self.at(season);
             self.told(hold(self.call, &given, random, counts)?, &given)
         })
+    }
+
+    /// The library's answer with that season is the outcome that was written down.
+    pub fn answer_at(&self, season: u16, random: &mut Random, counts: &mut Counts) -> Result<(), String> {
+        let given = self.at(season);
+        let answer = outcome(self.call, &given, random)?;
+        counts.number(answer.reading.number);
+        self.told(answer, &given)
     }
 
     /// Its arguments with that season.

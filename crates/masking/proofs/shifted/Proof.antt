@@ -13,7 +13,7 @@ sub-result c =
 returns : tie.Need-returns
 returns c =
     let s = c .before .before in
-    shift-less (s .args .p) (s .args .value) (s .pre) (s .args .off) (c .before .subtracted .ensures) _ (c .if1 .taken)
+    shift-less (s .args .p) (s .args .value) (s .pre) (s .args .off) (c .before .subtracted .ensures) _ (omega arith)
 
 returns-2 : tie.Need-returns-2
 returns-2 c =

@@ -39,11 +39,27 @@ pub fn values(seed: u64, random: &mut Random, counts: &mut Counts) -> Result<(),
     Ok(())
 }
 
+/// Any record of plans of every prime, put on any symbols and taken off again; and the other way.
+pub fn every_prime(seed: u64, random: &mut Random, counts: &mut Counts) -> Result<(), String> {
+    let plan = plans::of_every_prime(seed, random);
+    for code in [Code::Strip, Code::Mark] {
+        let record = bytes(&plans::record(code, &plan, random));
+        let symbol = |_| if random.one_in(8) { UNREAD } else { random.between(0, plan.p - 1) };
+        let symbols = bytes(&(0..code.cells(&plan)).map(symbol).collect::<Vec<u32>>());
+        let given = Arguments { record, symbols, ..Arguments::on_plan(code, &plan.bytes()) };
+        both_ways(&given, random, counts)?;
+    }
+    Ok(())
+}
+
 /// Any bytes, masked and then unmasked, and the other way.
 pub fn undone(_: u64, random: &mut Random, counts: &mut Counts) -> Result<(), String> {
-    let given = rubbish::arguments(random);
-    there_and_back([Call::Mask, Call::Unmask], &given, random, counts)?;
-    there_and_back([Call::Unmask, Call::Mask], &given, random, counts)?;
+    both_ways(&rubbish::arguments(random), random, counts)
+}
+
+fn both_ways(given: &Arguments, random: &mut Random, counts: &mut Counts) -> Result<(), String> {
+    there_and_back([Call::Mask, Call::Unmask], given, random, counts)?;
+    there_and_back([Call::Unmask, Call::Mask], given, random, counts)?;
     Ok(())
 }
 

@@ -5,7 +5,7 @@ use independent::Code::{Mark, Strip};
 use traymark_tests::counts::Counts;
 use traymark_tests::random::Random;
 
-pub const CASES: u64 = 92;
+pub const CASES: u64 = 94;
 
 pub fn case(seed: u64, random: &mut Random, counts: &mut Counts) -> Result<(), String> {
     let rows: Vec<Row> = accepted().into_iter().chain(refused()).flatten().collect();
@@ -15,9 +15,18 @@ pub fn case(seed: u64, random: &mut Random, counts: &mut Counts) -> Result<(), S
     rows[seed as usize].hold_at(&[&EARLIER[..], &LATER].concat(), random, counts)
 }
 
-/// 5 + 4X + 6Y, and for strips 5 + 4X.
+/// Every season, a case for each high byte: it has no part in masking.
+pub fn every_season(seed: u64, random: &mut Random, counts: &mut Counts) -> Result<(), String> {
+    for row in masks(Mark, &plan_a(), &Q, &MARK, Ok(&MASKED)) {
+        (0..=255).try_for_each(|low| row.answer_at(u16::from_be_bytes([seed as u8, low]), random, counts))?;
+    }
+    Ok(())
+}
+
+/// 5 + 4X + 6Y, and for strips 5 + 4X; and the mark of 3 + X + 2Y with the mark of Q on, which is that of 1 + 5X + Y.
 const Q: [u8; 3] = [5, 4, 6];
 const LINE: [u8; 2] = [5, 4];
+const MASKED: [u8; 9] = [0, 1, 3, 5, 6, 1, 1, 2, 4];
 
 #[rustfmt::skip]
 fn accepted() -> Vec<[Row; 2]> {
@@ -25,8 +34,8 @@ fn accepted() -> Vec<[Row; 2]> {
     let (constant, cubic) = (plan(7, 3, 0, &[1, 2, 4]), plan(5, 4, 3, &[0, 1, 2, 4]));
     let (column, row) = (oblong(251, 0, &SIXTEEN, &[9]), oblong(251, 0, &[9], &SIXTEEN));
     vec![
-        // the mark of 3 + X + 2Y becomes that of 1 + 5X + Y: 6 + 1 is 0, 1 + 0 is 1, 0 + 5 is 5
-        masks(Mark, &plan_a, &Q, &MARK, Ok(&[0, 1, 3, 5, 6, 1, 1, 2, 4])),
+        // 6 + 1 is 0, 1 + 0 is 1, 0 + 5 is 5
+        masks(Mark, &plan_a, &Q, &MARK, Ok(&MASKED)),
         // on cells of 0 it is the mark of Q; a mask of 0; the largest coefficients on the largest symbols
         masks(Mark, &plan_a, &Q, &[0; 9], Ok(&[1, 0, 5, 5, 4, 2, 6, 5, 3])),
         masks(Mark, &plan_a, &[0; 3], &MARK, Ok(&MARK)),
@@ -49,6 +58,7 @@ fn accepted() -> Vec<[Row; 2]> {
         masks(Mark, &plan_16(0), &[250], &[1; 256], Ok(&[0; 256])),
         masks(Mark, &plan_16(0), &[250], &[0; 256], Ok(&[250; 256])),
         masks(Mark, &plan_16(0), &[250], &unread(&[6; 256], 255), Ok(&unread(&[5; 256], 255))),
+        masks(Mark, &plan_16(0), &[250], &unread(&[6; 256], 1), Ok(&unread(&[5; 256], 1))),
         masks(Mark, &column, &[200], &[100; 16], Ok(&[49; 16])),
         masks(Mark, &row, &[200], &[100; 16], Ok(&[49; 16])),
         // strips go by the row points
