@@ -33,10 +33,7 @@ fn shift_mark<R: Reduction>(
     symbols: &mut [u8],
     shift: impl Fn(&Field<R>, u16, u16) -> u16,
 ) -> Result<(), Refusal> {
-    let plan: Plan<R> = Plan::parse(plan)?;
-    checks::lengths(&[(record.len(), plan.size()), (symbols.len(), plan.cells())])?;
-    checks::symbols(&plan, symbols)?;
-    checks::record(&plan, record)?;
+    let plan = checked::<R>(plan, record, symbols, |plan| [plan.size(), plan.cells()])?;
     let powers = Powers::new(&plan);
     let in_y = powers.put_in_x(&polynomial::columns(record, plan.degree));
     for (r, row) in symbols.chunks_exact_mut(plan.columns).enumerate() {
@@ -51,12 +48,24 @@ fn shift_strip<R: Reduction>(
     symbols: &mut [u8],
     shift: impl Fn(&Field<R>, u16, u16) -> u16,
 ) -> Result<(), Refusal> {
-    let plan: Plan<R> = Plan::parse(plan)?;
-    checks::lengths(&[(record.len(), plan.degree + 1), (symbols.len(), plan.rows)])?;
-    checks::symbols(&plan, symbols)?;
-    checks::record(&plan, record)?;
+    let plan = checked::<R>(plan, record, symbols, |plan| [plan.degree + 1, plan.rows])?;
     shift_cells(symbols, &polynomial::strip(&plan, record), |symbol, value| shift(&plan.field, symbol, value));
     Ok(())
+}
+
+/// The plan, by which a record and symbols have the given lengths and nothing is refused.
+fn checked<R: Reduction>(
+    plan: &[u8],
+    record: &[u8],
+    symbols: &[u8],
+    lengths: impl Fn(&Plan<R>) -> [usize; 2],
+) -> Result<Plan<R>, Refusal> {
+    let plan: Plan<R> = Plan::parse(plan)?;
+    let [size, cells] = lengths(&plan);
+    checks::lengths(&[(record.len(), size), (symbols.len(), cells)])?;
+    checks::symbols(&plan, symbols)?;
+    checks::record(&plan, record)?;
+    Ok(plan)
 }
 
 /// The cells that were read, each by its value; the others stay.

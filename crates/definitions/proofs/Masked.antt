@@ -50,7 +50,8 @@ use Rattle.definitions.proofs.Photograph.{photo-accepted}
 use Rattle.definitions.proofs.Nearest.{within-cost, without-cost, nearest-says}
 use Rattle.definitions.proofs.Demands.{nearest-one}
 use Rattle.definitions.proofs.Accepted.{accepted-masking, masking-accepted}
-use Rattle.definitions.proofs.Masking.{back, shift-below, shift-back, mask-fills, masked-at, masked-fits, masked-back}
+use Rattle.definitions.proofs.Masking.{back, shift-below, shift-back, was-read, cell-read}
+use Rattle.definitions.proofs.Masking.{mask-fills, masked-at, masked-fits, masked-back}
 
 -- what the calls leave, in the words of the statement
 module _ {C : Code} {P Q s : List ℕ} (m : Masking C P Q s) where
@@ -132,7 +133,8 @@ module _ {P : List ℕ} (S : Sound P) (C : Code) where
   pub masked-mark : (F Q : List ℕ) → IsRecord C P Q → maskBuffer on C P Q (mark C P F) ≡ mark C P (plus C P F Q)
   unfolding masked mark
   masked-mark F Q q = sym (mask-fills C P Q (mark C P F) on refl (masking-accepted C P Q (mark C P F) given))
-      ∙ tab-eq (cells C P) λ c l. rw (mark-at C P F c l, value-plus F Q c, seen c)
+      ∙ tab-eq (cells C P) λ c l.
+      rw (mark-at C P F c l) (cell-read positive (S .small) on _ _ (value-below S C F c) ∙ sym (value-plus F Q c))
     where
       given : Masking C P Q (mark C P F)
       given = record {
@@ -142,13 +144,10 @@ module _ {P : List ℕ} (S : Sound P) (C : Code) where
         symbol = λ c l. inl (rw (mark-at C P F c l) (value-below S C F c));
       }
 
-      seen : (c : ℕ) → eqb (value C P F c) unread ≡ false
-      seen c = ne-eqb (value C P F c) unread (λ e. omega (arith, value-below S C F c, S .small))
-
   module _ {Q s s′ u : List ℕ} (photo : Photograph C P s u) (given : IsRecord C P Q) (added : Added C P Q s s′) where
     -- a cell that was read, before and after
     symbol : (c : ℕ) → c < cells C P → at s c ≢ 255 → at s c < p
-    symbol c l n = elim (photo .symbol c l) [ inl h ↦ h | inr e ↦ absurd (n e) ]
+    symbol c l n = was-read (photo .symbol c l) n
 
     sum-is : (c : ℕ) → c < cells C P → at s c ≢ 255 → at s′ c ≡ (at s c + value C P Q c) % p
     sum-is c l n = rw (mark-at C P Q c l) at (added .read c l n)

@@ -2,6 +2,8 @@
 --
 --   back W                    the other way
 --   shift-below, shift-back   a shifted residue is a residue; shifted back it is as it was
+--   was-read                  a symbol of the plan that is not that of an unread cell is a residue
+--   cell-read                 and a residue is no unread cell: it is shifted
 --   cell-fits, cell-back      so a masked symbol is one of the plan, and masked back it is as it was, read or not
 --   mask-keeps, mask-fills    a refused call leaves the symbols, an accepted one masks them
 --   masked-at                 what masking leaves in a cell
@@ -11,13 +13,11 @@
 -- What this file is for: masking and unmasking are one call with two ways, each of which undoes the other. Assumes nothing.
 use mathlib.Core.Path.{_≡_, refl, sym, ap, _∙_}
 use mathlib.Core.Logic.{_⊎_, inl, inr}
-use mathlib.Core.Bool.{false}
 use mathlib.Core.List.{List}
 use Prim.Native.Nat.{ℕ, _+_, _-_, _≤_, _<_}
 use native.Mathlib.Omega.{arith}
 use native.Mathlib.Decide.{ℕ-discrete}
 use native.Mathlib.Nat.{mod-lt, mod-eq-of-lt}
-use lib.Dec.{eqb}
 use borrow.Author.Tests.{ne-eqb}
 use Rattle.bounded.specs.Bounded.{at}
 use Rattle.bounded.proofs.Tab.{length-tab, tab-at, tab-is}
@@ -37,6 +37,10 @@ abbrev pub back : Way → Way
 back on = off
 back off = on
 
+pub was-read : {p s : ℕ} → (s < p) ⊎ (s ≡ unread) → (s ≡ unread → ⊥) → s < p
+was-read (inl l) n = l
+was-read (inr e) n = absurd (n e)
+
 module _ {p : ℕ} (pos : 0 < p) where
   pub shift-below : (W : Way) (a b : ℕ) → shift W p a b < p
   shift-below on a b = mod-lt (a + b) pos
@@ -49,20 +53,16 @@ module _ {p : ℕ} (pos : 0 < p) where
       cong-mod pos (~add (mod-cong pos (a + (p - b))) (same {a = b} refl) ⨾ less 1 (omega arith)) ∙ mod-eq-of-lt h
 
   module _ (small : p ≤ 251) where
-    -- a residue is no unread cell
-    seen : (a : ℕ) → a < p → eqb a unread ≡ false
-    seen a l = ne-eqb a unread (λ e. omega arith)
-
-    read : (W : Way) (a b : ℕ) → a < p → maskCell W p a b ≡ shift W p a b
-    read W a b l = rw (seen a l)
+    pub cell-read : (W : Way) (a b : ℕ) → a < p → maskCell W p a b ≡ shift W p a b
+    cell-read W a b l = rw (ne-eqb a unread (λ e. omega arith))
 
     pub cell-fits : (W : Way) (s v : ℕ) → (s < p) ⊎ (s ≡ unread) → (maskCell W p s v < p) ⊎ (maskCell W p s v ≡ unread)
-    cell-fits W s v (inl l) = inl (rw (read W s v l) (shift-below W s v))
+    cell-fits W s v (inl l) = inl (rw (cell-read W s v l) (shift-below W s v))
     cell-fits W s v (inr e) = inr (rw e)
 
     pub cell-back : (W : Way) (s v : ℕ) → (s < p) ⊎ (s ≡ unread) → v ≤ p → maskCell (back W) p (maskCell W p s v) v ≡ s
     cell-back W s v (inl l) h =
-        rw (read W s v l) (read (back W) (shift W p s v) v (shift-below W s v) ∙ shift-back W s v l h)
+        rw (cell-read W s v l) (cell-read (back W) (shift W p s v) v (shift-below W s v) ∙ shift-back W s v l h)
     cell-back W s v (inr e) h = rw e
 
 module _ (C : Code) (P F s : List ℕ) where

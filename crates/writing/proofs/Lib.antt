@@ -1,0 +1,2 @@
+-- What the proofs of those who write share.
+pub mod Room
