@@ -1,6 +1,5 @@
 -- What a call that is not refused knows of its arguments, and the number of one that is.
 --
---   record-fits                   a record that refusal 9 does not meet is one of the plan
 --   accepted-measuring            measuring: a photograph of a sound plan, and a record
 --   accepted-reading              reading: a photograph
 --   accepted-writing              writing: what it asks of its arguments
@@ -59,7 +58,7 @@ passed k b e = rw e
 
 module _ (C : Code) (P : List ℕ) where
   -- a record whose coefficients the test of refusal 9 passes, and that of a call that row 9 does not refuse
-  pub record-fits : (F : List ℕ) → length F ≡ size C P → overflowing (modulus P) F (size C P) ≡ false → IsRecord C P F
+  record-fits : (F : List ℕ) → length F ≡ size C P → overflowing (modulus P) F (size C P) ≡ false → IsRecord C P F
   record-fits F e t = record { size = e; below = λ i l. leb-false _ _ (any-none _ _ t i l) }
 
   record-is : (F : List ℕ) → length F ≡ size C P → first (recordRow C P F ∷ []) ≡ 0 → IsRecord C P F

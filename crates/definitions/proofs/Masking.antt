@@ -56,11 +56,11 @@ module _ {p : ℕ} (pos : 0 < p) where
     pub cell-read : (W : Way) (a b : ℕ) → a < p → maskCell W p a b ≡ shift W p a b
     cell-read W a b l = rw (ne-eqb a unread (λ e. omega arith))
 
-    pub cell-fits : (W : Way) (s v : ℕ) → (s < p) ⊎ (s ≡ unread) → (maskCell W p s v < p) ⊎ (maskCell W p s v ≡ unread)
+    cell-fits : (W : Way) (s v : ℕ) → (s < p) ⊎ (s ≡ unread) → (maskCell W p s v < p) ⊎ (maskCell W p s v ≡ unread)
     cell-fits W s v (inl l) = inl (rw (cell-read W s v l) (shift-below W s v))
     cell-fits W s v (inr e) = inr (rw e)
 
-    pub cell-back : (W : Way) (s v : ℕ) → (s < p) ⊎ (s ≡ unread) → v ≤ p → maskCell (back W) p (maskCell W p s v) v ≡ s
+    cell-back : (W : Way) (s v : ℕ) → (s < p) ⊎ (s ≡ unread) → v ≤ p → maskCell (back W) p (maskCell W p s v) v ≡ s
     cell-back W s v (inl l) h =
         rw (cell-read W s v l) (cell-read (back W) (shift W p s v) v (shift-below W s v) ∙ shift-back W s v l h)
     cell-back W s v (inr e) h = rw e
