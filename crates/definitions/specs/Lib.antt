@@ -8,6 +8,7 @@ pub mod Search
 pub mod Calls
 pub mod Explaining
 pub mod Masking
+pub mod Sets
 pub mod Finder
 pub mod Windows
 pub mod Room
@@ -24,5 +25,6 @@ pub mod Photograph
 pub mod Reads
 pub mod Demands
 pub mod Masks
+pub mod Histories
 pub mod Seasons
 pub mod Accepted

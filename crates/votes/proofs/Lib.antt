@@ -1,0 +1,5 @@
+-- The laws of votes.
+pub mod Largest
+pub mod Voting
+pub mod Winner
+pub mod Column

@@ -1,0 +1,3 @@
+-- One cell of several photographs: votes, and the combined cell.
+pub mod Votes
+pub mod Majority
