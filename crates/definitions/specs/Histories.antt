@@ -16,8 +16,8 @@
 --   AddsExactly H S k s u, WithdrawsExactly H S k
 --                      which number the calls give, by what is held; `Fits` has the lengths
 --   Combines H S B D   6 where a buffer has not its length, else 0, and the buffers have the combination made afresh
---   SetReads H S B     the reading is that of the combination made afresh, and for it demand 3 holds; its number is 6 where the buffer
---                      has not its length, else 0 or 10
+--   SetReads H S B     the reading is that of the combination made afresh, and for it demand 3 holds; its number is 6 where the
+--                      buffer has not its length, else 0 or 10
 --
 -- What this file is for: whatever the history, the combination is the one made afresh from the photographs held then.
 use mathlib.Core.Path.{_≡_}

@@ -7,9 +7,8 @@
 --   setBytes                        the length of a set's memory
 --   setPlan, flag, place            the plan; where the flag of number k is, and where its symbols begin
 --   held S k                        photograph k is held
---   put S a s                       S with the bytes s in the place of those from byte a on
 --   blank n                         n symbols of unread cells
---   started, added, withdrawn       the memory after an accepted call
+--   started, added, withdrawn       the memory after an accepted call; `put` is of the crate `lent`
 --   column S c                      the nine symbols of cell c
 --   combinedSymbols, combinedDoubts   the combination: each cell by `symbolOf` and `doubtOf` of the crate `votes`
 --   startMemory                     STARTING a set from the plan P; the number is `checkNumber P`
@@ -25,8 +24,9 @@ use mathlib.Core.Bool.{Bool, not}
 use mathlib.Core.List.{List, [], _∷_, _++_}
 use Prim.Native.Nat.{ℕ, _+_, _*_}
 use lib.Dec.{eqb, ltb}
-use lib.ListN.{length, take, drop, replicate, set}
+use lib.ListN.{take, replicate, set}
 use Rattle.bounded.specs.Bounded.{at, tab}
+use Rattle.lent.specs.Put.{put}
 use Rattle.votes.specs.Votes.{symbolOf, doubtOf}
 use Rattle.definitions.specs.declared.Reading.{Reading}
 use Rattle.definitions.specs.Refusals.{Refusal, _when_, first, accepted}
@@ -49,9 +49,6 @@ place k = 49 + k * 256
 
 abbrev pub held : (S : List ℕ) (k : ℕ) → Bool
 held S k = not (eqb (at S (flag k)) 0)
-
-abbrev pub put : (S : List ℕ) (a : ℕ) (s : List ℕ) → List ℕ
-put S a s = take a S ++ (s ++ drop (a + length s) S)
 
 unfoldable pub blank : ℕ → List ℕ
 blank n = replicate n unread

@@ -1,0 +1,2 @@
+-- The laws of bytes in lent memory.
+pub mod Put

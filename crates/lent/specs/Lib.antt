@@ -1,0 +1,2 @@
+-- Bytes in lent memory.
+pub mod Put
