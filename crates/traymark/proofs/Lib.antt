@@ -1,4 +1,3 @@
 -- What the calls guarantee, and what their proofs share.
 pub mod Demands
 pub mod Answer
-pub mod Kind

@@ -1,5 +1,4 @@
 // Explaining why a record that was expected did not come up: it is the answer, or another record is, or none is.
-use crate::checks;
 use definitions::Explanation;
 use definitions::Reason;
 ghost use mathlib.Core.Path.{_≡_};

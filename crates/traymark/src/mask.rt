@@ -1,5 +1,4 @@
 // Masking symbols with the mark or the strip of a record, and taking it off again.
-use crate::checks;
 ghost use mathlib.Core.Path.{_≡_};
 ghost use Rattle.definitions.specs.Code.{strip, oblong, codeOf};
 ghost use Rattle.definitions.specs.Masking.{on, off as takenOff, wayOf, maskNumber, maskBuffer};

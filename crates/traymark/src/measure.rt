@@ -1,5 +1,4 @@
 // Measuring a record against a photographed mark or strip.
-use crate::checks;
 use definitions::Reading;
 ghost use mathlib.Core.Path.{_≡_};
 ghost use Rattle.definitions.specs.Code.{strip, oblong};

@@ -1,5 +1,4 @@
 // Reading a photographed mark or strip: the one record within the radius, or refusal 10 where there is none.
-use crate::checks;
 use definitions::Reading;
 ghost use mathlib.Core.Path.{_≡_};
 ghost use Rattle.definitions.specs.Code.{strip, oblong};

@@ -1,5 +1,4 @@
 // Writing the mark or the strip of a record.
-use crate::checks;
 ghost use mathlib.Core.Path.{_≡_};
 ghost use Rattle.definitions.specs.Code.{strip as stripCode, oblong};
 ghost use Rattle.definitions.specs.Calls.{writeNumber, writeBuffer};

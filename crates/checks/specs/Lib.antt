@@ -1,0 +1,2 @@
+-- What the contracts of the checks need beside the definitions.
+pub mod Kind

@@ -1,2 +1,0 @@
--- What the contracts of the calls need beside the definitions.
-pub mod Kind
