@@ -12,8 +12,10 @@ use mathlib.Core.List.{List}
 use Prim.Native.Nat.{ℕ}
 use lib.ListN.{length}
 use Rattle.field.specs.Word.{reached}
-use Rattle.definitions.specs.Refusals.{first}
+use Rattle.definitions.specs.Refusals.{Refusal, first}
+use Rattle.definitions.specs.Plan.{modulus, checkNumber}
 use Rattle.definitions.specs.Code.{codeOf, size, cells}
+use Rattle.definitions.specs.Cost.{full}
 use Rattle.definitions.specs.Calls.{overflowing, photoTests, photoRows, writeTests, writeNumber}
 use Rattle.definitions.specs.Masking.{maskTests, maskNumber}
 use Rattle.definitions.proofs.Refusals.{Stops, numberAt, first-at, answered}
@@ -35,30 +37,27 @@ unfolding sizeOf
 size-said true {P} says = rw (says .fields) (sym (mark-size P))
 size-said false {P} says = rw (says .fields) (sym (strip-size P))
 
-module _ (mark : Bool) {P : List ℕ} {plan : Plan} (says : Says P plan) {n k : ℕ} where
-  pub photo-at : (s u F : List ℕ) (i : ℕ) → n ≡ cellsOf mark (plan .grid) → k ≡ sizeOf mark (plan .grid) →
-      Stops (photoTests (plan .grid .p) (plan .grid .full) s u F n k) i →
-      numberAt (photoTests (plan .grid .p) (plan .grid .full) s u F n k) i ≡ first (photoRows (codeOf mark) P s u F)
-  photo-at s u F i e h t =
-      first-at (photoTests (plan .grid .p) (plan .grid .full) s u F n k) i t
-      ∙ rw (e ∙ cells-said mark says, h ∙ size-said mark says, says .fields)
-      (photo-passes (codeOf mark) P s u F (checked P (says .sound)))
+module _ (mark : Bool) {P : List ℕ} {plan : Plan} (says : Says P plan) where
+  -- a check by these tests, for n cells and k coefficients, has this number wherever it stops
+  abbrev Gives : ((p f n k : ℕ) → List Refusal) → ℕ → Type 0
+  Gives tests number = (n k i : ℕ) → n ≡ cellsOf mark (plan .grid) → k ≡ sizeOf mark (plan .grid) →
+      let rows = tests (plan .grid .p) (plan .grid .full) n k in Stops rows i → numberAt rows i ≡ number
 
-  pub write-at : (F B : List ℕ) (i : ℕ) → n ≡ cellsOf mark (plan .grid) → k ≡ sizeOf mark (plan .grid) →
-      Stops (writeTests (plan .grid .p) F B n k) i →
-      numberAt (writeTests (plan .grid .p) F B n k) i ≡ writeNumber (codeOf mark) P F B
-  write-at F B i e h t =
-      first-at (writeTests (plan .grid .p) F B n k) i t
-      ∙ rw (e ∙ cells-said mark says, h ∙ size-said mark says, says .fields)
-      (write-passes (codeOf mark) P F B (checked P (says .sound)))
+  gives : (tests : (p f n k : ℕ) → List Refusal) {number : ℕ} →
+      (checkNumber P ≡ 0 → first (tests (modulus P) (full P) (cells (codeOf mark) P) (size (codeOf mark) P)) ≡ number) →
+      Gives tests number
+  gives tests passes n k i e h t =
+      first-at (tests (plan .grid .p) (plan .grid .full) n k) i t
+      ∙ rw (e ∙ cells-said mark says, h ∙ size-said mark says, says .fields) (passes (checked P (says .sound)))
 
-  pub mask-at : (F s : List ℕ) (i : ℕ) → n ≡ cellsOf mark (plan .grid) → k ≡ sizeOf mark (plan .grid) →
-      Stops (maskTests (plan .grid .p) F s n k) i →
-      numberAt (maskTests (plan .grid .p) F s n k) i ≡ maskNumber (codeOf mark) P F s
-  mask-at F s i e h t =
-      first-at (maskTests (plan .grid .p) F s n k) i t
-      ∙ rw (e ∙ cells-said mark says, h ∙ size-said mark says, says .fields)
-      (mask-passes (codeOf mark) P F s (checked P (says .sound)))
+  pub photo-at : (s u F : List ℕ) → Gives (λ p f. photoTests p f s u F) (first (photoRows (codeOf mark) P s u F))
+  photo-at s u F = gives (λ p f. photoTests p f s u F) (photo-passes (codeOf mark) P s u F)
+
+  pub write-at : (F B : List ℕ) → Gives (λ p f. writeTests p F B) (writeNumber (codeOf mark) P F B)
+  write-at F B = gives (λ p f. writeTests p F B) (write-passes (codeOf mark) P F B)
+
+  pub mask-at : (F s : List ℕ) → Gives (λ p f. maskTests p F s) (maskNumber (codeOf mark) P F s)
+  mask-at F s = gives (λ p f. maskTests p F s) (mask-passes (codeOf mark) P F s)
 
 pub record-reached : {r t : Bool} {k : ℕ} (p : ℕ) (F : List ℕ) → length F ≡ k → r ≡ reached p F → r ≡ t → overflowing p F k ≡ t
 record-reached p F l e = answered (rw l at e)

@@ -15,27 +15,27 @@ module _ (c : tie.After-cell-count) where
   size = c .before .before
 
 returns : tie.Need-returns
-returns c P says = mask-at _ says _ _ 0 refl (c .before .record-size .ensures) (search tests depth 16)
+returns c P says = mask-at _ says _ _ _ _ 0 refl (c .before .record-size .ensures) (search tests depth 16)
 
 returns-2 : tie.Need-returns-2
 returns-2 c P says =
     let count = c .before in
-    mask-at _ says _ _ 1 (count .cell-count .ensures) (size count .record-size .ensures) (search tests depth 16)
+    mask-at _ says _ _ _ _ 1 (count .cell-count .ensures) (size count .record-size .ensures) (search tests depth 16)
 
 returns-3 : tie.Need-returns-3
 returns-3 c P says =
     let count = c .before .before .before .before in
-    mask-at _ says _ _ 2 (count .cell-count .ensures) (size count .record-size .ensures) (search tests depth 16)
+    mask-at _ says _ _ _ _ 2 (count .cell-count .ensures) (size count .record-size .ensures) (search tests depth 16)
 
 returns-4 : tie.Need-returns-4
 returns-4 c P says =
     let count = c .before .before .before .before .before .before .before in
-    mask-at _ says _ _ 3 (count .cell-count .ensures) (size count .record-size .ensures) (search tests depth 16)
+    mask-at _ says _ _ _ _ 3 (count .cell-count .ensures) (size count .record-size .ensures) (search tests depth 16)
 
 returns-5 : tie.Need-returns-5
 returns-5 c P says =
     let count = c .before .before .before .before .before .before .before in
-    mask-at _ says _ _ 4 (count .cell-count .ensures) (size count .record-size .ensures) (search tests depth 16)
+    mask-at _ says _ _ _ _ 4 (count .cell-count .ensures) (size count .record-size .ensures) (search tests depth 16)
 
 pub mask-refusal-spec : {M : Type 1} → statement M
 mask-refusal-spec =
