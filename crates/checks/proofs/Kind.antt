@@ -1,7 +1,7 @@
 -- Marks and strips, and the checks that they share.
 --
 --   size-said            what the struct says of records is what the plan does
---   photo-at, write-at, mask-at
+--   photo-at, write-at, mask-at, add-at, combine-at
 --                        under a sound plan, the number of the test at which a check stops is the call's
 --   record-reached       what `field::bytes::reaches` answered of a record is the answer to its test
 --
@@ -13,12 +13,13 @@ use Prim.Native.Nat.{ℕ}
 use lib.ListN.{length}
 use Rattle.field.specs.Word.{reached}
 use Rattle.definitions.specs.Refusals.{Refusal, first}
-use Rattle.definitions.specs.Plan.{modulus, checkNumber}
-use Rattle.definitions.specs.Code.{codeOf, size, cells}
+use Rattle.definitions.specs.Plan.{modulus, planRows, checkNumber}
+use Rattle.definitions.specs.Code.{codeOf, oblong, size, cells}
 use Rattle.definitions.specs.Cost.{full}
 use Rattle.definitions.specs.Calls.{overflowing, photoTests, photoRows, writeTests, writeNumber}
 use Rattle.definitions.specs.Masking.{maskTests, maskNumber}
-use Rattle.definitions.proofs.Refusals.{Stops, numberAt, first-at, answered}
+use Rattle.definitions.specs.Sets.{setPlan, addTests, addRows, addNumber, combineTests, combineRows, combineNumber}
+use Rattle.definitions.proofs.Refusals.{Stops, numberAt, first-at, first-passes, answered}
 use Rattle.definitions.proofs.Sound.{checked}
 use Rattle.definitions.proofs.Plan.{strip-size, mark-size}
 use Rattle.definitions.proofs.Accepted.{photo-passes, write-passes, mask-passes}
@@ -58,6 +59,18 @@ module _ (mark : Bool) {P : List ℕ} {plan : Plan} (says : Says P plan) where
 
   pub mask-at : (F s : List ℕ) → Gives (λ p f. maskTests p F s) (maskNumber (codeOf mark) P F s)
   mask-at F s = gives (λ p f. maskTests p F s) (mask-passes (codeOf mark) P F s)
+
+-- of sets: the plan is the one in the memory
+module _ (S : List ℕ) {plan : Plan} (says : Says (setPlan S) plan) where
+  pub add-at : (k : ℕ) (s u : List ℕ) → Gives true says (λ p f n _. addTests p f S k s u n) (addNumber S k s u)
+  unfolding addNumber addRows planRows checkNumber
+  add-at k s u = gives true says (λ p f n _. addTests p f S k s u n) (first-passes (planRows (setPlan S))
+      (addTests (modulus (setPlan S)) (full (setPlan S)) S k s u (cells oblong (setPlan S))) tt)
+
+  pub combine-at : (B D : List ℕ) → Gives true says (λ p f n _. combineTests B D n) (combineNumber S B D)
+  unfolding combineNumber combineRows planRows checkNumber
+  combine-at B D = gives true says (λ p f n _. combineTests B D n)
+      (first-passes (planRows (setPlan S)) (combineTests B D (cells oblong (setPlan S))) tt)
 
 pub record-reached : {r t : Bool} {k : ℕ} (p : ℕ) (F : List ℕ) → length F ≡ k → r ≡ reached p F → r ≡ t → overflowing p F k ≡ t
 record-reached p F l e = answered (rw l at e)

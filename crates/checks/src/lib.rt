@@ -1,6 +1,7 @@
-// The refusals of writing, masking, measuring, reading and explaining under a sound plan, for marks (`mark`) and for strips: one
+// The refusals of writing, masking, measuring, reading and explaining under a sound plan, and of sets, for marks (`mark`) and for strips: one
 // test for each row of document 01's table "What is returned", in its order. Records and buffers may be any bytes of any length.
 // A loop over cells looks at all of them, with no way out, so that it is vectorised.
+use definitions::FLAGS;
 use definitions::UNREAD;
 use field::bytes;
 use plan::Plan;
@@ -19,6 +20,7 @@ ghost use Rattle.definitions.specs.Cost.{unread};
 ghost use Rattle.definitions.specs.Calls.{strange, misdoubted, photoRows, writeNumber, measureNumber};
 ghost use Rattle.definitions.specs.Masking.{maskNumber};
 ghost use Rattle.definitions.specs.Explaining.{explainNumber};
+ghost use Rattle.definitions.specs.Sets.{setBytes, setPlan, addNumber, combineNumber};
 ghost use Rattle.plan.specs.Says.{Says, Ready};
 ghost use Rattle.checks.specs.Kind.{sizeOf, cellsOf};
 
@@ -124,6 +126,51 @@ pub fn explain_refusal(
         return 6;
     }
     measure_refusal(mark, plan, symbols, doubts, record)
+}
+
+// Refusals 6, 17, 7 and 8, those of photograph k that arrives in the set under whose own plan it is.
+pub fn add_refusal(plan: Plan, set: &[u8], k: u32, symbols: &[u8], doubts: &[u8]) -> u32
+    requires { ⌜ Ready plan × (length (now set) ≡ setBytes) ⌝ }
+    ensures { λ r. ⌜ (Says (setPlan (now (set .entry))) plan →
+        r ≡ addNumber (now (set .entry)) k (now (symbols .entry)) (now (doubts .entry))) ⌝ }
+{
+    let g = plan.grid;
+    let n = cell_count(true, g);
+    if symbols.len() != n {
+        return 6;
+    }
+    if doubts.len() != n {
+        return 6;
+    }
+    if 8 < k {
+        return 17;
+    }
+    if set[FLAGS + k as usize] != 0 {
+        return 17;
+    }
+    if is_strange(g.p as u8, symbols, n) {
+        return 7;
+    }
+    if is_misdoubted(g.full as u8, symbols, doubts, n) {
+        return 8;
+    }
+    0
+}
+
+// Refusal 6, that of the buffers for a combination. Only their lengths count.
+pub fn combine_refusal(plan: Plan, symbols: &[u8], doubts: &[u8]) -> u32
+    requires { ⌜ Ready plan ⌝ }
+    ensures { λ r. ⌜ ((S : List ℕ) → Says (setPlan S) plan →
+        r ≡ combineNumber S (now (symbols .entry)) (now (doubts .entry))) ⌝ }
+{
+    let n = cell_count(true, plan.grid);
+    if symbols.len() != n {
+        return 6;
+    }
+    if doubts.len() != n {
+        return 6;
+    }
+    0
 }
 
 // How many coefficients a record on the grid has.

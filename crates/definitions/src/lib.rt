@@ -1,5 +1,5 @@
 // Documents 01 and 02 as definitions: read specs/ in the order of its Lib.antt. The code here is the types that the calls answer
-// with, the lengths of a plan and of a set's memory, and the symbol of an unread cell.
+// with, the length of a plan, the layout of a set's memory, and the symbol of an unread cell.
 
 // What measuring and reading answer. Of a refusal all but the number is 0.
 #[repr(C)]
@@ -44,8 +44,15 @@ pub struct Explanation {
 // The length of a plan.
 pub const PLAN_BYTES: usize = 40;
 
-// The length of the memory of a set of photographs: a plan, nine flags, and nine times 256 symbols.
+// The memory of a set of photographs: how long it is, where its flags begin, after the plan, and where the symbols, and how many
+// bytes there are for those of one photograph.
 pub const SET_BYTES: usize = 2353;
+
+pub const FLAGS: usize = 40;
+
+pub const PLACES: usize = 49;
+
+pub const PLACE_BYTES: usize = 256;
 
 // The symbol of a cell that was not read: an erasure.
 pub const UNREAD: u8 = 255;

@@ -1,0 +1,3 @@
+-- The laws of sets of photographs.
+pub mod Refused
+pub mod Memory
