@@ -12,7 +12,7 @@
 use mathlib.Core.Path.{_≡_, refl, sym, ap, _∙_}
 use mathlib.Core.Logic.{_≢_, _⊎_, inl, inr}
 use mathlib.Core.Bool.{Bool, true, false, cond}
-use mathlib.Core.List.{List, [], _∷_}
+use mathlib.Core.List.{List}
 use mathlib.Core.Option.{Option, some, none}
 use Prim.Native.Nat.{ℕ, _+_, _*_, _-_, _%_, _≤_, _<_}
 use native.Mathlib.Omega.{arith}
@@ -29,25 +29,22 @@ use Rattle.distance.specs.Cost.{cell, differ}
 use Rattle.distance.proofs.Cost.{cell-full, cell-less}
 use Rattle.polynomial.specs.Sides.{cellPoint}
 use Rattle.polynomial.proofs.Additive.{value-sum}
-use Rattle.definitions.specs.Refusals.{_when_, first}
-use Rattle.definitions.specs.Plan.{modulus, planRows, degree, side, point}
+use Rattle.definitions.specs.Plan.{modulus, degree, side, point}
 use Rattle.definitions.specs.Code.{Code, more, size, cells, value, mark, IsRecord}
 use Rattle.definitions.specs.Cost.{full, radius, unread}
-use Rattle.definitions.specs.Calls.{photoRows, costOf, changedOf, unreadOf, readingOf, within, missing, nearest}
-use Rattle.definitions.specs.Calls.{readRows, readNumber}
+use Rattle.definitions.specs.Calls.{costOf, changedOf, unreadOf, readingOf, within, nearest, readNumber}
 use Rattle.definitions.specs.Sound.{Sound}
 use Rattle.definitions.specs.Photograph.{Photograph}
 use Rattle.definitions.specs.Accepted.{Masking}
 use Rattle.definitions.specs.Demands.{Nearest}
 use Rattle.definitions.specs.Masking.{Way, on, off, shift, masked, maskNumber, maskBuffer}
 use Rattle.definitions.specs.Masks.{Added, plus, less, MaskedReads, Masked}
-use Rattle.definitions.proofs.Refusals.{first-passes}
 use Rattle.definitions.proofs.Search.{SearchSays}
 use Rattle.definitions.proofs.Plan.{plan-modulus}
 use Rattle.definitions.proofs.Counts.{value-below}
 use Rattle.definitions.proofs.Written.{mark-length, mark-at}
 use Rattle.definitions.proofs.Photograph.{photo-accepted}
-use Rattle.definitions.proofs.Nearest.{within-cost, without-cost, nearest-says}
+use Rattle.definitions.proofs.Nearest.{within-cost, without-cost, zero-or-ten, nearest-says}
 use Rattle.definitions.proofs.Demands.{nearest-one}
 use Rattle.definitions.proofs.Accepted.{accepted-masking, masking-accepted}
 use Rattle.definitions.proofs.Masking.{back, shift-below, shift-back, was-read, cell-read}
@@ -82,21 +79,8 @@ twice s v = go (eqb s v)
 
 -- a reading of a photograph
 module _ (C : Code) (P s u B : List ℕ) (photo : Photograph C P s u) (room : length B ≡ size C P) where
-  zero-or-ten : (readNumber C P s u B ≡ 0) ⊎ (readNumber C P s u B ≡ 10)
-  unfolding first readNumber readRows photoRows planRows
-  zero-or-ten = go (missing (nearest C P s u)) refl
-    where
-      last : first ((10 when missing (nearest C P s u)) ∷ []) ≡ readNumber C P s u B
-      last =
-          let clear = photo-accepted C P s u B photo room in
-          first-passes (photoRows C P s u B) ((10 when missing (nearest C P s u)) ∷ []) tt clear
-
-      go : (b : Bool) → missing (nearest C P s u) ≡ b → (readNumber C P s u B ≡ 0) ⊎ (readNumber C P s u B ≡ 10)
-      go true e = inr (sym last ∙ rw e)
-      go false e = inl (sym last ∙ rw e)
-
   accepted-number : (F : List ℕ) → IsRecord C P F → costOf C P s u F < radius C P → readNumber C P s u B ≡ 0
-  accepted-number F f l = elim zero-or-ten [
+  accepted-number F f l = elim (zero-or-ten C P s u B (photo-accepted C P s u B photo room)) [
     | inl e ↦ e
     | inr e ↦ absurd (omega (arith, l, nearest-one C P s u B photo room .exactly .0 e F f))
   ]
@@ -223,7 +207,7 @@ module _ {P : List ℕ} (S : Sound P) (C : Code) where
       after = nearest-one C P s′ u B′ added-photo room′
 
       numbers : (readNumber C P s u B ≡ 0) ⊎ (readNumber C P s u B ≡ 10)
-      numbers = zero-or-ten C P s u B photo room
+      numbers = zero-or-ten C P s u B (photo-accepted C P s u B photo room)
 
       -- a record under the radius, and none
       near : (F : List ℕ) → IsRecord C P F → costOf C P s u F < radius C P → MaskedReads C P Q s s′ u B B′

@@ -5,6 +5,7 @@
 --   reads-refused                a refusal of the plan, or of 6 to 8
 --   reads-none                   10, where no record is within the radius
 --   reads-the                    the record within it, where there is at most one
+--   zero-or-ten                  past 1 to 8 the number is 0 or 10
 --   nearest-says                 what the search finds, a record within the radius or none
 --   reads-found                  a reading that is not refused is of what the search finds, and one of number 10 of none
 --
@@ -83,6 +84,14 @@ module _ (C : Code) (P s u B : List ℕ) where
       where
         m : nearest C P s u ≡ some F
         m = search-the (modulus P) (size C P) (within C P s u) one F x t
+
+    pub zero-or-ten : (readNumber C P s u B ≡ 0) ⊎ (readNumber C P s u B ≡ 10)
+    unfolding first
+    zero-or-ten = go (nearest C P s u) refl
+      where
+        go : (o : Option (List ℕ)) → nearest C P s u ≡ o → (readNumber C P s u B ≡ 0) ⊎ (readNumber C P s u B ≡ 10)
+        go (some F) m = inl (number e m)
+        go none m = inr (number e m)
 
     pub reads-found : {r : Reading} {b : List ℕ} → Reads C P s u B r b →
         ((r .number ≡ 0) × (nearest C P s u ≡ some b)) ⊎ ((r .number ≡ 10) × (nearest C P s u ≡ none) × (b ≡ B))

@@ -6,15 +6,22 @@
 --   Call               a call on a set, with its arguments
 --   answer c S         its number
 --   after c S          the memory after it
---   keeps c S H        what is held after it, where H was held before: an accepted call starts anew, adds one or withdraws one; a
---                      refused one, a combination and a reading change nothing
+--   changes c H        what is held after it, where it is accepted: it starts anew, adds one or withdraws one; combining and
+--                      reading change nothing
+--   keeps c S H        what is held after it, where H was held before: a refused one changes nothing
 --   run h S, kept h S H   the memory, and what is held, after the calls h, one after another
---   memory H           the memory of a set that holds H
+--   flagOf, symbolAt   the flag of a number, and its symbol of cell c, by what is held under it
+--   byteOf H i, memory H   byte i of a set that holds H, and its memory
 --   shown H c          the symbols of cell c in the photographs held, 255 where a number has none
 --   freshSymbols, freshDoubts H   the combination made afresh from them
---   Holds H S          the plan is sound, each photograph fits it, and S is the memory of H
---   AddsExactly H S k s u, WithdrawsExactly H S k
---                      which number the calls give, by what is held; `Fits` has the lengths
+--   Stored P k s       k is a number to 8, and s are symbols of the plan P, one for each cell
+--   Holds H S          the plan is sound, each photograph is `Stored`, and S is the memory of H
+--   StartsUnread P     with none held all cells are unread, at the full doubt
+--   AddsExactly H S k s u
+--                      which number adding gives, by what is held, in the season's scale; `Fits` has the lengths. Otherwise the
+--                      doubts are not used: with others that are accepted the memory is the same
+--   WithdrawsExactly H S k
+--                      which number withdrawing gives; the number k can be used again
 --   Combines H S B D   6 where a buffer has not its length, else 0, and the buffers have the combination made afresh
 --   SetReads H S B     the reading is that of the combination made afresh, and for it demand 3 holds; its number is 6 where the
 --                      buffer has not its length, else 0 or 10
@@ -36,7 +43,7 @@ use Rattle.definitions.specs.Code.{oblong, size, cells}
 use Rattle.definitions.specs.Cost.{full, unread}
 use Rattle.definitions.specs.Calls.{readReading, readBuffer}
 use Rattle.definitions.specs.Sound.{Sound}
-use Rattle.definitions.specs.Photograph.{SymbolsFit, DoubtsFit}
+use Rattle.definitions.specs.Photograph.{SymbolsFit, DoubtsFit, Photograph}
 use Rattle.definitions.specs.Demands.{Nearest}
 use Rattle.definitions.specs.Sets.{setBytes, startMemory, addNumber, addMemory, withdrawNumber, withdrawMemory}
 use Rattle.definitions.specs.Sets.{combineNumber, combineSymbols, combineDoubts, setNumber, setReading, setRecord}
@@ -115,12 +122,19 @@ freshSymbols H = tab (cells oblong (H .plan)) λ c. symbolOf (shown H c) 9
 unfoldable pub freshDoubts : Holding → List ℕ
 freshDoubts H = tab (cells oblong (H .plan)) λ c. doubtOf (full (H .plan)) (shown H c) 9
 
+pub record Stored (P : List ℕ) (k : ℕ) (s : List ℕ) : Type 0 where
+  pub low : k < 9
+  pub whole : length s ≡ cells oblong P
+  pub symbols : SymbolsFit oblong P s
+
 pub record Holds (H : Holding) (S : List ℕ) : Type 0 where
   pub sound : Sound (H .plan)
-  pub low : (k : ℕ) (s : List ℕ) → H .photo k ≡ some s → k < 9
-  pub whole : (k : ℕ) (s : List ℕ) → H .photo k ≡ some s → length s ≡ cells oblong (H .plan)
-  pub symbols : (k : ℕ) (s : List ℕ) → H .photo k ≡ some s → SymbolsFit oblong (H .plan) s
+  pub stored : (k : ℕ) (s : List ℕ) → H .photo k ≡ some s → Stored (H .plan) k s
   pub memory-is : S ≡ memory H
+
+abbrev pub StartsUnread : List ℕ → Type 0
+StartsUnread P = (c : ℕ) → c < cells oblong P →
+    (at (freshSymbols (empty P)) c ≡ unread) × (at (freshDoubts (empty P)) c ≡ full P)
 
 abbrev pub Fits : Holding → (s u : List ℕ) → Type 0
 Fits H s u = (length s ≡ cells oblong (H .plan)) × (length u ≡ cells oblong (H .plan))
@@ -135,10 +149,14 @@ pub record AddsExactly (H : Holding) (S : List ℕ) (k : ℕ) (s u : List ℕ) :
       ¬ (DoubtsFit (full (H .plan)) oblong (H .plan) s u) → addNumber S k s u ≡ 8
   pub zero : Fits H s u → k < 9 → H .photo k ≡ none → SymbolsFit oblong (H .plan) s →
       DoubtsFit (full (H .plan)) oblong (H .plan) s u → addNumber S k s u ≡ 0
+  -- the doubts are not used otherwise
+  pub unused : (v : List ℕ) → addNumber S k s u ≡ 0 → addNumber S k s v ≡ 0 → addMemory S k s u ≡ addMemory S k s v
 
 pub record WithdrawsExactly (H : Holding) (S : List ℕ) (k : ℕ) : Type 0 where
   pub eighteen : H .photo k ≡ none → withdrawNumber S k ≡ 18
   pub zero : H .photo k ≢ none → withdrawNumber S k ≡ 0
+  -- any photograph of the plan can then come under the same number
+  pub again : H .photo k ≢ none → (s u : List ℕ) → Photograph oblong (H .plan) s u → addNumber (withdrawMemory S k) k s u ≡ 0
 
 pub record Combines (H : Holding) (S B D : List ℕ) : Type 0 where
   pub six : ¬ (Fits H B D) → combineNumber S B D ≡ 6
