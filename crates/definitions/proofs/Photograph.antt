@@ -2,7 +2,7 @@
 -- length.
 --
 --   symbols-fit, fit-symbols          refusal 7 as facts, and back
---   doubts-fit                        refusal 8 as facts
+--   doubts-fit, fit-doubts            refusal 8 as facts, and back
 --   photo-accepted                    of a photograph and such a buffer the number is 0
 --   accepted-photo, accepted-buffer   where it is 0, it is a photograph, and the buffer has its length
 --
@@ -25,7 +25,7 @@ use Rattle.definitions.specs.Cost.{full, unread}
 use Rattle.definitions.specs.Calls.{strange, misdoubted, photoTests, photoRows}
 use Rattle.definitions.specs.Photograph.{SymbolsFit, DoubtsFit, Photograph}
 use Rattle.definitions.proofs.Sound.{checked, sound}
-use Rattle.definitions.proofs.Refusals.{first-append, first-at, first-clear, testAt, equal}
+use Rattle.definitions.proofs.Refusals.{first-append, first-at, first-clear, testAt, _&_, equal}
 
 module _ (C : Code) (P s u : List ℕ) where
   pub symbols-fit : strange (modulus P) s (cells C P) ≡ false → SymbolsFit C P s
@@ -49,6 +49,11 @@ module _ (C : Code) (P s u : List ℕ) where
       let d = neither (ltb (full P) (at u c)) (eqb (at s c) unread && not (eqb (at u c) (full P))) (any-none _ _ e c m) in
       (ltb-false _ _ (d .0), λ k. eqb-true _ _ (not-false _ (not-both _ _ (d .1) (eq-eqb _ _ k))))
 
+  pub fit-doubts : DoubtsFit (full P) C P s u → misdoubted (full P) s u (cells C P) ≡ false
+  fit-doubts h = none-any _ _ λ c m.
+      let (most, erased) = h c m in
+      rw (le-ltb _ _ most) (both-false _ _ λ t. equal _ _ (erased (eqb-true _ _ t)))
+
 module _ (C : Code) (P s u B : List ℕ) where
   -- the rows after the plan's
   abbrev rest : List Refusal
@@ -60,12 +65,8 @@ module _ (C : Code) (P s u B : List ℕ) where
 
   pub photo-accepted : Photograph C P s u → length B ≡ size C P → first (photoRows C P s u B) ≡ 0
   photo-accepted h l = split ∙ ap (λ k. accepted k (first rest) k) (checked P (h .sound)) ∙ sym (first-at rest 5
-      (equal _ _ (h .symbols), (equal _ _ (h .doubts), (equal _ _ l, (fit-symbols C P s u (h .symbol), (doubt, tt))))))
-    where
-      doubt : misdoubted (full P) s u (cells C P) ≡ false
-      doubt = none-any _ _ λ c m.
-          let (most, erased) = h .doubt c m in
-          rw (le-ltb _ _ most) (both-false _ _ λ t. equal _ _ (erased (eqb-true _ _ t)))
+      (equal _ _ (h .symbols) & equal _ _ (h .doubts) & equal _ _ l & fit-symbols C P s u (h .symbol)
+      & fit-doubts C P s u (h .doubt) & tt))
 
   module _ (e : first (photoRows C P s u B) ≡ 0) where
     passed : checkNumber P ≡ 0
