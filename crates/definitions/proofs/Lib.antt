@@ -18,6 +18,7 @@ pub mod Margin
 pub mod Published
 pub mod Finder
 pub mod Accepted
+pub mod Sets
 pub mod Masking
 pub mod Masked
 pub mod Explaining
