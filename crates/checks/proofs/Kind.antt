@@ -13,16 +13,17 @@ use Prim.Native.Nat.{ℕ}
 use lib.ListN.{length}
 use Rattle.field.specs.Word.{reached}
 use Rattle.definitions.specs.Refusals.{Refusal, first}
-use Rattle.definitions.specs.Plan.{modulus, planRows, checkNumber}
-use Rattle.definitions.specs.Code.{codeOf, oblong, size, cells}
+use Rattle.definitions.specs.Plan.{modulus, checkNumber}
+use Rattle.definitions.specs.Code.{codeOf, size, cells}
 use Rattle.definitions.specs.Cost.{full}
 use Rattle.definitions.specs.Calls.{overflowing, photoTests, photoRows, writeTests, writeNumber}
 use Rattle.definitions.specs.Masking.{maskTests, maskNumber}
-use Rattle.definitions.specs.Sets.{setPlan, addTests, addRows, addNumber, combineTests, combineRows, combineNumber}
-use Rattle.definitions.proofs.Refusals.{Stops, numberAt, first-at, first-passes, answered}
+use Rattle.definitions.specs.Sets.{setPlan, addTests, addNumber, combineTests, combineNumber}
+use Rattle.definitions.proofs.Refusals.{Stops, numberAt, first-at, answered}
 use Rattle.definitions.proofs.Sound.{checked}
 use Rattle.definitions.proofs.Plan.{strip-size, mark-size}
 use Rattle.definitions.proofs.Accepted.{photo-passes, write-passes, mask-passes}
+use Rattle.definitions.proofs.Sets.{add-passes, combine-passes}
 use Rattle.plan.specs.declared.Plan.{Plan}
 use Rattle.plan.specs.Says.{Says}
 use Rattle.checks.specs.Kind.{sizeOf, cellsOf}
@@ -63,14 +64,10 @@ module _ (mark : Bool) {P : List ℕ} {plan : Plan} (says : Says P plan) where
 -- of sets: the plan is the one in the memory
 module _ (S : List ℕ) {plan : Plan} (says : Says (setPlan S) plan) where
   pub add-at : (k : ℕ) (s u : List ℕ) → Gives true says (λ p f n _. addTests p f S k s u n) (addNumber S k s u)
-  unfolding addNumber addRows planRows checkNumber
-  add-at k s u = gives true says (λ p f n _. addTests p f S k s u n) (first-passes (planRows (setPlan S))
-      (addTests (modulus (setPlan S)) (full (setPlan S)) S k s u (cells oblong (setPlan S))) tt)
+  add-at k s u = gives true says (λ p f n _. addTests p f S k s u n) (add-passes S k s u)
 
   pub combine-at : (B D : List ℕ) → Gives true says (λ p f n _. combineTests B D n) (combineNumber S B D)
-  unfolding combineNumber combineRows planRows checkNumber
-  combine-at B D = gives true says (λ p f n _. combineTests B D n)
-      (first-passes (planRows (setPlan S)) (combineTests B D (cells oblong (setPlan S))) tt)
+  combine-at B D = gives true says (λ p f n _. combineTests B D n) (combine-passes S B D)
 
 pub record-reached : {r t : Bool} {k : ℕ} (p : ℕ) (F : List ℕ) → length F ≡ k → r ≡ reached p F → r ≡ t → overflowing p F k ≡ t
 record-reached p F l e = answered (rw l at e)

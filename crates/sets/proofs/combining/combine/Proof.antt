@@ -5,8 +5,9 @@ use Rattle.bounded.specs.Bounded.{tab}
 use Rattle.votes.specs.Votes.{symbolOf, doubtOf}
 use Rattle.definitions.specs.Sets.{combineSymbols, combineDoubts, combinedSymbols, combinedDoubts}
 use Rattle.definitions.proofs.Sound.{sound}
+use Rattle.definitions.proofs.Sets.{combine-refused}
 use Rattle.plan.proofs.Ready.{ready}
-use Rattle.sets.proofs.Refused.{combine-refused, combine-accepted, keeps, gives}
+use Rattle.sets.proofs.Refused.{combine-accepted, keeps, gives}
 use borrow.Author.Needs.{needs}
 use Rattle.sets.proofs.combining.combine.Statement.{statement}
 use Rattle.sets.proofs.combining.combine.Tie as tie

@@ -1,8 +1,8 @@
 -- `sets::holding::refusal` meets its contract: the set's plan is looked at first. Assumes nothing.
 use mathlib.Core.Path.{sym, _∙_}
 use Rattle.definitions.proofs.Sound.{sound}
+use Rattle.definitions.proofs.Sets.{add-refused}
 use Rattle.plan.proofs.Ready.{ready}
-use Rattle.sets.proofs.Refused.{add-refused}
 use borrow.Author.Needs.{needs}
 use Rattle.sets.proofs.holding.refusal.Statement.{statement}
 use Rattle.sets.proofs.holding.refusal.Tie as tie
