@@ -1,7 +1,7 @@
 /*
  * traymark: square and oblong marks on fruit trays, written and read.
  *
- * Sixteen calls over plain bytes. Each is proved to give what its comment says, for any bytes and any lengths.
+ * Twenty-two calls over plain bytes. Each is proved to give what its comment says, for any bytes and any lengths.
  * `make lib` writes the library, and `cc -Iinclude program.c target/staticlib/libtraymark.a` links a program with it.
  *
  * Words
@@ -25,16 +25,21 @@
  *            year is 1900 to 2199: 29 February 2000 is real, 29 February 1900 and 2100 are not.
  *   window   12 bytes: season (2, high byte first), first date, last date, two zeros. The days of the season are those from
  *            the first date to the last, both included; it may cross New Year, and it may be one day.
+ *   set      2,353 bytes: a plan, and of up to nine photographs of one mark, numbered 0 to 8, the symbols of those that are
+ *            held. A set begins with traymark_set_start.
  *
  * Buffers
  *   A buffer is a pointer and a length, in that order. The pointer is not null and points to that many bytes; where the
  *   length is 0 it is not followed. A `const` buffer is only read. A buffer that a call writes must overlap no other
- *   buffer of that call; its old bytes are not looked at, but for symbols that are masked or unmasked in place. Nothing is
- *   kept after the call returns, nothing is allocated, there is no state: calls may run in several threads at once.
+ *   buffer of that call; its old bytes are not looked at, but for symbols that are masked or unmasked in place, and for sets.
+ *   A set is lent like a buffer, behind a pointer alone. But for the bytes of sets, which are the caller's, nothing is kept
+ *   after the call returns; nothing is allocated, there is no other state: calls may run in several threads at once, those
+ *   on one set as is said there.
  *
  * Numbers
- *   Every call answers with a number: 0, or the refusal that applies. Where several apply, the first of those that the
- *   call names is given; they are named in the order of this list, 13 between 3 and 4, but for widening, 11 before 6.
+ *   Every call but traymark_set_size answers with a number: 0, or the refusal that applies. Where several apply, the first
+ *   of those that the call names is given; they are named in the order of this list, 13 between 3 and 4, 17 and 18 between
+ *   6 and 7, but for widening, 11 before 6.
  *   A REFUSAL CHANGES NO LENT BYTE. (*offset and *season of the two finders are results, and are then 0.)
  *
  *    1  the plan is not 40 bytes long, or its byte 38 or 39 is not 0
@@ -45,10 +50,12 @@
  *    5  a row point, or then a column point, is p or more or not above the one before it, or an unused point byte of
  *       either set is not 0
  *    6  a lent buffer (symbols, doubts, record, another record, mark, strip or widened plans) has not its exact length
+ *   17  the number of a photograph to add is above 8, or held
+ *   18  the number of a photograph to withdraw is not held, as none above 8 is
  *    7  a symbol is p or more and not 255
  *    8  a doubt is above the full doubt, or that of an unread cell is not the full doubt
  *    9  a coefficient of a given record is p or more
- *   10  reading only: no record costs under R
+ *   10  reading only, a set too: no record costs under R
  *   11  the plan file's length is no multiple of 40; widening: more than 1,000 plans, or a length no multiple of 24
  *   12  no plan in the file has the season
  *   14  the window file's length is no multiple of 12, it has more than 64 windows, a date in it is unreal, a last date is
@@ -84,6 +91,22 @@ typedef struct {
     uint32_t place;  /* of reason 2 the lowest place at which the marks, or strips, of the two records differ; else 0 */
     uint32_t excess; /* of reason 3 the expected record's cost less R, 0 or more; else 0 */
 } traymark_reason;
+
+/* How many bytes a set has. traymark_set_size gives the library's own number, to compare. */
+#define TRAYMARK_SET_SIZE 2353
+
+/*
+ * A set, in memory of the caller's: anywhere, of any alignment. Nothing else is kept of it, so a copy of the bytes is a set too,
+ * and one that is no longer wanted needs no call.
+ *
+ *   0 to 39      the plan
+ *   40 to 48     for each number 0 to 8: 0 where it is not held, else held; the calls write 1
+ *   49 to 2352   for each number 256 symbols, those of number k from 49 + 256 * k on: of a photograph that is held its rows *
+ *                columns symbols, then 255s; of one that is not held 256 times 255
+ */
+typedef struct {
+    uint8_t bytes[TRAYMARK_SET_SIZE];
+} traymark_set;
 
 /*
  * Checks a plan.
@@ -320,6 +343,94 @@ uint32_t traymark_mask_strip(const uint8_t *plan, size_t plan_len,
 uint32_t traymark_unmask_strip(const uint8_t *plan, size_t plan_len,
                                const uint8_t *record, size_t record_len,
                                uint8_t *symbols, size_t symbols_len);
+
+/*
+ * Sets: up to nine photographs of one mark, numbered 0 to 8, are added as they arrive, and one whose focus was poor is withdrawn;
+ * those that are held are combined cell by cell, and the combination is read like any photograph. It is always the one that is
+ * made afresh from those held, in whatever order they came and whatever was withdrawn between.
+ *
+ * The combined cell: each photograph held casts a vote for its symbol there, and none where the cell is unread. The symbol is the
+ * one with most votes, the smallest of them where several tie. With t votes in all, m for that symbol and s for the next (0 where
+ * there is no other), its doubt is F less the whole part of F * (m - s) / t: 0 where all agree, F where symbols tie. Without a
+ * vote the cell is unread, 255, with the doubt F. A photograph's own doubts are checked when it is added, and not used.
+ *
+ *     votes                symbol   doubt where F is 100, 250
+ *     4                    4        0    0
+ *     5 5 5 5 5 5 5 5 5    5        0    0
+ *     6 6 6 6 6 0 0 0 0    6        89   223
+ *     3 3 3 3 1 1 1 0 0    3        89   223
+ *     6 2                  2        100  250
+ *     none                 255      100  250
+ *
+ * A set takes TRAYMARK_SET_SIZE bytes of the caller's memory. That is all there is of it: nothing is allocated, nothing is kept
+ * elsewhere, and there may be any number of sets. A set begins with traymark_set_start, which looks at no byte of what was there,
+ * and needs no end. The other calls trust nothing in a set and answer any bytes whatever: the plan in it is checked at each use.
+ * In a set that was started, and changed by these calls alone, it is never refused.
+ *
+ * Two threads may not use one set at the same time where one of them starts it, adds or withdraws; combining and reading leave
+ * it as it is, and may be done in several threads at once.
+ *
+ * The size of a set, in bytes.
+ *
+ *   result   TRAYMARK_SET_SIZE, of the library that is linked
+ */
+size_t traymark_set_size(void);
+
+/*
+ * Starts a set: no photograph is held. A set that is in use is emptied, and has the new plan; to start it again by its own, lend
+ * a copy of that.
+ *
+ *   set      written whole where the number is 0: the plan, nine zeros, 2,304 times 255; else unchanged
+ *   plan     read
+ *   result   0; refusals 1 2 3 13 4 5
+ */
+uint32_t traymark_set_start(traymark_set *set, const uint8_t *plan, size_t plan_len);
+
+/*
+ * Adds a photograph. A number that was withdrawn can be used again.
+ *
+ *   set         changed where the number is 0: the symbols go into their place, and the photograph is held; else unchanged
+ *   photograph  its number, 0 to 8; any other gets 17
+ *   symbols     read; rows * columns bytes
+ *   doubts      read, and checked by 8; rows * columns bytes. They are not kept
+ *   result      0; refusals 1 2 3 13 4 5 of the plan in the set, then 6 17 7 8
+ */
+uint32_t traymark_set_add(traymark_set *set, uint32_t photograph,
+                          const uint8_t *symbols, size_t symbols_len,
+                          const uint8_t *doubts, size_t doubts_len);
+
+/*
+ * Withdraws a photograph. The plan in the set is not looked at.
+ *
+ *   set         changed where the number is 0: the 256 symbols in the photograph's place become 255, and it is not held; else
+ *               unchanged
+ *   photograph  its number, 0 to 8; any other gets 18
+ *   result      0; refusal 18
+ */
+uint32_t traymark_set_withdraw(traymark_set *set, uint32_t photograph);
+
+/*
+ * Combines the photographs that are held into one. Of a set that these calls have made from its start it is a photograph of the
+ * plan: refusals 1 to 8 and 13 never meet it.
+ *
+ *   set      read; in bytes that the calls have not made, each of the nine places votes, held or not
+ *   symbols  written whole where the number is 0; rows * columns bytes
+ *   doubts   written whole where the number is 0; rows * columns bytes
+ *   result   0; refusals 1 2 3 13 4 5 of the plan in the set, then 6
+ */
+uint32_t traymark_set_combine(const traymark_set *set, uint8_t *symbols, size_t symbols_len,
+                              uint8_t *doubts, size_t doubts_len);
+
+/*
+ * Reads the combination: the number, the result and the record are those that traymark_read_mark gives with the plan in the set
+ * and what traymark_set_combine makes of the set. While none is held that is 10.
+ *
+ *   set      read
+ *   record   written whole where the number is 0; K bytes
+ *   result   that record's cost, margin, changed and unread counts and class; refusals 1 2 3 13 4 5 of the plan in the set,
+ *            then 6, 7 (in bytes that the calls have not made: a combined symbol may be p or more there) and 10
+ */
+traymark_reading traymark_set_read(const traymark_set *set, uint8_t *record, size_t record_len);
 
 #ifdef __cplusplus
 }
