@@ -1,7 +1,7 @@
 //! The calls as `include/traymark.h` declares them: each slice is a pointer and a length, in that order.
 //!
-//! What a caller owes is in that header: each pointer points to as many bytes as its length says, and a buffer that is
-//! written overlaps no other of the call.
+//! What a caller owes is in that header: each pointer points to as many bytes as its length says, that of a set to `SET_SIZE`,
+//! and what is written overlaps nothing else of the call.
 
 /// What measuring and reading answer. Of a refusal everything but the number is 0.
 #[repr(C)]
@@ -24,6 +24,12 @@ pub struct RawReason {
     pub place: u32,
     pub excess: u32,
 }
+
+/// How many bytes a set has.
+pub const SET_SIZE: usize = 2353;
+
+/// The bytes of a set, which are the caller's. Any bytes are answered.
+pub type RawSet = [u8; SET_SIZE];
 
 extern "C" {
     pub fn traymark_check_plan(plan: *const u8, plan_len: usize) -> u32;
@@ -164,6 +170,31 @@ extern "C" {
         symbols: *mut u8,
         symbols_len: usize,
     ) -> u32;
+
+    pub fn traymark_set_size() -> usize;
+
+    pub fn traymark_set_start(set: *mut RawSet, plan: *const u8, plan_len: usize) -> u32;
+
+    pub fn traymark_set_add(
+        set: *mut RawSet,
+        photograph: u32,
+        symbols: *const u8,
+        symbols_len: usize,
+        doubts: *const u8,
+        doubts_len: usize,
+    ) -> u32;
+
+    pub fn traymark_set_withdraw(set: *mut RawSet, photograph: u32) -> u32;
+
+    pub fn traymark_set_combine(
+        set: *const RawSet,
+        symbols: *mut u8,
+        symbols_len: usize,
+        doubts: *mut u8,
+        doubts_len: usize,
+    ) -> u32;
+
+    pub fn traymark_set_read(set: *const RawSet, record: *mut u8, record_len: usize) -> RawReading;
 }
 
 /// Writing a mark or a strip: plan, record, mark. Masking and unmasking one: plan, record, symbols.

@@ -2,7 +2,7 @@
 //!
 //! Plans, records, marks, strips, photographs and season windows are plain bytes; `include/traymark.h` says what each holds.
 //! A call that writes takes the buffer to write into, of the exact length; a refusal changes no byte of it. Masking and unmasking
-//! change the symbols that they are given.
+//! change the symbols that they are given. Several photographs of one mark are a `Set`.
 //!
 //! A doubt is 0 to the full doubt, which is 100 for plans of seasons before 30 and 250 for plans of season 30 and later; that
 //! of an unread cell is the full doubt.
@@ -36,8 +36,11 @@
 
 pub mod ffi;
 mod refusal;
+mod set;
 
+pub use ffi::SET_SIZE;
 pub use refusal::Refusal;
+pub use set::Set;
 
 /// The length of a plan in bytes.
 pub const PLAN_LENGTH: usize = 40;

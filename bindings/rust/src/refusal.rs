@@ -15,6 +15,8 @@ pub enum Refusal {
     Degree = 4,
     Points = 5,
     BufferLength = 6,
+    NotFree = 17,
+    NotHeld = 18,
     Symbol = 7,
     Doubt = 8,
     Coefficient = 9,
@@ -27,8 +29,8 @@ pub enum Refusal {
 }
 
 impl Refusal {
-    /// All refusals, in the order in which they are tested: by rising number, but 13 after 3.
-    pub const ALL: [Refusal; 16] = [
+    /// All refusals, in the order in which they are tested: by rising number, but 13 after 3, and 17 and 18 after 6.
+    pub const ALL: [Refusal; 18] = [
         Refusal::PlanForm,
         Refusal::Modulus,
         Refusal::Rows,
@@ -36,6 +38,8 @@ impl Refusal {
         Refusal::Degree,
         Refusal::Points,
         Refusal::BufferLength,
+        Refusal::NotFree,
+        Refusal::NotHeld,
         Refusal::Symbol,
         Refusal::Doubt,
         Refusal::Coefficient,
@@ -52,7 +56,7 @@ impl Refusal {
         Refusal::ALL.into_iter().find(|refusal| refusal.number() == number)
     }
 
-    /// Its number, 1 to 16.
+    /// Its number, 1 to 18.
     pub fn number(self) -> u32 {
         self as u32
     }
@@ -69,6 +73,8 @@ impl Refusal {
                 "a row or column point is p or more or not above the one before it, or an unused point byte is not 0"
             }
             Refusal::BufferLength => "a lent buffer has not its exact length",
+            Refusal::NotFree => "the number of the photograph to add is above 8, or held",
+            Refusal::NotHeld => "the number of the photograph to withdraw is not held",
             Refusal::Symbol => "a symbol is p or more and not 255",
             Refusal::Doubt => "a doubt is above the full doubt, or that of an unread cell is not the full doubt",
             Refusal::Coefficient => "a coefficient of the given record is p or more",
@@ -101,10 +107,10 @@ mod tests {
     use super::*;
 
     #[test]
-    fn numbers_go_from_1_to_16_and_13_comes_after_3() {
-        assert_eq!(Refusal::ALL.map(Refusal::number), [1, 2, 3, 13, 4, 5, 6, 7, 8, 9, 10, 11, 12, 14, 15, 16]);
+    fn numbers_go_from_1_to_18_in_the_order_of_the_tests() {
+        assert_eq!(Refusal::ALL.map(Refusal::number), [1, 2, 3, 13, 4, 5, 6, 17, 18, 7, 8, 9, 10, 11, 12, 14, 15, 16]);
         assert!(Refusal::ALL.iter().all(|&refusal| Refusal::from_number(refusal.number()) == Some(refusal)));
-        assert_eq!([0, 17].map(Refusal::from_number), [None, None]);
+        assert_eq!([0, 19].map(Refusal::from_number), [None, None]);
     }
 
     #[test]

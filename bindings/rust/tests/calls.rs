@@ -1,8 +1,8 @@
 //! Each call through the wrapper: cases a, c and f of document 01, wrong and unread cells at once, strips, oblong marks, doubts
-//! in 250ths, the three reasons, season windows, masks, and a refusal of each call. Buffers that are to be written hold 9s
-//! before, so that it is seen when a refusal changes one.
+//! in 250ths, the three reasons, season windows, masks, sets of photographs, and a refusal of each call. Buffers that are to be
+//! written hold 9s before, so that it is seen when a refusal changes one.
 
-use traymark::{Reading, Reason, Refusal, OLD_PLAN_LENGTH, PLAN_LENGTH, WINDOW_LENGTH};
+use traymark::{Reading, Reason, Refusal, Set, OLD_PLAN_LENGTH, PLAN_LENGTH, SET_SIZE, WINDOW_LENGTH};
 
 /// Plan A: season 12, p 7, 3 rows, 3 columns, d 1, points 1 2 4 each way.
 const PLAN: [u8; PLAN_LENGTH] = plan([0, 12, 7, 3, 3, 1], [1, 2, 4], [1, 2, 4]);
@@ -448,4 +448,135 @@ fn masked_photographs() {
     assert_eq!(traymark::mask_mark(&PLAN, &MASK, &mut masked), Ok(()));
     assert_eq!(traymark::read_mark(&PLAN, &masked, &SURE, &mut record), Err(Refusal::NoRecord));
     assert_eq!(record, [9; 3]);
+}
+
+#[test]
+fn a_set_has_the_size_that_the_library_says() {
+    assert_eq!(unsafe { traymark::ffi::traymark_set_size() }, SET_SIZE);
+    assert_eq!(size_of::<Set>(), SET_SIZE);
+}
+
+/// The symbols and the doubts of the combination.
+fn combined(set: &Set) -> ([u8; 9], [u8; 9]) {
+    let (mut symbols, mut doubts) = ([9; 9], [9; 9]);
+    assert_eq!(set.combine(&mut symbols, &mut doubts), Ok(()));
+    (symbols, doubts)
+}
+
+/// What is said of the combination's record, and the record.
+fn read(set: &Set) -> (Result<Reading, Refusal>, [u8; 3]) {
+    let mut record = [9; 3];
+    (set.read(&mut record), record)
+}
+
+/// The bytes of a set that holds none, or the mark as each of these photographs.
+fn bytes_of_set(plan: &[u8; PLAN_LENGTH], held: &[usize]) -> [u8; SET_SIZE] {
+    let mut bytes = [255; SET_SIZE];
+    bytes[..PLAN_LENGTH].copy_from_slice(plan);
+    bytes[40..49].fill(0);
+    for k in held {
+        bytes[40 + k] = 1;
+        bytes[49 + 256 * k..][..9].copy_from_slice(&MARK);
+    }
+    bytes
+}
+
+#[test]
+fn sets_are_filled_and_emptied() {
+    let mut set = Set::start(&PLAN).unwrap();
+    assert_eq!(set.as_bytes(), &bytes_of_set(&PLAN, &[]));
+    assert_eq!(combined(&set), ([255; 9], [100; 9]));
+    assert_eq!(read(&set), (Err(Refusal::NoRecord), [9; 3]));
+    for photograph in 0..9 {
+        assert_eq!(set.add(photograph, &MARK, &[10 * photograph as u8; 9]), Ok(()));
+    }
+    assert_eq!(set.as_bytes(), &bytes_of_set(&PLAN, &[0, 1, 2, 3, 4, 5, 6, 7, 8]));
+    assert_eq!(combined(&set), (MARK, SURE));
+    let right = Reading { cost: 0, margin: 600, changed: 0, unread: 0, class: 0 };
+    assert_eq!(read(&set), (Ok(right), RECORD));
+    for photograph in [8, 0, 4, 3, 5, 1, 7] {
+        assert_eq!(set.withdraw(photograph), Ok(()));
+    }
+    assert_eq!(set.as_bytes(), &bytes_of_set(&PLAN, &[2, 6]));
+    assert_eq!(set.add(8, &MARK, &SURE), Ok(()));
+    assert_eq!(set, Set::from_bytes(bytes_of_set(&PLAN, &[2, 6, 8])));
+    assert_eq!(set.restart(&LATER_PLAN), Ok(()));
+    assert_eq!(set.as_bytes(), &bytes_of_set(&LATER_PLAN, &[]));
+    assert_eq!(combined(&set), ([255; 9], [250; 9]));
+}
+
+/// Cells of three photographs: all agree, 2 to 1, a tie of three, a tie of two, one vote, none.
+#[test]
+fn sets_combine_by_votes() {
+    let photographs =
+        [[6, 1, 5, 6, 5, 255, 255, 255, 0], [6, 1, 4, 255, 5, 4, 255, 0, 0], [6, 3, 3, 2, 255, 255, 255, 255, 6]];
+    for (plan, full, two_of_three) in [(PLAN, 100, 67), (LATER_PLAN, 250, 167)] {
+        let mut set = Set::start(&plan).unwrap();
+        for (photograph, symbols) in (0..).zip(&photographs) {
+            let doubts = symbols.map(|symbol| if symbol == 255 { full } else { 1 });
+            assert_eq!(set.add(photograph, symbols, &doubts), Ok(()));
+        }
+        let doubts = [0, two_of_three, full, full, 0, 0, full, 0, two_of_three];
+        assert_eq!(combined(&set), ([6, 1, 3, 2, 5, 4, 255, 0, 0], doubts));
+    }
+}
+
+/// Case c alone, then with case d, then case d alone.
+#[test]
+fn sets_are_read() {
+    let mut set = Set::start(&PLAN).unwrap();
+    assert_eq!(set.add(0, &CASE_C, &SURE), Ok(()));
+    let alone = Reading { cost: 400, margin: 200, changed: 2, unread: 0, class: 1 };
+    assert_eq!(read(&set), (Ok(alone), RECORD));
+    assert_eq!(set.add(5, &CASE_D, &SURE), Ok(()));
+    // three cells tie, and the smaller symbol is the wrong one
+    assert_eq!(combined(&set), ([0, 0, 0, 0, 2, 6, 2, 4, 0], [0, 100, 100, 0, 0, 0, 0, 0, 100]));
+    let both = Reading { cost: 500, margin: 100, changed: 4, unread: 0, class: 2 };
+    assert_eq!(read(&set), (Ok(both), RECORD));
+    assert_eq!(set.withdraw(0), Ok(()));
+    assert_eq!(read(&set), (Err(Refusal::NoRecord), [9; 3]));
+    assert_eq!(set.read(&mut [9; 2]), Err(Refusal::BufferLength));
+}
+
+/// Each refusal with later ones beside it; the set stays as it was.
+#[test]
+fn sets_refuse() {
+    assert_eq!(Set::start(&PLAN[..39]), Err(Refusal::PlanForm));
+    let mut set = Set::from_bytes(bytes_of_set(&PLAN, &[4]));
+    let before = set.clone();
+    let unsound = plan([0, 12, 9, 3, 3, 1], [1, 2, 4], [1, 2, 4]);
+    assert_eq!(set.restart(&unsound), Err(Refusal::Modulus));
+    assert_eq!(set.add(4, &[7; 8], &[101; 9]), Err(Refusal::BufferLength));
+    assert_eq!(set.add(9, &[7; 9], &[101; 8]), Err(Refusal::BufferLength));
+    assert_eq!(set.add(4, &[7; 9], &[101; 9]), Err(Refusal::NotFree));
+    for far in [9, 256, 1 << 16, u32::MAX] {
+        assert_eq!(set.add(far, &MARK, &SURE), Err(Refusal::NotFree));
+        assert_eq!(set.withdraw(far), Err(Refusal::NotHeld));
+    }
+    assert_eq!(set.add(3, &[7; 9], &[101; 9]), Err(Refusal::Symbol));
+    assert_eq!(set.add(3, &MARK, &[101; 9]), Err(Refusal::Doubt));
+    assert_eq!(set.add(3, &CASE_F, &SURE), Err(Refusal::Doubt));
+    assert_eq!(set.withdraw(3), Err(Refusal::NotHeld));
+    let (mut short, mut cells) = ([9; 8], [9; 9]);
+    assert_eq!(set.combine(&mut short, &mut cells), Err(Refusal::BufferLength));
+    assert_eq!(set.combine(&mut cells, &mut short), Err(Refusal::BufferLength));
+    assert_eq!((short, cells), ([9; 8], [9; 9]));
+    assert_eq!(set, before);
+}
+
+/// Bytes that no call has made: the plan is checked at each use, any flag but 0 is held, and every place votes.
+#[test]
+fn sets_of_any_bytes() {
+    let zeros = Set::from_bytes([0; SET_SIZE]);
+    assert_eq!(read(&zeros), (Err(Refusal::Modulus), [9; 3]));
+    assert_eq!(zeros.clone().add(0, &MARK, &SURE), Err(Refusal::Modulus));
+    assert_eq!(zeros.clone().withdraw(0), Err(Refusal::NotHeld));
+    let mut bytes = bytes_of_set(&PLAN, &[4]);
+    (bytes[42], bytes[49]) = (77, 254);
+    let mut set = Set::from_bytes(bytes);
+    assert_eq!(set.add(2, &MARK, &SURE), Err(Refusal::NotFree));
+    assert_eq!(combined(&set).0, MARK);
+    assert_eq!(set.withdraw(2), Ok(()));
+    assert_eq!(set.withdraw(4), Ok(()));
+    assert_eq!(read(&set), (Err(Refusal::Symbol), [9; 3]));
 }
