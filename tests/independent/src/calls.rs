@@ -243,16 +243,11 @@ fn check_photograph(code: Code, plan: &Plan, symbols: &[u8], doubts: &[u8], reco
     let cells = code.cells(plan);
     check_lengths(&[(symbols.len(), cells), (doubts.len(), cells), (record, code.size(plan))])?;
     check_symbols(plan, symbols)?;
-    let full = plan.full_doubt();
-    let wrong = |(&symbol, &doubt): (&u32, &u32)| doubt > full || symbol == UNREAD && doubt != full;
-    if numbers(symbols).iter().zip(&numbers(doubts)).any(wrong) {
-        return Err(8);
-    }
-    Ok(())
+    check_doubts(plan, symbols, doubts)
 }
 
 /// Refusal 6: pairs of the length that is there and the one that is owed.
-fn check_lengths(lengths: &[(usize, usize)]) -> Result<(), u32> {
+pub(crate) fn check_lengths(lengths: &[(usize, usize)]) -> Result<(), u32> {
     if lengths.iter().any(|(is, owed)| is != owed) {
         return Err(6);
     }
@@ -260,9 +255,19 @@ fn check_lengths(lengths: &[(usize, usize)]) -> Result<(), u32> {
 }
 
 /// Refusal 7.
-fn check_symbols(plan: &Plan, symbols: &[u8]) -> Result<(), u32> {
+pub(crate) fn check_symbols(plan: &Plan, symbols: &[u8]) -> Result<(), u32> {
     if numbers(symbols).iter().any(|&symbol| symbol >= plan.p && symbol != UNREAD) {
         return Err(7);
+    }
+    Ok(())
+}
+
+/// Refusal 8.
+pub(crate) fn check_doubts(plan: &Plan, symbols: &[u8], doubts: &[u8]) -> Result<(), u32> {
+    let full = plan.full_doubt();
+    let wrong = |(&symbol, &doubt): (&u32, &u32)| doubt > full || symbol == UNREAD && doubt != full;
+    if numbers(symbols).iter().zip(&numbers(doubts)).any(wrong) {
+        return Err(8);
     }
     Ok(())
 }

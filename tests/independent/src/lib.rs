@@ -4,7 +4,9 @@
 //! Small plans are read by going through all their records (`exhaustive`), others by Berlekamp and Welch's linear
 //! equations at every level of doubt, for every number of errors (`strip`), and for marks one coefficient of Y at a
 //! time over that (`mark`). Dates are counted as days (`calendar`), and a window file is the days that its windows have
-//! (`windows`). Everything is written for being seen to be right; nothing is written for speed.
+//! (`windows`). A set is the photographs that it holds, combined afresh each time (`sets`), and what its calls do with bytes
+//! that they have not made is told apart (`memory`). Everything is written for being seen to be right; nothing is written for
+//! speed.
 
 pub mod calendar;
 pub mod calls;
@@ -13,7 +15,9 @@ pub mod cost;
 pub mod exhaustive;
 pub mod field;
 pub mod mark;
+pub mod memory;
 pub mod plan;
+pub mod sets;
 pub mod strip;
 pub mod windows;
 
@@ -21,10 +25,11 @@ pub use calendar::{Date, DAYS};
 pub use calls::{check_plan, explain, find_plan, mask, measure, read, unmask, widen_plans, write, Reading, Reason};
 pub use code::Code;
 pub use plan::{Plan, FINER, OLD_PLAN, PLAN};
+pub use sets::{Set, PHOTOGRAPHS, SET};
 pub use windows::{find_season, Window, Windows, WINDOW};
 
 /// The refusals in the order in which they are tested.
-pub const ORDER: [u32; 16] = [1, 2, 3, 13, 4, 5, 6, 7, 8, 9, 10, 11, 12, 14, 15, 16];
+pub const ORDER: [u32; 18] = [1, 2, 3, 13, 4, 5, 6, 17, 18, 7, 8, 9, 10, 11, 12, 14, 15, 16];
 
 /// The symbol of an unread cell. It is no value, as p is at most 251.
 pub const UNREAD: u32 = 255;
