@@ -7,7 +7,7 @@ use independent::{Code, Reading, Reason};
 
 /// All that a call on a plan can be given. `record` is the given record, or for reading the buffer for one; `symbols` are changed
 /// by masking and unmasking; `other` is the buffer for another record that explaining takes.
-#[derive(Clone, Debug)]
+#[derive(Clone, Debug, PartialEq, Eq)]
 pub struct Arguments {
     pub code: Code,
     pub plan: Vec<u8>,

@@ -2,6 +2,7 @@
 
 use crate::calls::{Arguments, Call, Outcome};
 use crate::plans::primes;
+use crate::sets::{Seen, SetCall};
 use independent::windows::MOST_WINDOWS;
 use independent::{Code, Date, Plan, Reading, Reason, Windows, FINER};
 use std::collections::BTreeMap;
@@ -51,8 +52,9 @@ pub struct Counts {
     pub fullest_masks: u64,
     /// cells that were masked: unread; with the symbol 0 and another value; with the value 0; with a sum of p; with 250 and 250
     pub masked_cells: [u64; 5],
+    pub sets: Seen,
     /// answers by number, and accepted readings and measurements by class
-    pub numbers: [u64; 17],
+    pub numbers: [u64; 19],
     pub classes: [u64; 4],
 }
 
@@ -234,6 +236,12 @@ impl Counts {
         }
     }
 
+    /// What a call on a set answers.
+    pub fn set_answer(&mut self, call: SetCall, number: u32) {
+        self.number(number);
+        self.sets.answer(call, number);
+    }
+
     pub fn number(&mut self, number: u32) {
         self.calls += 1;
         self.numbers[number as usize] += 1;
@@ -269,6 +277,7 @@ impl Counts {
         self.masks_of_0 += other.masks_of_0;
         self.fullest_masks += other.fullest_masks;
         add_each(&mut self.masked_cells, other.masked_cells);
+        self.sets.add(&other.sets);
         add_each(&mut self.numbers, other.numbers);
         add_each(&mut self.classes, other.classes);
     }
@@ -307,7 +316,7 @@ impl Counts {
             (self.first_days < 40_000, "fewer than 40,000 first days of windows"),
             (self.last_days < 40_000, "fewer than 40,000 last days of windows"),
             (self.beside < 10_000, "fewer than 10,000 days beside a window and in none"),
-            (self.numbers[14..].iter().any(|&n| n < 100_000), "fewer than 100,000 refusals of 14, 15 or 16"),
+            (self.numbers[14..=16].iter().any(|&n| n < 100_000), "fewer than 100,000 refusals of 14, 15 or 16"),
             (
                 (0..2).any(|k| self.few(1_000, |age| age.masked[0][k])),
                 "fewer than 1,000 squares of one age read with a mask on, or refused with 10",
@@ -328,6 +337,7 @@ impl Counts {
         ]
         .into_iter()
         .find_map(|(missing, what)| missing.then_some(what))
+        .or_else(|| self.sets.missing())
     }
 
     /// Whether one of the ages has fewer than so many.
@@ -360,7 +370,7 @@ impl fmt::Display for Counts {
              both methods: {}; first of several plans: {}, unsound before sound: {}; \
              widened: {}; reasons: {}; other at the first, the last, the latest cell: {} {} {}; excess 0, 1: {} {}; \
              window files with 64, one season twice, touching: {} {} {}; first days, last days, beside a window: {} {} {}; \
-             masks of 0, of p - 1: {} {}; cells masked unread, 0, by 0, to p, to 500: {}; numbers: {}; classes: {}",
+             masks of 0, of p - 1: {} {}; cells masked unread, 0, by 0, to p, to 500: {}; sets: {}; numbers: {}; classes: {}",
             self.calls,
             self.marks,
             self.oblongs,
@@ -389,6 +399,7 @@ impl fmt::Display for Counts {
             self.masks_of_0,
             self.fullest_masks,
             list(&self.masked_cells),
+            self.sets,
             list(&self.numbers),
             list(&self.classes)
         )

@@ -39,6 +39,11 @@ impl Lent {
         self.arena[..GUARD] == self.before[..GUARD] && self.arena[end..] == self.before[end..]
     }
 
+    /// The bytes are from now on to stay as they are.
+    pub fn settle(&mut self) {
+        self.before.copy_from_slice(&self.arena);
+    }
+
     /// The bytes as they were first again.
     pub fn restore(&mut self) {
         self.arena.copy_from_slice(&self.before);

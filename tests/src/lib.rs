@@ -1,5 +1,5 @@
 //! What the tests of the calls and of the programs share: random plans, photographs of a chosen cost, window files, lent
-//! buffers, runs of a program.
+//! buffers and sets, runs of a program.
 
 pub mod calls;
 pub mod counts;
@@ -10,4 +10,5 @@ pub mod plans;
 pub mod program;
 pub mod random;
 pub mod run;
+pub mod sets;
 pub mod windows;

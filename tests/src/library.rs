@@ -235,7 +235,7 @@ type MeasureSafe = fn(&[u8], &[u8], &[u8], &[u8]) -> Result<traymark::Reading, R
 type ReadSafe = fn(&[u8], &[u8], &[u8], &mut [u8]) -> Result<traymark::Reading, Refusal>;
 type ExplainSafe = fn(&[u8], &[u8], &[u8], &[u8], &mut [u8]) -> Result<traymark::Reason, Refusal>;
 
-fn reading(raw: RawReading) -> Reading {
+pub fn reading(raw: RawReading) -> Reading {
     let RawReading { number, cost, margin, changed, unread, class } = raw;
     Reading { number, cost, margin, changed, unread, class }
 }
@@ -249,7 +249,7 @@ fn reason(raw: RawReason) -> Result<Reason, String> {
     Ok(Reason { number, reason, place, excess })
 }
 
-fn refused(answer: Result<(), Refusal>) -> u32 {
+pub fn refused(answer: Result<(), Refusal>) -> u32 {
     answer.err().map_or(0, Refusal::number)
 }
 
@@ -274,7 +274,7 @@ pub fn told(answer: Result<traymark::Reason, Refusal>) -> Reason {
 }
 
 /// The wrapper's answer is the call's. It is asked only where the number is one that it knows.
-fn alike<A: PartialEq + Debug>(number: u32, raw: A, wrapped: impl FnOnce() -> A) -> Result<(), String> {
+pub fn alike<A: PartialEq + Debug>(number: u32, raw: A, wrapped: impl FnOnce() -> A) -> Result<(), String> {
     if number != 0 && Refusal::from_number(number).is_none() {
         return Err(format!("gave the number {number}"));
     }
@@ -292,14 +292,14 @@ fn same_buffer(outcome: &Outcome, lent: &Lent) -> Result<(), String> {
     Ok(())
 }
 
-fn guarded(lent: &Lent) -> Result<(), String> {
+pub fn guarded(lent: &Lent) -> Result<(), String> {
     if !lent.is_guarded() {
         return Err("changed a byte beside the buffer that it writes".into());
     }
     Ok(())
 }
 
-fn untouched(lent: &[&Lent]) -> Result<(), String> {
+pub fn untouched(lent: &[&Lent]) -> Result<(), String> {
     if !lent.iter().all(|buffer| buffer.is_untouched()) {
         return Err("changed a buffer that it only reads, or a byte beside it".into());
     }
