@@ -129,7 +129,7 @@ impl fmt::Display for Age {
 }
 
 /// Which of the two ages the season is of.
-fn age(season: u16) -> usize {
+pub fn age(season: u16) -> usize {
     usize::from(season >= FINER)
 }
 

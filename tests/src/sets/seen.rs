@@ -1,8 +1,10 @@
 //! What was seen of sets.
 
 use super::SetCall;
+use crate::counts::age;
 use independent::sets::ranked;
-use independent::{Code, Plan, Set, FINER, PHOTOGRAPHS};
+use independent::{Code, Plan, Set, PHOTOGRAPHS};
+use std::cmp::Ordering::{Equal, Greater, Less};
 use std::collections::BTreeMap;
 use std::fmt;
 
@@ -60,10 +62,6 @@ fn digits(votes: &[u32]) -> u32 {
     votes.iter().fold(0, |digits, votes| 10 * digits + votes)
 }
 
-fn age(plan: &Plan) -> usize {
-    usize::from(plan.season >= FINER)
-}
-
 impl Seen {
     pub fn answer(&mut self, call: SetCall, number: u32) {
         *self.answers.entry((call as usize, number)).or_default() += 1;
@@ -75,7 +73,7 @@ impl Seen {
         for cell in 0..cells {
             let ranked = ranked(set.symbols(cell));
             let votes: Vec<u32> = ranked.iter().map(|&(_, votes)| votes).collect();
-            *self.votes[age(&set.plan)].entry(digits(&votes)).or_default() += 1;
+            *self.votes[age(set.plan.season)].entry(digits(&votes)).or_default() += 1;
             let symbol = ranked.first().map(|&(symbol, _)| u32::from(symbol));
             self.cells[0] += u64::from(symbol == Some(0));
             self.cells[1] += u64::from(symbol == Some(set.plan.p - 1));
@@ -86,11 +84,11 @@ impl Seen {
     /// A set whose combination was read, with that number.
     pub fn read(&mut self, plan: &Plan, number: u32) {
         let kind = match plan.rows().cmp(&plan.columns()) {
-            std::cmp::Ordering::Equal => 0,
-            std::cmp::Ordering::Greater => 1,
-            std::cmp::Ordering::Less => 2,
+            Equal => 0,
+            Greater => 1,
+            Less => 2,
         };
-        self.readings[age(plan)][kind][usize::from(number != 0)] += 1;
+        self.readings[age(plan.season)][kind][usize::from(number != 0)] += 1;
     }
 
     pub fn event(&mut self, event: Event) {
@@ -138,14 +136,14 @@ impl Seen {
                 "fewer than 1,000 combined cells with 0, with p - 1 or the last of 256",
             ),
             (
-                self.readings.as_flattened().as_flattened().iter().any(|&n| n < 500),
-                "fewer than 500 combinations of one kind read, or refused with 10",
+                self.readings.as_flattened().as_flattened().iter().any(|&n| n < 300),
+                "fewer than 300 combinations of one kind read, or refused with 10",
             ),
-            (self.restarted < 500, "fewer than 500 sets in use that were started with other cells"),
-            (self.unstarted < 500, "fewer than 500 starts refused to sets in use"),
-            (self.full < 500, "fewer than 500 full sets"),
-            (self.emptied < 200, "fewer than 200 sets emptied by withdrawing"),
-            (self.reused < 5_000, "fewer than 5,000 numbers of photographs used again"),
+            (self.restarted < 300, "fewer than 300 sets in use that were started with other cells"),
+            (self.unstarted < 300, "fewer than 300 starts refused to sets in use"),
+            (self.full < 300, "fewer than 300 full sets"),
+            (self.emptied < 300, "fewer than 300 sets emptied by withdrawing"),
+            (self.reused < 1_000, "fewer than 1,000 numbers of photographs used again"),
         ]
         .into_iter()
         .find_map(|(missing, what)| missing.then_some(what))

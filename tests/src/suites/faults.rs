@@ -12,14 +12,14 @@ use traymark_tests::plans::{self, Shape, LARGE_OBLONGS, LARGE_SQUARES};
 use traymark_tests::random::Random;
 
 /// A way to break arguments.
-struct Fault {
-    name: &'static str,
+pub struct Fault {
+    pub name: &'static str,
     /// what is broken: faults in one place might mend each other
-    place: &'static str,
-    number: u32,
+    pub place: &'static str,
+    pub number: u32,
     /// the calls that it concerns
     calls: &'static [Call],
-    apply: fn(&mut Arguments, &Plan, &mut Random),
+    pub apply: fn(&mut Arguments, &Plan, &mut Random),
 }
 
 pub fn alone(seed: u64, random: &mut Random, counts: &mut Counts) -> Result<(), String> {
@@ -71,8 +71,14 @@ pub fn in_plans(seed: u64, random: &mut Random, counts: &mut Counts) -> Result<(
     Ok(())
 }
 
+/// Makes a plan unsound.
+pub fn break_plan(given: &mut Arguments, plan: &Plan, random: &mut Random) {
+    let faults: Vec<&Fault> = FAULTS.iter().copied().filter(|fault| rank(fault.number) < rank(6)).collect();
+    (random.pick(&faults).apply)(given, plan, random);
+}
+
 /// The place of a number in the order in which refusals are tested.
-fn rank(number: u32) -> usize {
+pub fn rank(number: u32) -> usize {
     ORDER.into_iter().position(|other| other == number).expect("a refusal's number")
 }
 
@@ -158,7 +164,7 @@ macro_rules! fault {
 }
 
 #[rustfmt::skip]
-const FAULTS: &[&Fault] = &[
+pub const FAULTS: &[&Fault] = &[
     fault!("no plan", "form", 1, ON_PLAN, |g, _, _| g.plan.clear()),
     fault!("plan one short", "form", 1, ON_PLAN, |g, _, _| g.plan.truncate(39)),
     fault!("plan one long", "form", 1, ON_PLAN, |g, _, _| g.plan.push(0)),

@@ -8,7 +8,7 @@ use traymark_tests::counts::Counts;
 use traymark_tests::random::Random;
 
 /// A buffer of the arguments.
-type Choose = fn(&mut Arguments) -> &mut Vec<u8>;
+pub type Choose = fn(&mut Arguments) -> &mut Vec<u8>;
 
 pub fn case(seed: u64, random: &mut Random, counts: &mut Counts) -> Result<(), String> {
     let code = [Code::Strip, Code::Mark][seed as usize % 2];
@@ -58,19 +58,19 @@ fn resized(
     Ok(())
 }
 
-fn plan(given: &mut Arguments) -> &mut Vec<u8> {
+pub fn plan(given: &mut Arguments) -> &mut Vec<u8> {
     &mut given.plan
 }
 
-fn record(given: &mut Arguments) -> &mut Vec<u8> {
+pub fn record(given: &mut Arguments) -> &mut Vec<u8> {
     &mut given.record
 }
 
-fn symbols(given: &mut Arguments) -> &mut Vec<u8> {
+pub fn symbols(given: &mut Arguments) -> &mut Vec<u8> {
     &mut given.symbols
 }
 
-fn doubts(given: &mut Arguments) -> &mut Vec<u8> {
+pub fn doubts(given: &mut Arguments) -> &mut Vec<u8> {
     &mut given.doubts
 }
 

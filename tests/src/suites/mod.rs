@@ -15,6 +15,7 @@ mod plans;
 mod rows;
 mod rubbish;
 mod seasons;
+mod sets;
 mod swapped;
 mod widening;
 
@@ -61,6 +62,13 @@ pub fn all() -> Vec<Suite> {
         Suite { name: "mask-undone", cases: 20_000, case: masks::cells::undone },
         Suite { name: "masked", cases: shapes, case: masks::photographs::masked },
         Suite { name: "printed", cases: shapes, case: masks::photographs::printed },
+        Suite { name: "sets", cases: sets::documented::CASES, case: sets::documented::case },
+        Suite { name: "set-votes", cases: 324, case: sets::votes::case },
+        Suite { name: "set-histories", cases: 400, case: sets::histories::case },
+        Suite { name: "set-bytes", cases: 10_000, case: sets::bytes::case },
+        Suite { name: "set-changed", cases: 40, case: sets::bytes::changed },
+        Suite { name: "set-lengths", cases: 40, case: sets::lengths::case },
+        Suite { name: "set-faults", cases: 10, case: sets::faults::case },
         Suite { name: "faults-alone", cases: 1_000, case: faults::alone },
         Suite { name: "faults-largest", cases: 140, case: faults::largest },
         Suite { name: "faults-together", cases: 20_000, case: faults::together },

@@ -16,6 +16,11 @@ pub fn case(_: u64, random: &mut Random, counts: &mut Counts) -> Result<(), Stri
     Ok(())
 }
 
+/// The right lengths for a mark by that plan, the plan too, and any bytes in them.
+pub fn on(plan: &Plan, random: &mut Random) -> Arguments {
+    of_right_length(Code::Mark, plan, plan.bytes().to_vec(), random)
+}
+
 /// Any bytes, for all buffers or for some.
 pub fn arguments(random: &mut Random) -> Arguments {
     let code = random.pick(&[Code::Strip, Code::Mark]);
