@@ -1,6 +1,6 @@
-/* The sixteen calls from C: the layout of the answers, the cases of document 01, wrong and unread cells at once, oblong
-   marks and strips beside them, doubts in 250ths, plans widened, seasons by date, the three reasons, masks, and the refusals at
-   empty buffers. */
+/* The twenty-two calls from C: the layout of the answers, the cases of document 01, wrong and unread cells at once, oblong
+   marks and strips beside them, doubts in 250ths, plans widened, seasons by date, the three reasons, masks, sets of photographs,
+   and the refusals at empty buffers. */
 #include <stdio.h>
 #include <stdlib.h>
 #include <string.h>
@@ -21,6 +21,10 @@ _Static_assert(offsetof(traymark_reason, reason) == 4, "reason");
 _Static_assert(offsetof(traymark_reason, place) == 8, "place");
 _Static_assert(offsetof(traymark_reason, excess) == 12, "excess");
 
+_Static_assert(TRAYMARK_SET_SIZE == 40 + 9 + 9 * 256, "a plan, nine flags, nine times 256 symbols");
+_Static_assert(sizeof(traymark_set) == TRAYMARK_SET_SIZE, "its bytes and no others");
+_Static_assert(_Alignof(traymark_set) == 1, "anywhere");
+
 /* The calls once more, by their types: a header that declares another one doesn't compile. */
 typedef const uint8_t *in;
 uint32_t traymark_check_plan(in, size_t);
@@ -39,6 +43,12 @@ uint32_t traymark_mask_mark(in, size_t, in, size_t, uint8_t *, size_t);
 uint32_t traymark_unmask_mark(in, size_t, in, size_t, uint8_t *, size_t);
 uint32_t traymark_mask_strip(in, size_t, in, size_t, uint8_t *, size_t);
 uint32_t traymark_unmask_strip(in, size_t, in, size_t, uint8_t *, size_t);
+size_t traymark_set_size(void);
+uint32_t traymark_set_start(traymark_set *, in, size_t);
+uint32_t traymark_set_add(traymark_set *, uint32_t, in, size_t, in, size_t);
+uint32_t traymark_set_withdraw(traymark_set *, uint32_t);
+uint32_t traymark_set_combine(const traymark_set *, uint8_t *, size_t, uint8_t *, size_t);
+traymark_reading traymark_set_read(const traymark_set *, uint8_t *, size_t);
 
 static int tests;
 
@@ -627,6 +637,200 @@ static void mask_and_read(void)
     EXPECT(record[0] == 3 && record[1] == 1 && record[2] == 9);
 }
 
+/* sets with a byte on each side that no call may change */
+static struct { uint8_t before; traymark_set set; uint8_t after; } lent = {.before = 77, .after = 88};
+static traymark_set *const set = &lent.set;
+
+/* the bytes of a set by plan A, or plan A of another season, that holds the photographs of these symbols, or null for none */
+static traymark_set holding(const uint8_t plan[40], const uint8_t *const photographs[9])
+{
+    traymark_set holds;
+    memset(&holds, 255, sizeof holds);
+    memcpy(holds.bytes, plan, 40);
+    for (size_t k = 0; k < 9; k++) {
+        holds.bytes[40 + k] = photographs[k] != NULL;
+        if (photographs[k])
+            memcpy(holds.bytes + 49 + 256 * k, photographs[k], 9);
+    }
+    return holds;
+}
+
+/* whether the set has exactly the bytes of one that holds these photographs */
+static int holds(const uint8_t plan[40], const uint8_t *const photographs[9])
+{
+    const traymark_set expected = holding(plan, photographs);
+    return memcmp(set, &expected, sizeof expected) == 0 && lent.before == 77 && lent.after == 88;
+}
+
+/* whether the set combines to these symbols and doubts, and stays as it is */
+static int combines(in symbols, in doubts)
+{
+    const traymark_set unchanged = *set;
+    uint8_t s[11] = {7, [10] = 7}, d[11] = {7, [10] = 7};
+    return traymark_set_combine(set, s + 1, 9, d + 1, 9) == 0 && memcmp(s + 1, symbols, 9) == 0 && memcmp(d + 1, doubts, 9) == 0
+           && s[0] == 7 && s[10] == 7 && d[0] == 7 && d[10] == 7 && memcmp(set, &unchanged, sizeof unchanged) == 0;
+}
+
+/* reads the set into a record of 9s, which it leaves on a refusal */
+static traymark_reading read_set(void)
+{
+    uint8_t record[5] = {9, 9, 9, 9, 9};
+    traymark_reading r = traymark_set_read(set, record + 1, 3);
+    EXPECT(memcmp(record + 1, r.number == 0 ? record_a : (const uint8_t[3]){9, 9, 9}, 3) == 0);
+    EXPECT(record[0] == 9 && record[4] == 9);
+    return r;
+}
+
+/* a set in memory of any bytes: none is held, then case c, then case d too, then that alone, then the mark too; then it begins
+   anew */
+static void sets(void)
+{
+    const uint8_t full[9] = {100, 100, 100, 100, 100, 100, 100, 100, 100};
+    const uint8_t none[9] = {255, 255, 255, 255, 255, 255, 255, 255, 255};
+    const uint8_t *held[9] = {NULL};
+    uint8_t later[40];
+    EXPECT(traymark_set_size() == TRAYMARK_SET_SIZE);
+    memset(set, 0xa5, sizeof *set);
+    const traymark_set unchanged = *set;
+    EXPECT(traymark_set_start(set, plan_a, 39) == 1 && traymark_set_start(set, plan_a, 0) == 1);
+    EXPECT(memcmp(set, &unchanged, sizeof unchanged) == 0);
+    EXPECT(traymark_set_start(set, ALL(plan_a)) == 0 && holds(plan_a, held) && combines(none, full));
+    EXPECT(refused(read_set(), 10));
+
+    EXPECT(traymark_set_add(set, 0, ALL(case_c), ALL(sure)) == 0);
+    held[0] = case_c;
+    EXPECT(holds(plan_a, held) && combines(case_c, sure) && is(read_set(), 400, 200, 2, 0, 1));
+    EXPECT(traymark_set_add(set, 0, ALL(case_d), ALL(sure)) == 17 && holds(plan_a, held));
+    EXPECT(traymark_set_add(set, 8, ALL(case_d), ALL(full)) == 0);
+    held[8] = case_d;
+    /* three cells tie, and the smaller symbol is the wrong one */
+    const uint8_t ties[9] = {0, 0, 0, 0, 2, 6, 2, 4, 0}, tie_doubts[9] = {0, 100, 100, 0, 0, 0, 0, 0, 100};
+    EXPECT(holds(plan_a, held) && combines(ties, tie_doubts) && is(read_set(), 500, 100, 4, 0, 2));
+
+    EXPECT(traymark_set_withdraw(set, 0) == 0);
+    held[0] = NULL;
+    EXPECT(holds(plan_a, held) && combines(case_d, sure) && refused(read_set(), 10));
+    EXPECT(traymark_set_withdraw(set, 0) == 18 && holds(plan_a, held));
+    EXPECT(traymark_set_add(set, 0, ALL(mark_a), ALL(sure)) == 0);
+    held[0] = mark_a;
+    const uint8_t first[9] = {0, 0, 0, 0, 2, 6, 2, 4, 1}, first_doubts[9] = {100, 100, 100};
+    EXPECT(holds(plan_a, held) && combines(first, first_doubts) && is(read_set(), 300, 300, 3, 0, 1));
+
+    /* a refused start leaves it, another empties it; from season 30 on doubts are in 250ths */
+    uint8_t unsound[40];
+    memcpy(unsound, plan_a, 40), unsound[2] = 9;
+    EXPECT(traymark_set_start(set, ALL(unsound)) == 2 && holds(plan_a, held));
+    in_season(plan_a, 30, later), held[0] = held[8] = NULL;
+    EXPECT(traymark_set_start(set, ALL(later)) == 0 && holds(later, held));
+    EXPECT(traymark_set_add(set, 3, ALL(none), ALL(full)) == 8 && holds(later, held));
+    const uint8_t later_full[9] = {250, 250, 250, 250, 250, 250, 250, 250, 250};
+    EXPECT(traymark_set_add(set, 3, ALL(none), ALL(later_full)) == 0 && combines(none, later_full));
+}
+
+/* nine photographs; the cells: 9 of 9, 5 to 4, 4 to 3 to 2, a tie of four, a tie of three, 2 to 1, one vote for 0, 8 to 1, no
+   vote; then all but three are withdrawn */
+static void set_votes(void)
+{
+    const uint8_t photographs[9][9] = {
+        {5, 6, 3, 6, 255, 6, 255, 5, 255}, {5, 6, 3, 6, 6, 0, 255, 1, 255}, {5, 6, 3, 5, 255, 6, 255, 1, 255},
+        {5, 6, 3, 5, 2, 255, 255, 1, 255}, {5, 6, 1, 4, 255, 255, 0, 1, 255}, {5, 0, 1, 4, 4, 255, 255, 1, 255},
+        {5, 0, 1, 2, 255, 255, 255, 1, 255}, {5, 0, 0, 2, 255, 255, 255, 1, 255}, {5, 0, 0, 255, 255, 255, 255, 1, 255}};
+    const uint8_t symbols[9] = {5, 6, 3, 2, 2, 6, 0, 1, 255}, few_symbols[9] = {5, 6, 3, 6, 6, 6, 255, 1, 255};
+    const uint8_t doubts[2][9] = {{0, 89, 89, 100, 100, 67, 0, 23, 100}, {0, 223, 223, 250, 250, 167, 0, 56, 250}};
+    const uint8_t few_doubts[2][9] = {{0, 0, 0, 67, 0, 67, 100, 67, 100}, {0, 0, 0, 167, 0, 167, 250, 167, 250}};
+    for (int age = 0; age < 2; age++) {
+        uint8_t plan[40], own[9];
+        in_season(plan_a, age ? 30 : 29, plan);
+        EXPECT(traymark_set_start(set, ALL(plan)) == 0);
+        for (uint32_t k = 9; k-- > 0;) {
+            for (size_t c = 0; c < 9; c++)
+                own[c] = photographs[k][c] == 255 ? (age ? 250 : 100) : (uint8_t)(10 * k + c);
+            EXPECT(traymark_set_add(set, k, ALL(photographs[k]), ALL(own)) == 0);
+        }
+        EXPECT(combines(symbols, doubts[age]));
+        for (uint32_t k = 9; k-- > 3;)
+            EXPECT(traymark_set_withdraw(set, k) == 0);
+        EXPECT(combines(few_symbols, few_doubts[age]));
+    }
+}
+
+/* 6, then 17, then 7, then 8, and 18; numbers that are 4 or 5 in their low bits; no byte changes */
+static void set_refused(void)
+{
+    const uint8_t *held[9] = {[4] = mark_a};
+    const uint8_t sevens[9] = {7, 7, 7, 7, 7, 7, 7, 7, 7}, doubts[10] = {101}, unread[9] = {255};
+    uint8_t s[10] = {9}, d[10] = {9}, record[4] = {9, 9, 9, 9};
+    *set = holding(plan_a, held);
+    for (size_t length = 0; length <= 10; length++) {
+        const uint32_t number = length == 9 ? 17 : 6;
+        EXPECT(traymark_set_add(set, 4, doubts, length, doubts, 9) == number);
+        EXPECT(traymark_set_add(set, 9, ALL(sevens), doubts, length) == number);
+        EXPECT(length == 9 || traymark_set_combine(set, s, length, d, 9) == 6);
+        EXPECT(length == 9 || traymark_set_combine(set, s, 9, d, length) == 6);
+        EXPECT(length == 3 || length > 4 || refused(traymark_set_read(set, record, length), 6));
+    }
+    for (uint32_t bit = 4; bit < 32; bit++) {
+        EXPECT(traymark_set_add(set, 5 + (1u << bit), ALL(mark_a), ALL(sure)) == 17);
+        EXPECT(traymark_set_withdraw(set, 4 + (1u << bit)) == 18);
+    }
+    EXPECT(traymark_set_add(set, 9, ALL(mark_a), ALL(sure)) == 17 && traymark_set_withdraw(set, 9) == 18);
+    EXPECT(traymark_set_add(set, UINT32_MAX, ALL(mark_a), ALL(sure)) == 17 && traymark_set_withdraw(set, UINT32_MAX) == 18);
+    EXPECT(traymark_set_add(set, 4, ALL(sevens), doubts, 9) == 17);
+    EXPECT(traymark_set_add(set, 5, ALL(sevens), doubts, 9) == 7);
+    EXPECT(traymark_set_add(set, 5, ALL(mark_a), doubts, 9) == 8 && traymark_set_add(set, 5, ALL(unread), ALL(sure)) == 8);
+    EXPECT(traymark_set_withdraw(set, 5) == 18);
+    EXPECT(holds(plan_a, held) && s[0] == 9 && d[0] == 9 && memcmp(record, (const uint8_t[4]){9, 9, 9, 9}, 4) == 0);
+}
+
+/* bytes that no call has made: the plan's refusals come first, but in withdrawing; any flag but 0 is held; every place votes */
+static void set_of_any_bytes(void)
+{
+    const uint8_t *held[9] = {[4] = mark_a};
+    uint8_t s[9] = NINES, d[9] = NINES, record[3] = {9, 9, 9};
+    *set = holding(plan_a, held);
+    uint8_t *plan = set->bytes;
+    plan[2] = 9, plan[3] = 0, plan[4] = 0, plan[5] = 16, plan[6] = 7, plan[39] = 1;
+    const struct { size_t place; uint8_t repaired; uint32_t before; } repairs[6] = {
+        {39, 0, 1}, {2, 7, 2}, {3, 3, 3}, {4, 3, 13}, {5, 1, 4}, {6, 1, 5}};
+    for (size_t k = 0; k < 6; k++) {
+        uint32_t number = repairs[k].before;
+        EXPECT(traymark_set_add(set, 9, mark_a, 8, sure, 8) == number && traymark_set_combine(set, s, 8, d, 8) == number);
+        EXPECT(refused(traymark_set_read(set, record, 2), number) && traymark_set_withdraw(set, 0) == 18);
+        plan[repairs[k].place] = repairs[k].repaired;
+    }
+    EXPECT(holds(plan_a, held) && s[0] == 9 && d[0] == 9 && record[0] == 9);
+    set->bytes[42] = 77, set->bytes[49] = 254;
+    EXPECT(traymark_set_add(set, 2, ALL(mark_a), ALL(sure)) == 17);
+    const uint8_t first_full[9] = {100};
+    EXPECT(combines(mark_a, first_full) && is(read_set(), 100, 500, 0, 0, 0)); /* 6 and 254 tie */
+    EXPECT(traymark_set_withdraw(set, 2) == 0 && traymark_set_withdraw(set, 4) == 0 && refused(read_set(), 7));
+    EXPECT(set->bytes[42] == 0 && set->bytes[44] == 0 && set->bytes[49] == 254);
+}
+
+/* 16 by 16 cells: nine photographs of the record 7, each with its own sixteen cells unread and seventeen wrong */
+static void set_largest(void)
+{
+    uint8_t plan[40] = {1, 12, 251, 16, 16, 0}, symbols[256], doubts[256], record[2] = {9, 9};
+    for (uint8_t k = 0; k < 16; k++)
+        plan[6 + k] = plan[22 + k] = (uint8_t)(k * 16);
+    EXPECT(traymark_set_start(set, ALL(plan)) == 0);
+    for (uint32_t k = 0; k < 9; k++) {
+        memset(symbols, 7, 256), memset(doubts, (int)k, 256);
+        memset(symbols + 16 * k, 255, 16), memset(doubts + 16 * k, 250, 16);
+        memset(symbols + 160 + k, 250, 1), memset(symbols + 240, 250, 16);
+        EXPECT(traymark_set_add(set, k, ALL(symbols), ALL(doubts)) == 0);
+        EXPECT(memcmp(set->bytes + 49 + 256 * k, symbols, 256) == 0 && set->bytes[40 + k] == 1);
+    }
+    EXPECT(traymark_set_combine(set, ALL(symbols), ALL(doubts)) == 0);
+    for (size_t c = 0; c < 256; c++) {
+        EXPECT(symbols[c] == (c < 240 ? 7 : 250));
+        EXPECT(doubts[c] == (c >= 160 && c < 169 ? 56 : 0)); /* 8 to 1 */
+    }
+    /* nine cells in doubt 56 and sixteen wrong ones */
+    EXPECT(is(traymark_set_read(set, record, 1), 9 * 56 + 16 * 500, 64000 - 9 * 56 - 16 * 500, 16, 0, 3));
+    EXPECT(record[0] == 7 && record[1] == 9 && lent.before == 77 && lent.after == 88);
+}
+
 /* 16 by 16 cells from season 30 on: the highest margin, the lowest, as much as an answer costs, and the largest excess */
 static void largest(void)
 {
@@ -686,6 +890,11 @@ int main(void)
     mask_largest();
     mask_refused();
     mask_and_read();
+    sets();
+    set_votes();
+    set_refused();
+    set_of_any_bytes();
+    set_largest();
     largest();
     printf("calls.c: ok: %d tests\n", tests);
     return 0;

@@ -112,8 +112,8 @@ fn voted(plan: &[u8], rows: &[Votes], first: usize, random: &mut Random, counts:
     expect(&format!("combined {photographs:?}, {plan:?}"), (left, left_doubts), (symbols, doubts))
 }
 
-/// A set under plan A, byte by byte: cases c and d of document 01 arrive, and case c is withdrawn; then the mark arrives under its
-/// number.
+/// A set under plan A, byte by byte: cases c and d of document 01 arrive, and case c is withdrawn; then the mark arrives under
+/// its number.
 fn history(random: &mut Random, counts: &mut Counts) -> Result<(), String> {
     let mut set = LentSet::new(&random.bytes(SET), random);
     let before = set.bytes().to_vec();

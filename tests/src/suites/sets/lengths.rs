@@ -1,5 +1,5 @@
-//! The buffers of the calls on sets, empty, one short, one long, and far too long: also by 256 and by 65,536, which a length in one
-//! byte or in two would not show, and 1 MiB.
+//! The buffers of the calls on sets, empty, one short, one long, and far too long: also by 256 and by 65,536, which a length in
+//! one byte or in two would not show, and 1 MiB.
 
 use super::accepted;
 use crate::suites::faults::sound;

@@ -16,8 +16,8 @@ use traymark_tests::plans;
 use traymark_tests::random::Random;
 use traymark_tests::sets::SetArguments;
 
-/// Arguments that every call on a set accepts, with a photograph that arrives. Of 1 to 8 photographs that are held the first is the
-/// mark itself, and the others have cells that were not read.
+/// Arguments that every call on a set accepts, with a photograph that arrives. Of 1 to 8 photographs that are held the first is
+/// the mark itself, and the others have cells that were not read.
 pub fn accepted(plan: &Plan, lent: &Arguments, random: &mut Random) -> SetArguments {
     let mut numbers: [usize; PHOTOGRAPHS] = from_fn(|number| number);
     random.shuffle(&mut numbers);
