@@ -1,4 +1,4 @@
-//! Holds the sixteen calls against the independent decoder, the theory and document 01's own cases.
+//! Holds the twenty-two calls against the independent decoder, the theory and document 01's own cases.
 //!
 //! `calls` runs everything, `calls SUITE` one suite, `calls SUITE SEED` one case; a failure names both.
 

@@ -79,3 +79,56 @@ pub fn read(memory: &[u8], record: &mut [u8]) -> Reading {
     let [symbols, doubts] = Plan::parse(plan).map_or_else(|_| [const { Vec::new() }; 2], |plan| votes(memory, &plan));
     calls::read(Code::Mark, plan, &symbols, &doubts, record)
 }
+
+#[cfg(test)]
+mod tests {
+    use super::*;
+    use crate::sets::SET;
+
+    /// Plan A of season 12, number 2 with a flag of 77 and number 5 with one of 0, and 254 in the first cell of number 0.
+    fn odd() -> Vec<u8> {
+        let mut memory = vec![255; SET];
+        memory[..PLAN + PHOTOGRAPHS].fill(0);
+        memory[..9].copy_from_slice(&[0, 12, 7, 3, 3, 1, 1, 2, 4]);
+        memory[22..25].copy_from_slice(&[1, 2, 4]);
+        (memory[42], memory[49]) = (77, 254);
+        memory
+    }
+
+    #[test]
+    fn any_flag_but_0_is_held_and_every_place_votes() {
+        let mark = [6, 1, 5, 0, 2, 6, 2, 4, 1];
+        let mut memory = odd();
+        assert_eq!(add(&mut memory, 2, &[7; 9], &[0; 9]), 17);
+        assert_eq!([5, 9, 256].map(|photograph| withdraw(&mut memory, photograph)), [18; 3]);
+        let (mut symbols, mut doubts) = ([9; 9], [9; 9]);
+        assert_eq!(combine(&memory, &mut symbols, &mut doubts), 0);
+        assert_eq!((symbols[0], doubts[0], symbols[1], doubts[1]), (254, 0, 255, 100));
+        assert_eq!(read(&memory, &mut [9; 2]).number, 6);
+        assert_eq!(read(&memory, &mut [9; 3]).number, 7);
+        assert_eq!(memory, odd());
+        // what is beyond the cells stays as it is
+        memory[49 + 256 * 5 + 9] = 3;
+        assert_eq!(add(&mut memory, 5, &mark, &[0; 9]), 0);
+        assert_eq!(memory[45], 1);
+        assert_eq!(memory[49 + 256 * 5..][..11], [6, 1, 5, 0, 2, 6, 2, 4, 1, 3, 255]);
+        assert_eq!(read(&memory, &mut [9; 3]).cost, 100);
+        assert_eq!([5, 2].map(|photograph| withdraw(&mut memory, photograph)), [0; 2]);
+        memory[42] = 77;
+        assert_eq!(memory, odd());
+    }
+
+    #[test]
+    fn a_plan_that_is_unsound_is_refused_first() {
+        let mut memory = odd();
+        memory[2] = 9;
+        let before = memory.clone();
+        assert_eq!(add(&mut memory, 9, &[7; 8], &[0; 9]), 2);
+        assert_eq!(combine(&memory, &mut [9; 8], &mut [9; 8]), 2);
+        assert_eq!(read(&memory, &mut []).number, 2);
+        assert_eq!(start(&mut memory, &before[..PLAN]), 2);
+        assert_eq!(withdraw(&mut memory, 0), 18);
+        assert_eq!(memory, before);
+        assert_eq!(withdraw(&mut memory, 2), 0);
+    }
+}

@@ -81,6 +81,7 @@ pub fn case(seed: u64, random: &mut Random, counts: &mut Counts) -> Result<(), S
             voted(&with_season(&plan, season), rows, seed as usize, random, counts)?;
         }
     }
+    expect("the size", unsafe { traymark::ffi::traymark_set_size() }, SET)?;
     history(random, counts)
 }
 
