@@ -139,7 +139,7 @@ impl Seen {
                 self.readings.as_flattened().as_flattened().iter().any(|&n| n < 300),
                 "fewer than 300 combinations of one kind read, or refused with 10",
             ),
-            (self.restarted < 300, "fewer than 300 sets in use that were started with other cells"),
+            (self.restarted < 200, "fewer than 200 sets in use that were started with other cells"),
             (self.unstarted < 300, "fewer than 300 starts refused to sets in use"),
             (self.full < 300, "fewer than 300 full sets"),
             (self.emptied < 300, "fewer than 300 sets emptied by withdrawing"),

@@ -30,18 +30,33 @@ pub fn case(seed: u64, random: &mut Random, counts: &mut Counts) -> Result<(), S
     Ok(())
 }
 
-/// A set, what it is to hold, and the tray that is photographed for it.
+/// A set, what it is to hold, and the mark that is photographed for it.
 struct Tray {
     set: LentSet,
     model: Set,
-    /// the values of its mark and of a near one
-    words: [Vec<u32>; 2],
-    /// whether photographs are of the mark, and not of nothing
-    is_sharp: bool,
+    mark: Mark,
     /// whether photographs mostly arrive, or are mostly withdrawn
     is_filling: bool,
     /// the numbers that were withdrawn since the start
     withdrawn: [bool; PHOTOGRAPHS],
+}
+
+/// A mark that is photographed, and whether its photographs are of it, and not of nothing.
+struct Mark {
+    values: Vec<u32>,
+    /// those of a near mark
+    near: Vec<u32>,
+    is_sharp: bool,
+}
+
+impl Mark {
+    /// Any mark by that plan.
+    fn by(plan: &Plan, random: &mut Random) -> Mark {
+        let record = plans::record(Code::Mark, plan, random);
+        let rival = rival(Code::Mark, plan, &record, random);
+        let [values, near] = [record, rival].map(|record| Code::Mark.word(plan, &record));
+        Mark { values, near, is_sharp: !random.one_in(4) }
+    }
 }
 
 fn shape(is_large: bool, random: &mut Random) -> Shape {
@@ -59,29 +74,16 @@ impl Tray {
         if random.one_in(2) {
             let before = set.bytes().to_vec();
             refuse_start(&mut set, random, counts)?;
-            if set.bytes() != before {
-                return Err("a refused start changed the memory".into());
-            }
+            expect("a refused start", set.bytes(), &before)?;
         }
-        let number = set.start(&plan.bytes(), random)?;
-        counts.set_answer(SetCall::Start, number);
-        if number != 0 {
-            return Err(format!("start gave {number}, {plan:?}"));
-        }
-        let tray = Tray::on(set, &plan, random);
+        expect("start", set.start(&plan.bytes(), random)?, 0)?;
+        counts.set_answer(SetCall::Start, 0);
+        let model = Set::start(&plan.bytes()).expect("the plan is sound");
+        let mark = Mark::by(&plan, random);
+        let tray = Tray { set, model, mark, is_filling: true, withdrawn: [false; PHOTOGRAPHS] };
         tray.hold_memory()?;
         tray.hold_combination(random, counts)?;
         Ok(tray)
-    }
-
-    /// A tray with any mark by that plan, to go with a set that was started with it.
-    fn on(set: LentSet, plan: &Plan, random: &mut Random) -> Tray {
-        let record = plans::record(Code::Mark, plan, random);
-        let rival = rival(Code::Mark, plan, &record, random);
-        let words = [record, rival].map(|record| Code::Mark.word(plan, &record));
-        let model = Set::start(&plan.bytes()).expect("the plan is sound");
-        let is_sharp = !random.one_in(4);
-        Tray { set, model, words, is_sharp, is_filling: true, withdrawn: [false; PHOTOGRAPHS] }
     }
 
     /// One call that may change the set, or is refused, and what comes of it.
@@ -108,17 +110,21 @@ impl Tray {
         (0..).zip(&self.model.photographs).filter(|(_, place)| place.is_some() == held).map(|(k, _)| k).collect()
     }
 
-    /// The set is started with another plan.
+    /// The set is started with another plan, or with its own.
     fn restart(&mut self, random: &mut Random, counts: &mut Counts) -> Result<(), String> {
-        let plan = plans::plan(shape(false, random), random);
+        let plan = match random.one_in(4) {
+            true => self.model.plan.clone(),
+            false => plans::plan(shape(random.one_in(16), random), random),
+        };
         expect("start", self.set.start(&plan.bytes(), random)?, 0)?;
         counts.set_answer(SetCall::Start, 0);
         let in_use = self.model.photographs.iter().any(Option::is_some);
         if in_use && Code::Mark.cells(&plan) != Code::Mark.cells(&self.model.plan) {
             counts.sets.event(Event::Restarted);
         }
-        let set = LentSet::new(self.set.bytes(), random);
-        *self = Tray::on(set, &plan, random);
+        self.model = Set::start(&plan.bytes()).expect("the plan is sound");
+        self.mark = Mark::by(&plan, random);
+        self.withdrawn.fill(false);
         Ok(())
     }
 
@@ -133,15 +139,15 @@ impl Tray {
     /// A photograph of the mark, damaged in any way, or of nothing, or with no cell read.
     fn photograph(&self, random: &mut Random) -> [Vec<u8>; 2] {
         let plan = &self.model.plan;
-        let [mark, near] = &self.words;
+        let Mark { values, near, is_sharp } = &self.mark;
         let radius = Code::Mark.radius(plan);
         let some = random.between(0, radius);
         let cost = random.pick(&[0, some, some, radius - 1, radius]);
         let Photo { symbols, doubts } = match random.below(16) {
             0 => unread(Code::Mark, plan),
-            1 => photograph(plan, near, mark, cost, random),
+            1 => photograph(plan, near, values, cost, random),
             2 => noise(Code::Mark, plan, random),
-            _ if self.is_sharp => photograph(plan, mark, near, cost, random),
+            _ if *is_sharp => photograph(plan, values, near, cost, random),
             _ => noise(Code::Mark, plan, random),
         };
         [bytes(&symbols), bytes(&doubts)]
@@ -159,8 +165,7 @@ impl Tray {
         counts.set_answer(SetCall::Add, answer);
         expect(&format!("add {number} {symbols:?} {doubts:?}"), answer, self.model.add(number, symbols, doubts))?;
         if answer == 0 {
-            let number = number as usize;
-            if self.withdrawn[number] {
+            if self.withdrawn[number as usize] {
                 counts.sets.event(Event::Reused);
             }
             if self.numbers(false).is_empty() {
