@@ -37,9 +37,7 @@ pub enum Event {
     Reused,
 }
 
-const PLANS: [u32; 6] = [1, 2, 3, 13, 4, 5];
-
-/// The numbers that a call can give beside 0 and, where it looks at a plan, the plan's.
+/// The numbers that a call can give.
 fn numbers(call: SetCall) -> Vec<u32> {
     let own: &[u32] = match call {
         SetCall::Start => &[],
@@ -48,10 +46,10 @@ fn numbers(call: SetCall) -> Vec<u32> {
         SetCall::Combine => &[6],
         SetCall::Read => &[6, 7, 10],
     };
-    [&[0], &PLANS[..], own].concat()
+    [&[0, 1, 2, 3, 13, 4, 5], own].concat()
 }
 
-/// Every way in which at most so many votes can fall on symbols, each at most so many: digits as in `votes`.
+/// Every way in which at most `left` votes can fall on symbols, at most `most` on each: the votes of each, most first.
 pub fn falls(most: u32, left: u32) -> Vec<Vec<u32>> {
     let more = (1..=most.min(left))
         .flat_map(|first| falls(first, left - first).into_iter().map(move |rest| [&[first], &rest[..]].concat()));
@@ -132,8 +130,8 @@ impl Seen {
             (SetCall::ALL.into_iter().any(few_answers), "fewer than 200 of one number that a call on sets can give"),
             (self.votes.iter().any(few_votes), "fewer than 100 cells of one age for one way in which votes can fall"),
             (
-                self.cells.iter().any(|&n| n < 1_000),
-                "fewer than 1,000 combined cells with 0, with p - 1 or the last of 256",
+                self.cells.iter().any(|&n| n < 300),
+                "fewer than 300 combined cells with 0, with p - 1 or the last of 256",
             ),
             (
                 self.readings.as_flattened().as_flattened().iter().any(|&n| n < 300),

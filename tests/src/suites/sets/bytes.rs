@@ -14,12 +14,11 @@ use traymark_tests::sets::{hold, SetArguments, SetCall};
 /// Several calls, one after another, on one memory.
 pub fn case(_: u64, random: &mut Random, counts: &mut Counts) -> Result<(), String> {
     let plan = plan(random.pick(shapes()), random);
-    let mut given = SetArguments { memory: any(&plan, random), arriving: 0, withdrawn: 0, lent: lent(&plan, random) };
+    let mut memory = any(&plan, random);
     for _ in 0..4 {
         let [arriving, withdrawn] = [0, 1].map(|_| number(random));
-        let call = random.pick(&SetCall::ALL);
-        given = SetArguments { arriving, withdrawn, lent: lent(&plan, random), ..given };
-        given = hold(call, &given, random, counts)?.1;
+        let given = SetArguments { memory, arriving, withdrawn, lent: lent(&plan, random) };
+        memory = hold(random.pick(&SetCall::ALL), &given, random, counts)?.1.memory;
     }
     Ok(())
 }
