@@ -1,6 +1,6 @@
 -- Marks and strips, and the checks that they share.
 --
---   size-said            what the struct says of records is what the plan does
+--   cells-said, size-said   what the struct says of cells and records is what the plan does
 --   photo-at, write-at, mask-at, add-at, combine-at
 --                        under a sound plan, the number of the test at which a check stops is the call's
 --   record-reached       what `field::bytes::reaches` answered of a record is the answer to its test
@@ -29,7 +29,7 @@ use Rattle.plan.specs.Says.{Says}
 use Rattle.checks.specs.Kind.{sizeOf, cellsOf}
 
 -- what the struct says of cells and records is what the plan does
-cells-said : (mark : Bool) {P : List ℕ} {plan : Plan} → Says P plan → cellsOf mark (plan .grid) ≡ cells (codeOf mark) P
+pub cells-said : (mark : Bool) {P : List ℕ} {plan : Plan} → Says P plan → cellsOf mark (plan .grid) ≡ cells (codeOf mark) P
 unfolding cellsOf
 cells-said true says = rw (says .fields) refl
 cells-said false says = rw (says .fields) refl

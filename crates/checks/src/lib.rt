@@ -186,7 +186,7 @@ fn record_size(mark: bool, g: Grid) -> usize
 }
 
 // How many cells its mark has.
-fn cell_count(mark: bool, g: Grid) -> usize
+pub fn cell_count(mark: bool, g: Grid) -> usize
     requires { ⌜ Fit g ⌝ }
     ensures { λ r. ⌜ r ≡ cellsOf mark g ⌝ }
 {
