@@ -1,22 +1,19 @@
 // Several photographs of one tray: a set of them, in memory that the caller lends. It is bytes of a fixed number, and any bytes are
 // answered; a set begins with `traymark_set_start`. Nothing is kept elsewhere.
-use crate::read::traymark_read_mark;
 use definitions::PLAN_BYTES;
 use definitions::Reading;
 use definitions::SET_BYTES;
+use plan::Plan;
 use sets::combining;
 use sets::holding;
 ghost use mathlib.Core.Path.{_≡_};
-ghost use Prim.Native.Nat.{_≤_};
 ghost use lib.ListN.{length};
-ghost use Rattle.bounded.specs.Bounded.{tab};
-ghost use Rattle.votes.specs.Votes.{symbolOf, doubtOf};
 ghost use Rattle.definitions.specs.Plan.{checkNumber};
-ghost use Rattle.definitions.specs.Code.{oblong};
-ghost use Rattle.definitions.specs.Calls.{readReading, readBuffer};
-ghost use Rattle.definitions.specs.Sets.{setBytes, setPlan, column, startMemory, addNumber, addMemory};
+ghost use Rattle.definitions.specs.Code.{oblong, cells};
+ghost use Rattle.definitions.specs.Sets.{setBytes, setPlan, startMemory, addNumber, addMemory};
 ghost use Rattle.definitions.specs.Sets.{withdrawNumber, withdrawMemory, combineNumber, combineSymbols, combineDoubts};
 ghost use Rattle.definitions.specs.Sets.{setReading, setRecord};
+ghost use Rattle.plan.specs.Says.{Says};
 
 // How many bytes a set is.
 #[no_mangle]
@@ -127,31 +124,26 @@ fn read(set: &[u8], record: &mut [u8]) -> Reading
     let n = checks::cell_count(true, said.grid);
     let mut symbols = [0u8; 256];
     let mut doubts = [0u8; 256];
-    read_by(
-        set,
-        said.grid.full as u8,
-        &mut symbols[..n],
-        &mut doubts[..n],
-        record,
-    )
+    read_by(said, set, &mut symbols[..n], &mut doubts[..n], record)
 }
 
-// The combination goes into buffers of its own, and is then read.
+// The combination goes into buffers of its own, and is then read as any photograph.
 fn read_by(
+    plan: Plan,
     set: &[u8],
-    full: u8,
     symbols: &mut [u8],
     doubts: &mut [u8],
     record: &mut [u8],
 ) -> Reading
-    requires { ⌜ (length (now set) ≡ setBytes) × (length (now symbols) ≤ 256) × (length (now doubts) ≡ length (now symbols)) ⌝ }
-    ensures reading { λ r. ⌜ r ≡ readReading oblong (setPlan (now (set .entry)))
-        (tab (length (now (symbols .entry))) (λ c. symbolOf (column (now (set .entry)) c) 9))
-        (tab (length (now (symbols .entry))) (λ c. doubtOf full (column (now (set .entry)) c) 9)) (now («record» .entry)) ⌝ }
-    ensures bytes { λ r. ⌜ now («record» .exit) ≡ readBuffer oblong (setPlan (now (set .entry)))
-        (tab (length (now (symbols .entry))) (λ c. symbolOf (column (now (set .entry)) c) 9))
-        (tab (length (now (symbols .entry))) (λ c. doubtOf full (column (now (set .entry)) c) 9)) (now («record» .entry)) ⌝ }
+    requires { ⌜ Says (setPlan (now set)) plan × (length (now set) ≡ setBytes)
+        × (length (now symbols) ≡ cells oblong (setPlan (now set))) × (length (now doubts) ≡ length (now symbols)) ⌝ }
+    ensures reading { λ r. ⌜ r ≡ setReading (now (set .entry)) (now («record» .entry)) ⌝ }
+    ensures bytes { λ r. ⌜ now («record» .exit) ≡ setRecord (now (set .entry)) (now («record» .entry)) ⌝ }
 {
-    combining::cells(set, full, symbols, doubts);
-    traymark_read_mark(&set[0..PLAN_BYTES], symbols, doubts, record)
+    combining::cells(set, plan.grid.full as u8, symbols, doubts);
+    let number = checks::photo_refusal(true, plan, symbols, doubts, record);
+    if number != 0 {
+        return answers::refused(number);
+    }
+    reading::mark::read_mark(plan, symbols, doubts, record)
 }

@@ -3,10 +3,9 @@
 use mathlib.Core.Path.{_≡_, refl, sym, _∙_}
 use mathlib.Core.Bool.{true}
 use Prim.Native.Nat.{ℕ, _≤_}
-use native.Mathlib.Omega.{arith}
 use lib.ListN.{length}
 use Rattle.definitions.specs.Code.{oblong, cells}
-use Rattle.definitions.specs.Sets.{setPlan, combinedSymbols, combinedDoubts}
+use Rattle.definitions.specs.Sets.{setPlan}
 use Rattle.definitions.proofs.Sound.{sound}
 use Rattle.plan.proofs.Ready.{ready}
 use Rattle.checks.proofs.Kind.{cells-said}
@@ -37,25 +36,14 @@ returns c =
 
 read-by-requires : tie.Need-read-by-requires
 read-by-requires c κs =
-    let counted = c .before .before .before .before in
+    let counted = c .before .before .before in
     let start = counted .before .before .before .before .before .before .before in
-    (start .pre, omega (arith, fits counted, most counted), refl)
-
-returns-2 : tie.Need-returns-2
-unfolding combinedSymbols combinedDoubts
-returns-2 c =
-    let read = c .before .before .before .before in
-    let counted = read .before .before .before .before .before in
-    let whole = sym (fits counted) ∙ count-is counted in
-    let fields = counted .before .parse .ensures .fields in
-    (read .read-by .ensures .0 ∙ rw (whole, fields), read .read-by .ensures .1 ∙ rw (whole, fields))
+    (counted .before .parse .ensures, start .pre, sym (fits counted) ∙ count-is counted, refl)
 
 pub read-spec : {M : Type 1} → statement M
 read-spec = tie.close (tie.spec (λ c. search needs) (λ c. search needs) (λ c. search needs) (λ c κs. search needs)
     (λ c κs. search needs) returns
     (λ c κs. sound _ (sym (c .before .check .ensures) ∙ c .if1 .left))
     (λ c κs. ready (c .parse .ensures) .fit)
-    (λ c. omega (arith, ready (c .before .before .parse .ensures) .byte))
-    (λ c. most (c .before)) (λ c. fits (c .before .before))
-    (λ c. most (c .before .before)) (λ c. fits (c .before .before .before))
-    read-by-requires (λ c. search needs) returns-2)
+    (λ c. most c) (λ c. fits (c .before)) (λ c. most (c .before)) (λ c. fits (c .before .before))
+    read-by-requires (λ c. search needs) (λ c. c .before .before .before .before .read-by .ensures))
