@@ -22,7 +22,7 @@
 --                                 under a sound plan, 6 to 9 by what is wrong with the other arguments
 --
 -- What this file is for: the calls test in order, and each case of theirs is one law. Assumes nothing.
-use mathlib.Core.Path.{_≡_, refl, sym, _∙_}
+use mathlib.Core.Path.{_≡_, refl, sym, ap, _∙_}
 use mathlib.Core.Bool.{Bool, true, false, not}
 use mathlib.Core.List.{List, [], _∷_, _++_}
 use Prim.Native.Nat.{ℕ}
@@ -34,13 +34,14 @@ use borrow.Author.Tests.{leb-false, lt-leb, eqb-true, not-false}
 use Rattle.bounded.proofs.Any.{any-none, none-any}
 use Rattle.definitions.specs.Refusals.{Refusal, _when_, first}
 use Rattle.definitions.specs.Plan.{modulus, planRows, checkNumber}
-use Rattle.definitions.specs.Code.{Code, size, cells, IsRecord}
+use Rattle.definitions.specs.Code.{Code, oblong, size, cells, IsRecord}
 use Rattle.definitions.specs.Cost.{full}
 use Rattle.definitions.specs.Calls.{lengthRow, overflowing, recordRow, photoTests, photoRows}
 use Rattle.definitions.specs.Calls.{writeTests, writeRows, writeNumber, measureRows, measureNumber}
 use Rattle.definitions.specs.Calls.{nearest, missing, readRows, readNumber}
 use Rattle.definitions.specs.Masking.{maskTests, maskRows, maskNumber}
 use Rattle.definitions.specs.Explaining.{explainRows, explainNumber}
+use Rattle.definitions.specs.Sets.{setPlan, combinedSymbols, combinedDoubts}
 use Rattle.definitions.specs.Photograph.{Photograph}
 use Rattle.definitions.specs.Accepted.{Writing, Masking, Expecting}
 use Rattle.definitions.specs.Demands.{PlanFirst, LengthsFit, WrittenExactly, TakenExactly, ExplainsExactly}
@@ -50,6 +51,7 @@ use Rattle.definitions.proofs.Refusals.{first-passes, _&_, equal, unequ
 use Rattle.definitions.proofs.Sound.{sound, checked}
 use Rattle.definitions.proofs.Photograph.{symbols-fit, fit-symbols, doubts-fit}
 use Rattle.definitions.proofs.Photograph.{photo-accepted, accepted-photo, accepted-buffer}
+use Rattle.definitions.proofs.Sets.{add-refused, combine-refused}
 
 -- one row that does not apply
 passed : (k : ℕ) (b : Bool) → b ≡ false → first ((k when b) ∷ []) ≡ 0
@@ -286,4 +288,9 @@ plan-first P = record {
   read = λ C s u B n. sym (read-refused C P s u B _ (photo-refused C P s u B _ refl n) n);
   mask = λ C F s n. sym (mask-refused C P F s _ refl n);
   explain = λ C s u F B n. sym (explain-refused C P s u F B _ refl n);
+  setAdd = λ S k s u e n. sym (add-refused S k s u _ (sym (ap checkNumber e)) n);
+  setCombine = λ S B D e n. sym (combine-refused S B D _ (sym (ap checkNumber e)) n);
+  setRead = λ S B e n.
+      sym (read-refused oblong (setPlan S) (combinedSymbols S) (combinedDoubts S) B _
+      (photo-refused oblong (setPlan S) (combinedSymbols S) (combinedDoubts S) B _ (sym (ap checkNumber e)) n) n);
 }

@@ -2,7 +2,7 @@
 -- crate `traymark` proves them.
 --
 --   RefusalsKeep            demand 1: a refused call gives its number and zeros or an empty part, and leaves the buffer lent for
---                           its result
+--                           its result, or the memory lent for a set
 --   CheckedExactly P        which number checking gives: that of the first row of the table that the plan P breaks; `Whole` is
 --                           its length and its last two bytes, `IsModulus` says which p may be
 --   PlanFirst P             a plan that is refused has its own number in every call, for strips and marks, whatever else is wrong
@@ -89,6 +89,10 @@ use Rattle.definitions.specs.Calls.{costOf, readingOf, writeRows, writeN
 use Rattle.definitions.specs.Calls.{measureRows, measureNumber, measureReading}
 use Rattle.definitions.specs.Calls.{readRows, readNumber, readReading, readBuffer}
 use Rattle.definitions.specs.Masking.{Way, maskRows, maskNumber, maskBuffer}
+use Rattle.definitions.specs.Sets.{setPlan, startMemory, addRows, addNumber, addMemory}
+use Rattle.definitions.specs.Sets.{withdrawRows, withdrawNumber, withdrawMemory}
+use Rattle.definitions.specs.Sets.{combineRows, combineNumber, combineSymbols, combineDoubts}
+use Rattle.definitions.specs.Sets.{setNumber, setReading, setRecord}
 use Rattle.definitions.specs.Explaining.{explainRows, explainNumber, explainReason, explainBuffer, valuesOf}
 use Rattle.definitions.specs.Finder.{findRows, findNumber, findOffset, findBytes}
 use Rattle.definitions.specs.Photograph.{SymbolsFit, DoubtsFit, Photograph, sure}
@@ -111,6 +115,12 @@ pub record RefusalsKeep : Type 0 where
   pub find : (file : List ℕ) (y : ℕ) → findNumber file y ≢ 0 → (findOffset file y ≡ 0) × (findBytes file y ≡ [])
   pub widen : (old wide : List ℕ) → widenNumber old wide ≢ 0 → widenBuffer old wide ≡ wide
   pub season : (file : List ℕ) (t : Date) → seasonNumber file t ≢ 0 → seasonFound file t ≡ 0
+  -- of sets no byte of the memory is changed, whatever the bytes are
+  pub setStart : (P S : List ℕ) → checkNumber P ≢ 0 → startMemory P S ≡ S
+  pub setAdd : (S : List ℕ) (k : ℕ) (s u : List ℕ) → addNumber S k s u ≢ 0 → addMemory S k s u ≡ S
+  pub setWithdraw : (S : List ℕ) (k : ℕ) → withdrawNumber S k ≢ 0 → withdrawMemory S k ≡ S
+  pub setCombine : (S B D : List ℕ) → combineNumber S B D ≢ 0 → (combineSymbols S B D ≡ B) × (combineDoubts S B D ≡ D)
+  pub setRead : (S B : List ℕ) → setNumber S B ≢ 0 → (setReading S B ≡ calls.refused (setNumber S B)) × (setRecord S B ≡ B)
 
 abbrev pub Whole : List ℕ → Type 0
 Whole P = (length P ≡ 40) × ((at P 38 ≡ 0) × (at P 39 ≡ 0))
@@ -136,6 +146,10 @@ pub record PlanFirst (P : List ℕ) : Type 0 where
   pub read : (C : Code) (s u B : List ℕ) → checkNumber P ≢ 0 → readNumber C P s u B ≡ checkNumber P
   pub mask : (C : Code) (F s : List ℕ) → checkNumber P ≢ 0 → maskNumber C P F s ≡ checkNumber P
   pub explain : (C : Code) (s u F B : List ℕ) → checkNumber P ≢ 0 → explainNumber C P s u F B ≡ checkNumber P
+  -- so where it is the plan in the memory of a set
+  pub setAdd : (S : List ℕ) (k : ℕ) (s u : List ℕ) → setPlan S ≡ P → checkNumber P ≢ 0 → addNumber S k s u ≡ checkNumber P
+  pub setCombine : (S B D : List ℕ) → setPlan S ≡ P → checkNumber P ≢ 0 → combineNumber S B D ≡ checkNumber P
+  pub setRead : (S B : List ℕ) → setPlan S ≡ P → checkNumber P ≢ 0 → setNumber S B ≡ checkNumber P
 
 abbrev pub LengthsFit : Code → (P s u F : List ℕ) → Type 0
 LengthsFit C P s u F = (length s ≡ cells C P) × ((length u ≡ cells C P) × (length F ≡ size C P))
@@ -254,6 +268,9 @@ pub record LowestGiven : Type 0 where
   pub find : (file : List ℕ) (season : ℕ) → Earliest table (findRows file season) (findNumber file season)
   pub widen : (old wide : List ℕ) → Earliest (11 ∷ 6 ∷ []) (widenRows old wide) (widenNumber old wide)
   pub season : (file : List ℕ) (t : Date) → Earliest table (seasonRows file t) (seasonNumber file t)
+  pub setAdd : (S : List ℕ) (k : ℕ) (s u : List ℕ) → Earliest table (addRows S k s u) (addNumber S k s u)
+  pub setWithdraw : (S : List ℕ) (k : ℕ) → Earliest table (withdrawRows S k) (withdrawNumber S k)
+  pub setCombine : (S B D : List ℕ) → Earliest table (combineRows S B D) (combineNumber S B D)
 
 pub record Measures (C : Code) (P s u F : List ℕ) : Type 0 where
   pub never : measureNumber C P s u F ≢ 10

@@ -25,6 +25,12 @@
 --   masked-reads, unmasked-reads         document 02, request 9: the reading of a masked photograph, and of an unmasked one
 --   masks-exactly, masked-cells          which number masking and unmasking give, and what they leave in each cell
 --   mask-undone, masked-mark             that each undoes the other, and what a masked mark is
+--   set-memory                           document 02, request 8: what a set holds after any calls, and its memory
+--   set-fresh, set-photograph            that its combination is the one made afresh, and a photograph of the plan
+--   combined-cell, set-starts-unread     what stands in a cell of it, and that at first all are unread
+--   set-adds-exactly, set-withdraws-exactly
+--                                        which number adding and withdrawing give
+--   set-combines, set-reads              what combining and reading give
 --   groups-fill                          document 02, request 4: where the coefficients of a record stand
 --   tray-parts, tray-refused             what `trayread` takes of its input, and when it refuses it
 --   why-parts, why-refused               the same of `traywhy`
@@ -48,12 +54,17 @@ use Rattle.calendar.specs.Calendar.{IsReal, YearDays, lastDate, following, InOr
 use Rattle.calendar.specs.declared.Date.{Date}
 use Rattle.calendar.proofs.Calendar as calendar
 use Rattle.definitions.specs.Plan.{planBytes, season, rows, columns, degree, planRows, checkNumber}
-use Rattle.definitions.specs.Code.{Code, size, cells, value, mark, IsRecord}
+use Rattle.definitions.specs.Code.{Code, oblong, size, cells, value, mark, IsRecord}
 use Rattle.definitions.specs.Cost.{full}
 use Rattle.definitions.specs.Calls.{photoRows, readingOf, writeRows, writeNumber, writeBuffer}
 use Rattle.definitions.specs.Calls.{measureRows, measureNumber, measureReading, readRows, readNumber, readReading, readBuffer}
 use Rattle.definitions.specs.Masking.{on, off, maskRows, maskNumber, maskBuffer}
 use Rattle.definitions.specs.Masks.{Added, plus, MaskedReads, MaskExactly, Masked, Undone}
+use Rattle.votes.specs.Majority.{Majority}
+use Rattle.definitions.specs.Sets.{setPlan, combinedSymbols, combinedDoubts, startMemory, addRows, addNumber}
+use Rattle.definitions.specs.Sets.{withdrawRows, withdrawNumber, combineRows, combineNumber}
+use Rattle.definitions.specs.Histories.{Holding, empty, Call, run, kept, shown, freshSymbols, freshDoubts, Holds, StartsUnread}
+use Rattle.definitions.specs.Histories.{AddsExactly, WithdrawsExactly, Combines, SetReads}
 use Rattle.definitions.specs.Explaining.{explainRows, explainNumber, explainReason, explainBuffer, valuesOf}
 use Rattle.definitions.specs.Finder.{findRows, findNumber}
 use Rattle.definitions.specs.Windows.{meet, seasonNumber}
@@ -85,6 +96,7 @@ use Rattle.definitions.proofs.Sound.{sound, checked}
 use Rattle.definitions.proofs.Demands.{nearest-one}
 use Rattle.definitions.proofs.Accepted.{accepted-writing, accepted-measuring, accepted-reading, accepted-explaining}
 use Rattle.definitions.proofs.Accepted.{measuring-accepted}
+use Rattle.definitions.proofs.Sets as sets
 use Rattle.definitions.proofs.Masking as masking
 use Rattle.definitions.proofs.Masked as masked
 use Rattle.definitions.proofs.Explained as reasons
@@ -97,6 +109,8 @@ use Rattle.distance.proofs.Cost.{cell-full}
 use Rattle.polynomial.proofs.Record.{value-places, start-next, start-below, start-apart, placed}
 use Rattle.polynomial.proofs.Known.{value-mark-is}
 use Rattle.windows.proofs.Seasons as seasons
+use Rattle.sets.proofs.Histories as histories
+use Rattle.sets.proofs.Fresh as fresh
 use Rattle.traymark.proofs.Answer.{write-keeps, write-fills, measure-refuses, measure-gives, read-keeps, read-gives}
 use Rattle.traymark.proofs.Answer.{explain-keeps}
 
@@ -142,6 +156,11 @@ demand-1 = record {
   find = finder.nowhere;
   widen = widening.widen-refused;
   season = windows.no-season;
+  setStart = sets.start-keeps;
+  setAdd = sets.add-keeps;
+  setWithdraw = sets.withdraw-keeps;
+  setCombine = sets.combine-keeps;
+  setRead = λ S B. read-keeps oblong (setPlan S) (combinedSymbols S) (combinedDoubts S) B;
 }
 
 -- Demand 3. For every sound plan and every photograph in buffers of the right lengths, whatever the points, symbols and doubts:
@@ -229,7 +248,8 @@ margins-from-30 = margins-in (λ y. 30 ≤ y) 250 full-from lowest-from highest-
 -- and 4. In widening 11 comes before 6.
 pub lowest-given : LowestGiven
 unfolding checkNumber writeNumber measureNumber readNumber maskNumber explainNumber findNumber widenNumber
-    planRows photoRows writeRows measureRows readRows maskRows explainRows findRows widenRows index
+    addNumber withdrawNumber combineNumber
+    planRows photoRows writeRows measureRows readRows maskRows explainRows findRows widenRows addRows combineRows index
 lowest-given = record {
   check = λ P. first-earliest table (planRows P) tt refl;
   write = λ C P F B. first-earliest table (writeRows C P F B) tt refl;
@@ -240,6 +260,9 @@ lowest-given = record {
   find = λ file y. first-earliest table (findRows file y) tt refl;
   widen = λ old wide. first-earliest (11 ∷ 6 ∷ []) (widenRows old wide) tt refl;
   season = windows.season-earliest;
+  setAdd = λ S k s u. first-earliest table (addRows S k s u) tt refl;
+  setWithdraw = λ S k. first-earliest table (withdrawRows S k) tt refl;
+  setCombine = λ S B D. first-earliest table (combineRows S B D) tt refl;
 }
 
 -- Measuring never gives 10: a record of the plan is measured against every photograph, a margin of 0 or below returned as such.
@@ -356,6 +379,49 @@ mask-undone = masking.mask-undone
 pub masked-mark : (C : Code) (P F Q : List ℕ) → Sound P → IsRecord C P Q →
     maskBuffer on C P Q (mark C P F) ≡ mark C P (plus C P F Q)
 masked-mark C P F Q S = masked.masked-mark S C F Q
+
+-- Request 8. After a start from a sound plan, on any bytes, and any calls since, whatever their arguments, the set holds the
+-- photographs that arrived by accepted calls and were not withdrawn by such since, or since a later accepted start: its memory is
+-- that of what it holds, byte by byte, so nothing else is kept.
+pub set-memory : (P S : List ℕ) → Sound P → (h : List Call) →
+    Holds (kept h (startMemory P S) (empty P)) (run h (startMemory P S))
+set-memory = histories.holds-from
+
+-- Of a set S that holds H, then: the combination is the one made afresh from the photographs held.
+pub set-fresh : {H : Holding} {S : List ℕ} → Holds H S →
+    (combinedSymbols S ≡ freshSymbols H) × (combinedDoubts S ≡ freshDoubts H)
+set-fresh h = (fresh.fresh-symbols h, fresh.fresh-doubts h)
+
+-- It is a photograph of the plan, so that refusals 1 to 8 never meet it.
+pub set-photograph : {H : Holding} {S : List ℕ} → Holds H S → Photograph oblong (H .plan) (freshSymbols H) (freshDoubts H)
+set-photograph = fresh.fresh-photograph
+
+-- Each of its cells has the symbol with most votes, the smallest where several tie, and the doubt that the document gives it, by
+-- the full doubt of the season; it is unread at the full doubt where no photograph held has read it.
+pub combined-cell : (H : Holding) (c : ℕ) → c < cells oblong (H .plan) →
+    Majority (full (H .plan)) (shown H c) 9 (at (freshSymbols H) c) (at (freshDoubts H) c)
+combined-cell = fresh.fresh-cell
+
+-- With none held all cells are unread, at the full doubt.
+pub set-starts-unread : (P : List ℕ) → StartsUnread P
+set-starts-unread = fresh.starts-unread
+
+-- Adding gives 6 where a length is wrong, else 17 where the number is above 8 or held, else 7 where a symbol is wrong, else 8 where
+-- a doubt is, in the season's scale, else 0; of accepted doubts none is used.
+pub set-adds-exactly : {H : Holding} {S : List ℕ} → Holds H S → (k : ℕ) (s u : List ℕ) → AddsExactly H S k s u
+set-adds-exactly = histories.adds-exactly
+
+-- Withdrawing gives 18 where the number is not held, so for every number above 8, else 0; the number can be used again.
+pub set-withdraws-exactly : {H : Holding} {S : List ℕ} → Holds H S → (k : ℕ) → WithdrawsExactly H S k
+set-withdraws-exactly = histories.withdraws-exactly
+
+-- Combining gives 6 where a buffer has not its length, else 0, and the buffers then have the combination made afresh.
+pub set-combines : {H : Holding} {S : List ℕ} → Holds H S → (B D : List ℕ) → Combines H S B D
+set-combines = fresh.combines
+
+-- Reading reads the combination made afresh, and demand 3 holds of that reading; its number is 6, 10 or 0.
+pub set-reads : {H : Holding} {S : List ℕ} → Holds H S → (B : List ℕ) → SetReads H S B
+set-reads = fresh.set-reads
 
 -- The groups of degrees 0 to d fill the K = (d + 1)(d + 2)/2 places of a record one after another, with no gap and no overlap.
 pub groups-fill : (d : ℕ) → GroupsFill d
