@@ -1,6 +1,6 @@
 //! The ports held against the tests' decoder: cheap random plans and photographs, and faults in what is lent; those of masking
-//! against it and against the library; and against the tests' calendar: random window files, and dates in and beside their
-//! windows.
+//! against it and against the library; against the tests' sets, which combine afresh: histories of photographs that are added and
+//! withdrawn; and against the tests' calendar: random window files, and dates in and beside their windows.
 
 use crate::masks::Shift;
 use crate::port::{self, Plain, Reduction, Tuned};
@@ -25,6 +25,9 @@ pub const SUITES: [Suite; 2] = [
 
 /// Marks and strips masked and unmasked.
 pub const MASKS: Suite = Suite { name: "ports of masking", cases: 7_000, case: mask_case };
+
+/// Photographs added, withdrawn, combined and read.
+pub const SETS: Suite = Suite { name: "port of sets", cases: 3_000, case: set_case };
 
 /// The season of a date.
 pub const SEASONS: Suite = Suite { name: "port of the season of a date", cases: 7_000, case: season_case };
@@ -103,15 +106,20 @@ fn arguments(code: Code, plan: &Plan, random: &mut Random) -> Arguments {
 fn spoil(given: &mut Arguments, random: &mut Random) {
     let Arguments { plan, record, symbols, doubts, mark, other, .. } = given;
     for lent in [plan, record, symbols, doubts, mark, other] {
-        match random.below(6) {
-            0 => lent.push(random.byte()),
-            1 => lent.truncate(random.below(lent.len())),
-            2 | 3 => {
-                let place = random.below(lent.len());
-                lent[place] = random.pick(&[0, 1, 100, 101, 250, 251, 254, 255]);
-            }
-            _ => (),
+        spoil_bytes(lent, random);
+    }
+}
+
+/// Changes a byte or the length, or nothing.
+fn spoil_bytes(lent: &mut Vec<u8>, random: &mut Random) {
+    match random.below(6) {
+        0 => lent.push(random.byte()),
+        1 => lent.truncate(random.below(lent.len())),
+        2 | 3 => {
+            let place = random.below(lent.len());
+            lent[place] = random.pick(&[0, 1, 100, 101, 250, 251, 254, 255]);
         }
+        _ => (),
     }
 }
 
@@ -121,8 +129,7 @@ fn outcome<R: Reduction>(call: Call, given: &Arguments) -> Outcome {
     match call {
         Call::Write => {
             let mut buffer = mark.clone();
-            let number = port::write_mark::<R>(plan, record, &mut buffer).map_or_else(Refusal::number, |()| 0);
-            Outcome::numbered(number, buffer)
+            Outcome::numbered(number(port::write_mark::<R>(plan, record, &mut buffer)), buffer)
         }
         Call::Measure => Outcome::read(answered(port::measure_mark::<R>(plan, record, symbols, doubts)), Vec::new()),
         Call::Read => {
@@ -146,8 +153,100 @@ fn masked(code: Code, [of_mark, of_strip]: [Shift; 2], given: &Arguments) -> Out
         Code::Strip => of_strip,
     };
     let mut buffer = given.symbols.clone();
-    let number = call(&given.plan, &given.record, &mut buffer).map_or_else(Refusal::number, |()| 0);
-    Outcome::numbered(number, buffer)
+    Outcome::numbered(number(call(&given.plan, &given.record, &mut buffer)), buffer)
+}
+
+/// A set, started, at times by a spoiled plan, and changed by 24 calls. After each call the port has the combination of the
+/// tests' set, which makes it afresh, and at the end its reading.
+fn set_case(_: u64, random: &mut Random, counts: &mut Counts) -> Result<(), String> {
+    let mut plan = plans::plan(random.pick(plans::shapes()), random).bytes().to_vec();
+    if random.one_in(4) {
+        spoil_bytes(&mut plan, random);
+    }
+    let (mut model, mut set) = match (independent::Set::start(&plan), port::Set::start(&plan)) {
+        (Ok(model), Ok(set)) => (model, set),
+        (model, set) => return given(number(set), model.err().unwrap_or(0), counts),
+    };
+    let record = plans::record(Code::Mark, &model.plan, random);
+    let records = [rival(Code::Mark, &model.plan, &record, random), record];
+    let words = records.map(|record| Code::Mark.word(&model.plan, &record));
+    for _ in 0..24 {
+        change(&mut set, &mut model, &words, random, counts)?;
+        combines(&set, &model, random, counts)?;
+    }
+    reads(&set, &model, random, counts)
+}
+
+/// A photograph arrives, or one is withdrawn. Those that arrive are of one mark, or of nothing, and every fourth is spoiled.
+fn change(
+    set: &mut port::Set,
+    model: &mut independent::Set,
+    [rival, word]: &[Vec<u32>; 2],
+    random: &mut Random,
+    counts: &mut Counts,
+) -> Result<(), String> {
+    let place = random.between(0, 9);
+    if random.one_in(3) {
+        return given(number(set.withdraw(place)), model.withdraw(place), counts);
+    }
+    let cost = random.between(0, Code::Mark.radius(&model.plan));
+    let photo = match random.one_in(4) {
+        true => noise(Code::Mark, &model.plan, random),
+        false => photograph(&model.plan, word, rival, cost, random),
+    };
+    let [mut symbols, mut doubts] = [bytes(&photo.symbols), bytes(&photo.doubts)];
+    if random.one_in(4) {
+        spoil_bytes(&mut symbols, random);
+        spoil_bytes(&mut doubts, random);
+    }
+    given(number(set.add(place, &symbols, &doubts)), model.add(place, &symbols, &doubts), counts)
+}
+
+/// The port writes the model's combination, or refuses buffers of wrong lengths and leaves them.
+fn combines(set: &port::Set, model: &independent::Set, random: &mut Random, counts: &mut Counts) -> Result<(), String> {
+    let combined = model.combined();
+    let mut buffers = combined.each_ref().map(|cells| {
+        let length = cells.len() + usize::from(random.one_in(16));
+        random.bytes(length)
+    });
+    let (expected, left) = match buffers.each_ref().map(Vec::len) == combined.each_ref().map(Vec::len) {
+        true => (0, combined),
+        false => (6, buffers.clone()),
+    };
+    let [symbols, doubts] = &mut buffers;
+    given(number(set.combine(symbols, doubts)), expected, counts)?;
+    match buffers == left {
+        true => Ok(()),
+        false => Err(format!("the port combined {buffers:?}, expected {left:?}; {model:?}")),
+    }
+}
+
+/// The port has the model's reading, and leaves the same of the buffer for the record, which is at times too long.
+fn reads(set: &port::Set, model: &independent::Set, random: &mut Random, counts: &mut Counts) -> Result<(), String> {
+    let room = vec![0; Code::Mark.size(&model.plan) + usize::from(random.one_in(8))];
+    let [mut record, mut expected_record] = [room.clone(), room];
+    let (reading, expected) = (answered(set.read(&mut record)), model.read(&mut expected_record));
+    counts.number(expected.number);
+    match (reading, &record) == (expected, &expected_record) {
+        true => Ok(()),
+        false => {
+            Err(format!("the port read {reading:?} {record:?}, expected {expected:?} {expected_record:?}; {model:?}"))
+        }
+    }
+}
+
+/// The port gave the expected number, which is counted.
+fn given(number: u32, expected: u32, counts: &mut Counts) -> Result<(), String> {
+    counts.number(expected);
+    match number == expected {
+        true => Ok(()),
+        false => Err(format!("the port of sets gave {number}, expected {expected}")),
+    }
+}
+
+/// The number of an answer.
+fn number<T>(answer: Result<T, Refusal>) -> u32 {
+    answer.map_or_else(Refusal::number, |_| 0)
 }
 
 /// The ends of the calendar, and days that some years have, with the dates next to them.

@@ -1,9 +1,9 @@
-//! The tables, a line for each plan and stream, one for each kind of masking and one for each kind of window file, and whether
-//! they meet the targets.
+//! The tables, a line for each plan and stream, one for each kind of masking, one for each task on sets and one for each kind of
+//! window file, and whether they meet the targets.
 
 use crate::contender::{Call, EQUATIONS, LIBRARY, PLAIN, TUNED};
 use crate::masks::Masking;
-use crate::question;
+use crate::sets::{self, Task};
 use crate::stream::{Kind, SEASON};
 use independent::Code;
 use traymark_tests::plans::Shape;
@@ -37,6 +37,15 @@ fn described(shape: Shape) -> String {
     }
 }
 
+/// A plan of that season and shape. The season is said where it is another than that of most lines.
+fn planned(season: u16, shape: Shape) -> String {
+    let shape = described(shape);
+    match season {
+        SEASON => shape,
+        season => format!("{shape} season {season}"),
+    }
+}
+
 pub fn print_head() {
     println!(
         "{:<24} {:<35} {:>9} {:>9} {:>9} {:>9} {:>9} {:>9} {:>13} {:>9} {:>13}",
@@ -65,13 +74,8 @@ impl Line {
         }
     }
 
-    /// The season is said where it is another than that of most lines.
     fn plan(&self) -> String {
-        let shape = described(self.shape);
-        match self.season {
-            SEASON => shape,
-            season => format!("{shape} season {season}"),
-        }
+        planned(self.season, self.shape)
     }
 
     fn what(&self) -> String {
@@ -203,21 +207,21 @@ pub fn print_mask_target(lines: &[MaskLine]) {
     print_target(NO_LONGER, missed.map(|line| (line.what(), line.plain_ratio())).collect());
 }
 
-/// A kind of window file and date, with the median microseconds of each contender.
-pub struct SeasonLine {
-    pub kind: question::Kind,
+/// What is held against the plain port alone, with the median microseconds of each.
+pub struct PlainLine {
+    pub what: String,
     pub library: f64,
     pub plain: f64,
 }
 
-pub fn print_season_head() {
-    println!("{:<34} {:>9} {:>9} {:>9}", "the season of a date", LIBRARY.name, PLAIN.name, over(PLAIN.name));
+pub fn print_plain_head(title: &str) {
+    println!("{title:<46} {:>9} {:>9} {:>9}", LIBRARY.name, PLAIN.name, over(PLAIN.name));
 }
 
-impl SeasonLine {
+impl PlainLine {
     pub fn print(&self) {
-        let SeasonLine { kind, library, plain } = self;
-        println!("{:<34} {library:>9.3} {plain:>9.3} {:>9.2}", kind.described(), self.plain_ratio());
+        let PlainLine { what, library, plain } = self;
+        println!("{what:<46} {library:>9.3} {plain:>9.3} {:>9.2}", self.plain_ratio());
     }
 
     fn plain_ratio(&self) -> f64 {
@@ -225,7 +229,27 @@ impl SeasonLine {
     }
 }
 
-pub fn print_season_target(lines: &[SeasonLine]) {
+pub fn print_plain_target(lines: &[PlainLine]) {
     let missed = lines.iter().filter(|line| line.plain_ratio() < 1.0);
-    print_target(NO_LONGER, missed.map(|line| (line.kind.described(), line.plain_ratio())).collect());
+    print_target(NO_LONGER, missed.map(|line| (line.what.clone(), line.plain_ratio())).collect());
+}
+
+/// That the library takes no longer than the limit, in microseconds, on any of these lines.
+pub fn print_limit<'a>(says: &str, limit: f64, lines: impl Iterator<Item = &'a PlainLine>) {
+    print_target(
+        says,
+        lines.filter(|line| line.library > limit).map(|line| (line.what.clone(), line.library)).collect(),
+    );
+}
+
+/// What is timed of sets.
+pub fn set_described(kind: sets::Kind) -> String {
+    let plan = planned(kind.season, kind.shape);
+    match kind.task {
+        Task::Combine => format!("{plan} combine {}", kind.photographs),
+        Task::Read => format!("{plan} read a set of {}", kind.photographs),
+        Task::ReadCombined => format!("{plan} read its combination"),
+        Task::Exchange => format!("{plan} withdraw and add"),
+        Task::Start => format!("{plan} start"),
+    }
 }

@@ -19,11 +19,7 @@ pub fn lengths(lengths: &[(usize, usize)]) -> Result<(), Refusal> {
 pub fn photograph<R: Reduction>(plan: &Plan<R>, symbols: &[u8], doubts: &[u8], record: usize) -> Result<(), Refusal> {
     lengths(&[(symbols.len(), plan.cells()), (doubts.len(), plan.cells()), (record, plan.size())])?;
     self::symbols(plan, symbols)?;
-    let full = plan.full as u8;
-    if any(symbols.iter().zip(doubts).map(|(&symbol, &doubt)| (doubt > full) | (symbol == UNREAD) & (doubt != full))) {
-        return Err(Refusal::Doubt);
-    }
-    Ok(())
+    self::doubts(plan, symbols, doubts)
 }
 
 /// Refusal 7.
@@ -31,6 +27,16 @@ pub fn symbols<R: Reduction>(plan: &Plan<R>, symbols: &[u8]) -> Result<(), Refus
     let p = plan.field.p as u8;
     match any(symbols.iter().map(|&symbol| (symbol >= p) & (symbol != UNREAD))) {
         true => Err(Refusal::Symbol),
+        false => Ok(()),
+    }
+}
+
+/// Refusal 8.
+pub fn doubts<R: Reduction>(plan: &Plan<R>, symbols: &[u8], doubts: &[u8]) -> Result<(), Refusal> {
+    let full = plan.full as u8;
+    let cells = symbols.iter().zip(doubts);
+    match any(cells.map(|(&symbol, &doubt)| (doubt > full) | (symbol == UNREAD) & (doubt != full))) {
+        true => Err(Refusal::Doubt),
         false => Ok(()),
     }
 }

@@ -6,8 +6,20 @@ use super::plan::Plan;
 use super::polynomial::{put_record, Powers};
 use super::steps::Steps;
 use super::tally::Tally;
+use traymark::{Reading, Refusal};
 
-/// Puts in the record under the radius, and returns its tally. The buffers are a photograph of the plan.
+/// Puts in the record under the radius, and returns its reading. The buffers are a photograph of the plan.
+pub fn read<R: Reduction>(
+    plan: &Plan<R>,
+    symbols: &[u8],
+    doubts: &[u8],
+    record: &mut [u8],
+) -> Result<Reading, Refusal> {
+    let tally = decode(plan, symbols, doubts, record).ok_or(Refusal::NoRecord)?;
+    Ok(tally.reading(symbols, plan.radius()))
+}
+
+/// The same, for its tally.
 pub fn decode<R: Reduction>(plan: &Plan<R>, symbols: &[u8], doubts: &[u8], record: &mut [u8]) -> Option<Tally> {
     if doubts.iter().map(|&doubt| u32::from(doubt)).sum::<u32>() >= plan.radius() {
         return None;

@@ -1,12 +1,13 @@
 //! The library's method once more, in plain Rust and unproved: what its times are held against.
 //!
-//! The nine calls take the same bytes as those of `traymark`, make the same checks and give the same answers. Below
+//! The calls take the same bytes as those of `traymark`, make the same checks and give the same answers. Below
 //! those for marks the layers are those of the library: numbers modulo p (`field`), polynomials (`polynomial`), the strip
 //! decoder (`order`, `newton`, `interpolation`, `strip`), the mark decoder (`draft`, `steps`), the mark reader (`mark`).
 //! They are generic over how a number is taken modulo p: by division (`Plain`) or with a reciprocal (`Tuned`).
 //!
-//! Marks and strips are masked and unmasked (`masking`), and the season of a date (`season`) is found, by sorting the windows, as
-//! one would in Rust, whatever the library does. Nothing is allocated.
+//! Marks and strips are masked and unmasked (`masking`). Photographs of one mark are combined (`set`), by sorting the votes of a
+//! cell, and the season of a date is found (`season`), by sorting the windows, as one would in Rust, whatever the library does.
+//! A set is a value of its own with the plan taken apart, not bytes, and is read by division. Nothing is allocated.
 
 mod checks;
 mod draft;
@@ -19,6 +20,7 @@ mod order;
 mod plan;
 mod polynomial;
 mod season;
+mod set;
 mod steps;
 mod strip;
 mod tally;
@@ -26,6 +28,7 @@ mod tally;
 pub use field::{Plain, Reduction, Tuned};
 pub use masking::{mask_mark, mask_strip, unmask_mark, unmask_strip};
 pub use season::find_season;
+pub use set::Set;
 
 use plan::Plan;
 use polynomial::Powers;
@@ -70,8 +73,7 @@ pub fn read_mark<R: Reduction>(
 ) -> Result<Reading, Refusal> {
     let plan: Plan<R> = Plan::parse(plan)?;
     checks::photograph(&plan, symbols, doubts, record.len())?;
-    let tally = mark::decode(&plan, symbols, doubts, record).ok_or(Refusal::NoRecord)?;
-    Ok(tally.reading(symbols, plan.radius()))
+    mark::read(&plan, symbols, doubts, record)
 }
 
 /// Explains why a record did not come up, as `traymark::explain_mark`.
