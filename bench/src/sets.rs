@@ -2,7 +2,7 @@
 
 use crate::contender::PLAIN;
 use crate::port::{self, Plain};
-use crate::stream::{FINER_SEASON, SEASON};
+use crate::stream::{self, FINER_SEASON, SEASON};
 use crate::timing::BATCH;
 use independent::calls::bytes;
 use independent::{Code, Plan, PLAN, UNREAD};
@@ -152,12 +152,7 @@ impl Kind {
     /// Trays enough for so many, in batches.
     pub fn batches(self, number: usize) -> Vec<[Tray; BATCH]> {
         let random = &mut Random::new(self.photographs as u64);
-        let (p, rows, columns, d) = self.shape;
-        let plan = match rows == columns {
-            true => plans::square(p, rows, d, random),
-            false => plans::plan(self.shape, random),
-        };
-        let plan = Plan { season: self.season, ..plan };
+        let plan = stream::plan(self.season, self.shape, random);
         let mut batch = |_| from_fn(|place| Tray::new(&plan, self.photographs, place, random));
         (0..number.min(TRAYS).div_ceil(BATCH)).map(&mut batch).collect()
     }

@@ -52,14 +52,19 @@ impl Kind {
     }
 }
 
-/// So many marks or strips of one plan, of this season. A square has the same points each way, as every plan that was widened.
-pub fn marks(code: Code, season: u16, shape: Shape, kind: Kind, number: usize) -> Vec<Mark> {
-    let random = &mut Random::new(kind as u64);
+/// A plan of this season. A square has the same points each way, as every plan that was widened.
+pub fn plan(season: u16, shape: Shape, random: &mut Random) -> Plan {
     let plan = match shape {
         (p, rows, columns, d) if rows == columns => plans::square(p, rows, d, random),
         _ => plans::plan(shape, random),
     };
-    let plan = Plan { season, ..plan };
+    Plan { season, ..plan }
+}
+
+/// So many marks or strips of one plan.
+pub fn marks(code: Code, season: u16, shape: Shape, kind: Kind, number: usize) -> Vec<Mark> {
+    let random = &mut Random::new(kind as u64);
+    let plan = plan(season, shape, random);
     let radius = code.radius(&plan);
     let mut mark = || {
         let record = plans::record(code, &plan, random);
