@@ -180,17 +180,17 @@ impl Tray {
         let word = code.word(plan, &plans::record(code, plan, random));
         let photographs: Vec<[Vec<u8>; 2]> = (0..number).map(|_| photograph(plan, &word, random)).collect();
         let plan_bytes = plan.bytes();
-        let library: traymark::Set = holding(&plan_bytes, &photographs);
+        let plain: port::Set = holding(&plan_bytes, &photographs);
         let mut combined = [vec![0; word.len()], vec![0; word.len()]];
         let [symbols, doubts] = &mut combined;
-        library.combine(symbols, doubts).expect("buffers of the right lengths");
+        plain.combine(symbols, doubts).expect("buffers of the right lengths");
         Tray {
             plan: plan_bytes,
             poor: place % number,
             combined,
             size: code.size(plan),
-            library: library.into(),
-            plain: RefCell::new(holding(&plan_bytes, &photographs)),
+            library: RefCell::new(holding(&plan_bytes, &photographs)),
+            plain: plain.into(),
             photographs,
         }
     }
