@@ -2,6 +2,7 @@
 pub mod Cases
 pub mod SeasonCases
 pub mod MaskCases
+pub mod SetCases
 pub mod Refusals
 pub mod Search
 pub mod Sound

@@ -20,6 +20,7 @@ pub mod Widening
 pub mod Cases
 pub mod SeasonCases
 pub mod MaskCases
+pub mod SetCases
 pub mod Sound
 pub mod Photograph
 pub mod Reads

@@ -81,13 +81,8 @@ startMemory P S = accepted (checkNumber P) (started P) S
 -- ADDING: the refusals of the plan in the memory, 6, 17, 7 and 8
 abbrev pub addTests : (p f : ℕ) (S : List ℕ) (k : ℕ) (s u : List ℕ) (n : ℕ) → List Refusal
 addTests p f S k s u n =
-    lengthRow s n
-    ∷ lengthRow u n
-    ∷ (17 when ltb 8 k)
-    ∷ (17 when held S k)
-    ∷ (7 when strange p s n)
-    ∷ (8 when misdoubted f s u n)
-    ∷ []
+    lengthRow s n ∷ lengthRow u n
+    ∷ (17 when ltb 8 k) ∷ (17 when held S k) ∷ (7 when strange p s n) ∷ (8 when misdoubted f s u n) ∷ []
 
 unfoldable pub addRows : (S : List ℕ) (k : ℕ) (s u : List ℕ) → List Refusal
 addRows S k s u =

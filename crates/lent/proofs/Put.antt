@@ -39,7 +39,8 @@ module _ (S s : List ℕ) (a : ℕ) where
   after-front j h = go (take a S) (length-take-le a S h)
     where
       go : (p : List ℕ) → length p ≡ a → at (p ++ (s ++ drop (a + length s) S)) (a + j) ≡ at (s ++ drop (a + length s) S) j
-      go p e = ap (λ n. at (p ++ (s ++ drop (a + length s) S)) (n + j)) (sym e) ∙ getD-append-add p (s ++ drop (a + length s) S) j 0
+      go p e = ap (λ n. at (p ++ (s ++ drop (a + length s) S)) (n + j)) (sym e)
+          ∙ getD-append-add p (s ++ drop (a + length s) S) j 0
 
   pub at-within : (j : ℕ) → a ≤ length S → j < length s → at (put S a s) (a + j) ≡ at s j
   at-within j h l = after-front j h ∙ List·getD-append s _ 0 j l

@@ -22,7 +22,8 @@ copied : (s t l : List ℕ) → length t ≡ length s → l ≡ take (length s) 
 copied s t l e h = h ∙ rw (take-length s, ← e, drop-length t, append-nil s)
 
 pub put-photo : (S s t l : List ℕ) (k : ℕ) → place k + length s - place k ≡ length t →
-    l ≡ take (length s) s ++ drop (length s) t → set (putMid (place k) (place k + length s - place k) S l) (flag k) 1 ≡ added S k s
+    l ≡ take (length s) s ++ drop (length s) t →
+    set (putMid (place k) (place k + length s - place k) S l) (flag k) 1 ≡ added S k s
 put-photo S s t l k e h =
     let all : place k + length s - place k ≡ length s = add-sub-cancel-left (place k) (length s) in
     ap (λ l. set l (flag k) 1) (ap (putMid (place k) (place k + length s - place k) S) (copied s t l (sym e ∙ all) h)

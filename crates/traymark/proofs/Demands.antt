@@ -406,8 +406,8 @@ combined-cell = fresh.fresh-cell
 pub set-starts-unread : (P : List ℕ) → StartsUnread P
 set-starts-unread = fresh.starts-unread
 
--- Adding gives 6 where a length is wrong, else 17 where the number is above 8 or held, else 7 where a symbol is wrong, else 8 where
--- a doubt is, in the season's scale, else 0; of accepted doubts none is used.
+-- Adding gives 6 where a length is wrong, else 17 where the number is above 8 or held, else 7 where a symbol is wrong, else 8
+-- where a doubt is, in the season's scale, else 0; of accepted doubts none is used.
 pub set-adds-exactly : {H : Holding} {S : List ℕ} → Holds H S → (k : ℕ) (s u : List ℕ) → AddsExactly H S k s u
 set-adds-exactly = histories.adds-exactly
 

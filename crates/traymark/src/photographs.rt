@@ -1,5 +1,5 @@
-// Several photographs of one tray: a set of them, in memory that the caller lends. It is bytes of a fixed number, and any bytes are
-// answered; a set begins with `traymark_set_start`. Nothing is kept elsewhere.
+// Several photographs of one tray: a set of them, in memory that the caller lends. It is a fixed number of bytes, and any bytes
+// are answered; a set begins with `traymark_set_start`. Nothing is kept elsewhere.
 use definitions::PLAN_BYTES;
 use definitions::Reading;
 use definitions::SET_BYTES;
@@ -36,8 +36,8 @@ pub extern "C" fn traymark_set_start(set: &mut [u8; 2353], plan: &[u8]) -> u32
     holding::start(set, plan)
 }
 
-// Adds a photograph of the set's plan, under a number from 0 to 8 that is free. `symbols` and `doubts` are any bytes of any length,
-// and are only read; the doubts are checked and not used.
+// Adds a photograph of the set's plan, under a number from 0 to 8 that is free. `symbols` and `doubts` are any bytes of any
+// length, and are only read; the doubts are checked and not used.
 //
 // Returns 0, else leaves the set as it was and returns the first that applies, in this order, of
 //   1, 2, 3, 13, 4, 5  the plan in the set is refused: never where these calls have made the set
@@ -74,10 +74,10 @@ pub extern "C" fn traymark_set_withdraw(set: &mut [u8; 2353], photograph: u32) -
 
 // Combines the photographs that are held. The set is only read.
 //
-// Returns 0 and has filled both buffers, rows times columns bytes each: for each cell the symbol with most votes, the smallest where
-// several tie, and as its doubt the full doubt less the whole part of the full doubt times (m - s) / t, where t votes are cast, m for
-// that symbol and s for the next. An unread cell casts none; where none is cast the cell is unread. Else leaves both as they were and
-// returns the first that applies, in this order, of
+// Returns 0 and has filled both buffers, rows times columns bytes each: for each cell the symbol with most votes, the smallest
+// where several tie, and as its doubt the full doubt less the whole part of the full doubt times (m - s) / t, where t votes are
+// cast, m for that symbol and s for the next. An unread cell casts none; where none is cast the cell is unread, at the full
+// doubt. Else leaves both as they were and returns the first that applies, in this order, of
 //   1, 2, 3, 13, 4, 5  the plan in the set is refused: never where these calls have made the set
 //   6                  `symbols` or `doubts` has not rows times columns bytes
 #[no_mangle]

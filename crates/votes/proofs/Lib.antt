@@ -3,3 +3,4 @@ pub mod Largest
 pub mod Voting
 pub mod Winner
 pub mod Column
+pub mod Cases

@@ -1,12 +1,14 @@
 -- The combined cell in the document's words, and the columns of nine bytes in which the code finds it.
 --
---   Majority f x n w u    among the n symbols x, of which 255 casts no vote, w has most votes and is the smallest that has, and the
---                         doubt u is by its votes and those of the next; where no vote is cast the cell is unread at full doubt
+--   Majority f x n w u    among the n symbols x, of which 255 casts no vote, w has most votes and is the smallest that has, and
+--                         the doubt u is by its votes and those of the next; where no vote is cast the cell is unread at the
+--                         full doubt f
 --   counted x k           the votes for the symbol of photograph k, none where it casts none
 --   lowness x c m k       255 less the symbol of photograph k where c counts m votes for it, else 0
 --   other x c w k         the votes that c counts for the symbol of photograph k where it is not w, else 0
 --
--- What this file is for: the statement that a user reads; and what the code's passes compute: the largest of each of the three columns.
+-- What this file is for: the statement that a user reads; and what the code's passes compute: the largest entry of each of the
+-- three columns.
 use mathlib.Core.Path.{_≡_}
 use mathlib.Core.Bool.{cond}
 use mathlib.Core.List.{List}

@@ -1,5 +1,5 @@
-// One cell of nine photographs, of which any may be unread there or not held at all: the symbol with most votes, and its doubt. Every
-// function looks at all nine, with no way out and nothing asked before a load, so that a loop over cells is vectorised.
+// One cell of nine photographs, of which any may be unread there or not held at all: the symbol with most votes, and its doubt.
+// Every function looks at all nine, with no way out and nothing asked before a load, so that a loop over cells is vectorised.
 ghost use mathlib.Core.Path.{_≡_};
 ghost use mathlib.Core.Bool.{cond};
 ghost use Prim.Native.Nat.{ℕ, _*_, _-_, _/_, _≤_, _<_, max};

@@ -10,6 +10,11 @@ use Rattle.checks.proofs.add_refusal.Tie as tie
 
 ruleset tests = (answered, equal, unequal, lt-ltb, le-ltb)
 
+-- the mark's cells are counted, and the photograph's lengths and number pass
+module _ (c : tie.Else4) where
+  abbrev counted : tie.After-cell-count
+  counted = c .before .before .before .before .before
+
 returns : tie.Need-returns
 returns c says = add-at _ says _ _ _ _ _ 0 (c .before .cell-count .ensures) refl (search tests depth 16)
 
@@ -20,16 +25,24 @@ returns-3 : tie.Need-returns-3
 returns-3 c says = add-at _ says _ _ _ _ _ 2 (c .before .before .before .cell-count .ensures) refl (search tests depth 16)
 
 returns-4 : tie.Need-returns-4
-returns-4 c says = add-at _ says _ _ _ _ _ 3 (c .before .before .before .before .before .cell-count .ensures) refl (search tests depth 16)
+returns-4 c says =
+    let n = c .before .before .before .before .before .cell-count .ensures in
+    add-at _ says _ _ _ _ _ 3 n refl (search tests depth 16)
 
 returns-5 : tie.Need-returns-5
-returns-5 c says = add-at _ says _ _ _ _ _ 4 (c .before .before .before .before .before .before .before .before .cell-count .ensures) refl (search tests depth 16)
+returns-5 c says =
+    let n = counted (c .before .before .before) .cell-count .ensures in
+    add-at _ says _ _ _ _ _ 4 n refl (search tests depth 16)
 
 returns-6 : tie.Need-returns-6
-returns-6 c says = add-at _ says _ _ _ _ _ 5 (c .before .before .before .before .before .before .before .before .before .before .before .cell-count .ensures) refl (search tests depth 16)
+returns-6 c says =
+    let n = counted (c .before .before .before .before .before .before) .cell-count .ensures in
+    add-at _ says _ _ _ _ _ 5 n refl (search tests depth 16)
 
 returns-7 : tie.Need-returns-7
-returns-7 c says = add-at _ says _ _ _ _ _ 6 (c .before .before .before .before .before .before .before .before .before .before .before .cell-count .ensures) refl (search tests depth 16)
+returns-7 c says =
+    let n = counted (c .before .before .before .before .before .before) .cell-count .ensures in
+    add-at _ says _ _ _ _ _ 6 n refl (search tests depth 16)
 
 pub add-refusal-spec : {M : Type 1} → statement M
 add-refusal-spec =

@@ -39,4 +39,5 @@ returns c =
 
 pub counts-spec : {M : Type 1} → statement M
 counts-spec = tie.close (tie.spec Inv-loop μ-loop
-    loop-holds (λ c. search needs) (λ c κs. search needs) (λ c κs. search needs) (λ c. search needs) (λ c. search needs) (λ c. search needs) loop-again returns)
+    loop-holds (λ c. search needs) (λ c κs. search needs) (λ c κs. search needs) (λ c. search needs)
+    (λ c. search needs) (λ c. search needs) loop-again returns)

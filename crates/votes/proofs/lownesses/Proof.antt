@@ -34,4 +34,5 @@ returns c =
 
 pub lownesses-spec : {M : Type 1} → statement M
 lownesses-spec = tie.close (tie.spec Inv-loop μ-loop
-    loop-holds (λ c. search needs) (λ c. search needs) (λ c κs. search needs) (λ c. search needs) (λ c. search needs) (λ c. search needs) loop-again returns)
+    loop-holds (λ c. search needs) (λ c. search needs) (λ c κs. search needs) (λ c. search needs)
+    (λ c. search needs) (λ c. search needs) loop-again returns)

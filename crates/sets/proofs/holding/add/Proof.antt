@@ -28,11 +28,10 @@ returns-2 c =
     let test = copied .before .before in
     let start = test .before .before .before .before .before .before in
     let e = test .before .refusal .ensures in
-    let z = test .if1 .left in (
-      sym z ∙ e,
-      put-photo (start .args .set .now) (start .args .symbols .now) _ _ (start .args .k) (copied .before .copy-arg .given .1) (copied .copy .ensures .1)
-          ∙ gives _ _ _ e z,
-    )
+    let z = test .if1 .left in
+    let put = put-photo (start .args .set .now) (start .args .symbols .now) _ _ (start .args .k)
+    (copied .before .copy-arg .given .1) (copied .copy .ensures .1) in
+    (sym z ∙ e, put ∙ gives _ _ _ e z)
 
 pub add-spec : {M : Type 1} → statement M
 add-spec = tie.close (tie.spec (λ c κs. search needs) (λ c. search needs) returns

@@ -27,8 +27,11 @@ returns-3 c =
     let filled = c .before .before in
     let test = filled .before .before in
     let start = test .before .before .before .before in
-    let e = withdraw-at _ _ 2 (le-ltb _ _ (test .before .before .if1 .left) & not-true (unequal _ _ (test .if2 .left)) & tt) in
-    (e, put-blank (start .args .set .now) _ (start .args .k) _ (filled .before .fill-arg .given .1) (filled .fill .ensures) ∙ gives _ _ _ e refl)
+    let e = withdraw-at _ _ 2 (le-ltb _ _ (test .before .before .if1 .left) & not-true (unequal _ _ (test .if2 .left)) & tt) in (
+      e,
+      put-blank (start .args .set .now) _ (start .args .k) _ (filled .before .fill-arg .given .1) (filled .fill .ensures)
+          ∙ gives _ _ _ e refl,
+    )
 
 pub withdraw-spec : {M : Type 1} → statement M
 withdraw-spec = tie.close (tie.spec
