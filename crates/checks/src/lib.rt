@@ -152,9 +152,10 @@ pub fn add_refusal(plan: Plan, set: &[u8], k: u32, symbols: &[u8], doubts: &[u8]
         return 7;
     }
     if is_misdoubted(g.full as u8, symbols, doubts, n) {
-        return 8;
+        8
+    } else {
+        0
     }
-    0
 }
 
 // Refusal 6, that of the buffers for a combination. Only their lengths count.

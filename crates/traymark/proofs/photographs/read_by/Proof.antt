@@ -4,7 +4,7 @@ use mathlib.Core.List.{List}
 use Prim.Native.Nat.{ℕ}
 use native.Mathlib.Omega.{arith}
 use Rattle.bounded.specs.Bounded.{tab}
-use Rattle.votes.specs.Votes.{doubtOf}
+use Rattle.votes.specs.Votes.{symbolOf, doubtOf}
 use Rattle.definitions.specs.declared.Reading.{Reading}
 use Rattle.definitions.specs.Code.{oblong}
 use Rattle.definitions.specs.Reads.{Reads}
@@ -32,7 +32,7 @@ module _ (s : tie.After-cells) where
 
   symbols-are : s .cells .last .1 .1 .0 ≡ combinedSymbols S
   unfolding combinedSymbols
-  symbols-are = s .cells .ensures .0 ∙ rw (start .pre .2)
+  symbols-are = s .cells .ensures .0 ∙ ap (λ n. tab n λ c. symbolOf (column S c) 9) (start .pre .2)
 
   doubts-are : s .cells .last .1 .1 .1 .0 ≡ combinedDoubts S
   unfolding combinedDoubts
