@@ -35,8 +35,8 @@ abbrev silent : ℕ → List ℕ
 silent n = replicate n 255
 
 -- In order: one vote; a vote for symbol 0; a tie of two, the smaller coming last; a tie of three; 9 of 9; 5 to 4, and 4 to 5;
--- 4 to 3 to 2; 2 to 1; 2 of 2 and 8 of 8 with the others silent; 3 to 3 to 3; nine symbols; 7 to 2; larger symbols; no vote. Most
--- of them with both full doubts
+-- 4 to 3 to 2; 2 to 1; 2 of 2 and 8 of 8 with the others silent; 3 to 3 to 3; nine symbols; 7 to 2; 8 to 1; 7 to 1 and one
+-- silent; larger symbols; no vote. Most of them with both full doubts
 abbrev pub voteCases : List Case
 voteCases =
     (seen 100 (3 ∷ silent 8) ⟹ (3, 0))
@@ -63,6 +63,10 @@ voteCases =
     ∷ (seen 250 (9 ∷ 8 ∷ 7 ∷ 6 ∷ 5 ∷ 4 ∷ 3 ∷ 2 ∷ 1 ∷ []) ⟹ (1, 250))
     ∷ (seen 100 (of 7 2 ++ of 2 9) ⟹ (2, 45))
     ∷ (seen 250 (of 7 2 ++ of 2 9) ⟹ (2, 112))
+    ∷ (seen 100 (of 8 5 ++ of 1 0) ⟹ (5, 23))
+    ∷ (seen 250 (of 8 5 ++ of 1 0) ⟹ (5, 56))
+    ∷ (seen 100 (of 7 5 ++ of 1 0 ++ silent 1) ⟹ (5, 25))
+    ∷ (seen 250 (of 7 5 ++ of 1 0 ++ silent 1) ⟹ (5, 63))
     ∷ (seen 100 (of 2 24 ++ of 1 23 ++ silent 6) ⟹ (24, 67))
     ∷ (seen 100 (silent 9) ⟹ (255, 100))
     ∷ (seen 250 (silent 9) ⟹ (255, 250))
