@@ -351,8 +351,9 @@ uint32_t traymark_unmask_strip(const uint8_t *plan, size_t plan_len,
  *
  * The combined cell: each photograph held casts a vote for its symbol there, and none where the cell is unread. The symbol is the
  * one with most votes, the smallest of them where several tie. With t votes in all, m for that symbol and s for the next (0 where
- * there is no other), its doubt is F less the whole part of F * (m - s) / t: 0 where all agree, F where symbols tie. Without a
- * vote the cell is unread, 255, with the doubt F. A photograph's own doubts are checked when it is added, and not used.
+ * there is no other), its doubt is F less the whole part of F * (m - s) / t: 0 where all agree, F where several tie for
+ * most votes. Without a vote the cell is unread, 255, with the doubt F. A photograph's own doubts are checked when it is added,
+ * and not used.
  *
  *     votes                symbol   doubt where F is 100, 250
  *     4                    4        0    0
@@ -423,12 +424,12 @@ uint32_t traymark_set_combine(const traymark_set *set, uint8_t *symbols, size_t 
 
 /*
  * Reads the combination: the number, the result and the record are those that traymark_read_mark gives with the plan in the set
- * and what traymark_set_combine makes of the set. While none is held that is 10.
+ * and what traymark_set_combine makes of the set.
  *
  *   set      read
  *   record   written whole where the number is 0; K bytes
- *   result   that record's cost, margin, changed and unread counts and class; refusals 1 2 3 13 4 5 of the plan in the set,
- *            then 6, 7 (in bytes that the calls have not made: a combined symbol may be p or more there) and 10
+ *   result   that record's cost, margin, changed and unread counts and class; refusals 6 and 10. Of bytes that the
+ *            calls have not made: 1 2 3 13 4 5 of the plan in them, 6, 7 where a combined symbol is p or more, 10
  */
 traymark_reading traymark_set_read(const traymark_set *set, uint8_t *record, size_t record_len);
 

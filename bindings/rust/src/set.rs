@@ -10,8 +10,8 @@ use crate::{accepted, ffi, reading, Reading, Refusal, SET_SIZE};
 /// unread. With t votes, m for that symbol and s for the next, its doubt is the full doubt less the whole part of the full doubt
 /// times (m - s) / t. Without a vote it is unread.
 ///
-/// A set is its `SET_SIZE` bytes and nothing else: it allocates nothing, and no call copies them. `include/traymark.h` says
-/// what they hold.
+/// A set is its `SET_SIZE` bytes and nothing else: it allocates nothing, and the library copies none of them.
+/// `include/traymark.h` says what they hold.
 ///
 /// ```
 /// use traymark::{Refusal, Set};

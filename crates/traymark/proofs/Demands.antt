@@ -387,12 +387,14 @@ pub set-memory : (P S : List ℕ) → Sound P → (h : List Call) →
     Holds (kept h (startMemory P S) (empty P)) (run h (startMemory P S))
 set-memory = histories.holds-from
 
--- Of a set S that holds H, then: the combination is the one made afresh from the photographs held.
-pub set-fresh : {H : Holding} {S : List ℕ} → Holds H S →
-    (combinedSymbols S ≡ freshSymbols H) × (combinedDoubts S ≡ freshDoubts H)
-set-fresh h = (fresh.fresh-symbols h, fresh.fresh-doubts h)
+-- So over any history of calls from a start, after each arrival and withdrawal, the combination is the one made afresh from the
+-- photographs held then.
+pub set-fresh : (P S : List ℕ) → Sound P → (h : List Call) →
+    (combinedSymbols (run h (startMemory P S)) ≡ freshSymbols (kept h (startMemory P S) (empty P)))
+    × (combinedDoubts (run h (startMemory P S)) ≡ freshDoubts (kept h (startMemory P S) (empty P)))
+set-fresh P S sound h = let holds = set-memory P S sound h in (fresh.fresh-symbols holds, fresh.fresh-doubts holds)
 
--- It is a photograph of the plan, so that refusals 1 to 8 never meet it.
+-- Of a set S that holds H, that combination is a photograph of the plan, so that refusals 1 to 8 never meet it.
 pub set-photograph : {H : Holding} {S : List ℕ} → Holds H S → Photograph oblong (H .plan) (freshSymbols H) (freshDoubts H)
 set-photograph = fresh.fresh-photograph
 

@@ -101,7 +101,7 @@ pub extern "C" fn traymark_set_combine(
 //   0   the record is the one that costs under the radius
 //   6   `record` has not (d + 1)(d + 2) / 2 bytes
 //   10  no record of the plan costs under the radius
-// Other bytes may also get the number of their plan, or 7.
+// Other bytes get what reading gives under the plan that stands in them.
 #[no_mangle]
 pub extern "C" fn traymark_set_read(set: &[u8; 2353], record: &mut [u8]) -> Reading
     ensures reading { λ r. ⌜ r ≡ setReading (now (set .entry)) (now («record» .entry)) ⌝ }
