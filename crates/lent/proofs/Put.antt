@@ -7,11 +7,10 @@
 --   tab-fill                         a table of one number, as filling a part leaves it
 --
 -- What this file is for: the memory after a call, byte by byte. Assumes nothing.
-use mathlib.Core.Path.{_≡_, refl, sym, ap, _∙_}
-use mathlib.Core.List.{List, [], _++_, append-nil, append-assoc}
+use mathlib.Core.Path.{_≡_, sym, ap, _∙_}
+use mathlib.Core.List.{List, _++_, append-nil, append-assoc}
 use Prim.Native.Nat.{ℕ, _+_, _-_, _≤_, _<_}
 use native.Mathlib.Omega.{arith}
-use native.Mathlib.Nat.{add-sub-cancel-left}
 use lib.ListN.{length, take, drop, length-append, length-drop, drop-of-length-le, List·getD-append}
 use lib.ListN.{replicate, length-replicate, getD-replicate}
 use lib.Seq.{take-at, drop-at, drop-drop, length-take-le, getD-append-add, getD-drop, getD-take}

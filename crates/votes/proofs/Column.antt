@@ -20,7 +20,7 @@ use Rattle.votes.specs.Votes.{votes, cast, most, winner, next, symbolOf,
 use Rattle.votes.specs.Majority.{counted, lowness, other}
 use Rattle.votes.proofs.Largest.{most-above, most-below, most-tab, most-is}
 use Rattle.votes.proofs.Voting.{votes-own, votes-some, none-cast}
-use Rattle.votes.proofs.Winner.{winner-below, winner-top, winner-first, winner-most, next-votes, winner-cast, winner-voted}
+use Rattle.votes.proofs.Winner.{winner-below, winner-top, winner-first, next-votes, winner-cast, winner-voted}
 use Rattle.votes.proofs.Winner.{combined-none, combined-some}
 
 -- the nine symbols are bytes

@@ -12,7 +12,7 @@
 --   combined-fits            of symbols below p or unread it is such a symbol, with a doubt that fits it
 --
 -- What this file is for: the combined cell is the document's, and a cell of a photograph. Assumes nothing.
-use mathlib.Core.Path.{_≡_, refl, sym, ap, _∙_}
+use mathlib.Core.Path.{_≡_, refl, sym, _∙_}
 use mathlib.Core.Bool.{Bool, true, cond, false≢true}
 use mathlib.Core.List.{List}
 use mathlib.Core.Logic.{_≢_, _⊎_, inl, inr, ⊎-elim}

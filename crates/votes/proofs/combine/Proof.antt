@@ -1,6 +1,6 @@
 -- `votes::combine` meets its contract: what the passes found makes the combined cell. Assumes nothing.
-use mathlib.Core.Path.{_≡_, sym, ap, _∙_}
-use Rattle.votes.proofs.Column.{Found, found}
+use mathlib.Core.Path.{sym, _∙_}
+use Rattle.votes.proofs.Column.{found}
 use borrow.Author.Needs.{needs}
 use Rattle.votes.proofs.combine.Statement.{statement}
 use Rattle.votes.proofs.combine.Tie as tie

@@ -1,9 +1,9 @@
 -- `sets::combining::cells` meets its contract: the cells before c are combined. Assumes nothing.
-use mathlib.Core.Path.{_≡_, refl, ap, _∙_}
+use mathlib.Core.Path.{_≡_, refl, _∙_}
 use mathlib.Core.List.{_++_}
 use Prim.Native.Nat.{_-_, _≤_, _<_}
 use native.Mathlib.Omega.{arith}
-use lib.ListN.{set as setAt, length, drop}
+use lib.ListN.{length, drop}
 use Rattle.bounded.specs.Bounded.{tab}
 use Rattle.bounded.proofs.Tab.{tab-more, tab-whole}
 use Rattle.votes.specs.Votes.{symbolOf, doubtOf}

@@ -1,8 +1,6 @@
 -- `sets::combining::combine` meets its contract: the checks come first, and after them every cell is combined. Assumes nothing.
-use mathlib.Core.Path.{_≡_, refl, sym, ap, _∙_}
+use mathlib.Core.Path.{sym, _∙_}
 use native.Mathlib.Omega.{arith}
-use Rattle.bounded.specs.Bounded.{tab}
-use Rattle.votes.specs.Votes.{symbolOf, doubtOf}
 use Rattle.definitions.specs.Sets.{combineSymbols, combineDoubts, combinedSymbols, combinedDoubts}
 use Rattle.definitions.proofs.Sound.{sound}
 use Rattle.definitions.proofs.Sets.{combine-refused}

@@ -1,5 +1,5 @@
 -- `sets::holding::add` meets its contract: the symbols of an accepted photograph are put into its place. Assumes nothing.
-use mathlib.Core.Path.{refl, sym, _∙_}
+use mathlib.Core.Path.{sym, _∙_}
 use native.Mathlib.Omega.{arith}
 use Rattle.definitions.specs.Sets.{addMemory}
 use Rattle.sets.proofs.Refused.{add-accepted, keeps, gives}

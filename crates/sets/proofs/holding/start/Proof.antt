@@ -1,5 +1,5 @@
 -- `sets::holding::start` meets its contract: plan, flags and symbols are written, part by part. Assumes nothing.
-use mathlib.Core.Path.{refl, sym, _∙_}
+use mathlib.Core.Path.{sym, _∙_}
 use native.Mathlib.Omega.{arith}
 use lib.Seq.{length-take-le}
 use Rattle.definitions.specs.Sets.{startMemory}
