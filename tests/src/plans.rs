@@ -85,6 +85,11 @@ pub fn of_every_prime(seed: u64, random: &mut Random) -> Plan {
     plan((p, rows, columns, random.below(rows.min(columns))), random)
 }
 
+/// A plan for the largest marks, 16 by 16 with p 251, of any degree.
+pub fn largest(random: &mut Random) -> Plan {
+    plan((251, 16, 16, random.below(16)), random)
+}
+
 /// A plan for a square with the same points each way.
 pub fn square(p: u32, n: usize, degree: usize, random: &mut Random) -> Plan {
     let points = points(p, n, random);

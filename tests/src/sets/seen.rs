@@ -23,8 +23,9 @@ pub struct Seen {
     unstarted: u64,
     full: u64,
     emptied: u64,
-    /// numbers that were withdrawn and used again
+    /// numbers that were withdrawn and used again, and that with no combination between
     reused: u64,
+    replaced: u64,
 }
 
 /// What happened to a set in use.
@@ -35,6 +36,7 @@ pub enum Event {
     Full,
     Emptied,
     Reused,
+    Replaced,
 }
 
 /// The numbers that a call can give.
@@ -96,6 +98,7 @@ impl Seen {
             Event::Full => &mut self.full,
             Event::Emptied => &mut self.emptied,
             Event::Reused => &mut self.reused,
+            Event::Replaced => &mut self.replaced,
         };
         *count += 1;
     }
@@ -117,6 +120,7 @@ impl Seen {
         self.full += other.full;
         self.emptied += other.emptied;
         self.reused += other.reused;
+        self.replaced += other.replaced;
     }
 
     /// What should have been seen and was not.
@@ -142,6 +146,7 @@ impl Seen {
             (self.full < 300, "fewer than 300 full sets"),
             (self.emptied < 300, "fewer than 300 sets emptied by withdrawing"),
             (self.reused < 1_000, "fewer than 1,000 numbers of photographs used again"),
+            (self.replaced < 200, "fewer than 200 photographs replaced with no combination between"),
         ]
         .into_iter()
         .find_map(|(missing, what)| missing.then_some(what))
@@ -150,7 +155,7 @@ impl Seen {
 
 impl fmt::Display for Seen {
     fn fmt(&self, f: &mut fmt::Formatter<'_>) -> fmt::Result {
-        let Seen { answers, votes, cells, readings, restarted, unstarted, full, emptied, reused } = self;
+        let Seen { answers, votes, cells, readings, restarted, unstarted, full, emptied, reused, replaced } = self;
         let least = |votes: &BTreeMap<u32, u64>| votes.values().min().copied().unwrap_or(0);
         write!(f, "{} calls; by call and number: ", answers.values().sum::<u64>())?;
         for call in SetCall::ALL {
@@ -162,7 +167,7 @@ impl fmt::Display for Seen {
             f,
             "ways in which votes fell, the rarest: {} {}, {} {}; cells with 0, p - 1, the last of 256: {cells:?}; \
              squares, tall, wide read and not: {readings:?}; started in use: {restarted}, refused: {unstarted}; \
-             full: {full}; emptied: {emptied}; numbers used again: {reused}",
+             full: {full}; emptied: {emptied}; numbers used again: {reused}, with no combination between: {replaced}",
             votes[0].len(),
             least(&votes[0]),
             votes[1].len(),

@@ -122,7 +122,7 @@ pub fn sound(code: Code, random: &mut Random) -> (Plan, Arguments) {
 }
 
 /// Arguments that every call accepts.
-fn arguments(code: Code, plan: &Plan, random: &mut Random) -> Arguments {
+pub fn arguments(code: Code, plan: &Plan, random: &mut Random) -> Arguments {
     let mut given = Arguments {
         code,
         plan: plan.bytes().to_vec(),

@@ -85,6 +85,53 @@ pub fn case(seed: u64, random: &mut Random, counts: &mut Counts) -> Result<(), S
     history(random, counts)
 }
 
+/// Every season, a case for each high byte, in a set that is started anew with each.
+pub fn every_season(seed: u64, random: &mut Random, counts: &mut Counts) -> Result<(), String> {
+    let mut set = LentSet::new(&random.bytes(SET), random);
+    (0..=255).try_for_each(|low| {
+        let season = u16::from_be_bytes([seed as u8, low]);
+        in_season(season, &mut set, random, counts).map_err(|what| format!("season {season}: {what}"))
+    })
+}
+
+/// Three photographs of two cells: a doubt is at most the full doubt, and that of an unread cell is the full doubt.
+fn in_season(season: u16, set: &mut LentSet, random: &mut Random, counts: &mut Counts) -> Result<(), String> {
+    let age = usize::from(season >= FINER);
+    let [full, other] = [[100, 250], [250, 100]][age];
+    let plan = with_season(&oblong(3, 0, &[1], &[0, 2]), season);
+    expect("start", set.start(&plan, random)?, 0)?;
+    counts.set_answer(SetCall::Start, 0);
+    let arriving = [
+        (0, [2, 1], [0, full + 1], 8),
+        (0, [2, 1], [0, full], 0),
+        (4, [2, 255], [full, other], 8),
+        (4, [2, 255], [full, full], 0),
+        (8, [0, 0], [full + 1, 0], 8),
+        (8, [0, 0], [full, 0], 0),
+    ];
+    for (number, symbols, doubts, answer) in arriving {
+        expect(&format!("add {number} {doubts:?}"), set.add(number, &symbols, &doubts, random)?, answer)?;
+        counts.set_answer(SetCall::Add, answer);
+    }
+    let mut memory = [&plan[..], &[1, 0, 0, 0, 1, 0, 0, 0, 1], &[255; 2304]].concat();
+    memory[49..51].copy_from_slice(&[2, 1]);
+    memory[1073] = 2;
+    memory[2097..2099].fill(0);
+    expect("add left", set.bytes(), &memory)?;
+
+    // 2 to 1, and a tie of 1 and 0
+    let (mut symbols, mut doubts) = ([9; 2], [9; 2]);
+    expect("combine", set.combine(&mut symbols, &mut doubts, random)?, 0)?;
+    counts.set_answer(SetCall::Combine, 0);
+    expect("combine left", (symbols, doubts), ([2, 0], [[67, 100], [167, 250]][age]))?;
+    // the second cell is wrong, at the full doubt, and the radius is twice that
+    let (cost, margin) = [(167, 33), (417, 83)][age];
+    let mut record = [9];
+    let reading = set.read(&mut record, random)?;
+    counts.set_answer(SetCall::Read, reading.number);
+    expect("read", (reading, record), (Reading { number: 0, cost, margin, changed: 1, unread: 0, class: 1 }, [2]))
+}
+
 fn voted(plan: &[u8], rows: &[Votes], first: usize, random: &mut Random, counts: &mut Counts) -> Result<(), String> {
     let cells = usize::from(plan[3]) * usize::from(plan[4]);
     let age = usize::from(u16::from_be_bytes([plan[0], plan[1]]) >= FINER);

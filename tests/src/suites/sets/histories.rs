@@ -1,6 +1,6 @@
-//! Histories: calls on several sets in turn. After each, the number, every byte of every set and, where something arrived, was
-//! withdrawn or was started anew, the combination and what it is read as are those of the model, which combines the photographs
-//! held afresh.
+//! Histories: calls on several sets in turn. After each, the number and every byte of every set are those of the model; and three
+//! times in four where something arrived, was withdrawn or was started anew, so are the combination and what it is read as. The
+//! model combines the photographs held afresh.
 
 use super::{expect, too_high};
 use crate::suites::faults;
@@ -37,8 +37,9 @@ struct Tray {
     mark: Mark,
     /// whether photographs mostly arrive, or are mostly withdrawn
     is_filling: bool,
-    /// the numbers that were withdrawn since the start
+    /// the numbers that were withdrawn since the start, and those since the last combination
     withdrawn: [bool; PHOTOGRAPHS],
+    uncombined: [bool; PHOTOGRAPHS],
 }
 
 /// A mark that is photographed, and whether its photographs are of it, and not of nothing.
@@ -80,7 +81,8 @@ impl Tray {
         counts.set_answer(SetCall::Start, 0);
         let model = Set::start(&plan.bytes()).expect("the plan is sound");
         let mark = Mark::by(&plan, random);
-        let tray = Tray { set, model, mark, is_filling: true, withdrawn: [false; PHOTOGRAPHS] };
+        let [withdrawn, uncombined] = [[false; PHOTOGRAPHS]; 2];
+        let mut tray = Tray { set, model, mark, is_filling: true, withdrawn, uncombined };
         tray.hold_memory()?;
         tray.hold_combination(random, counts)?;
         Ok(tray)
@@ -103,7 +105,10 @@ impl Tray {
             _ if self.is_filling != random.one_in(6) => self.add(random, counts)?,
             _ => self.withdraw(random, counts)?,
         }
-        self.hold_combination(random, counts)
+        match random.one_in(4) {
+            true => Ok(()),
+            false => self.hold_combination(random, counts),
+        }
     }
 
     fn numbers(&self, held: bool) -> Vec<u32> {
@@ -125,12 +130,17 @@ impl Tray {
         self.model = Set::start(&plan.bytes()).expect("the plan is sound");
         self.mark = Mark::by(&plan, random);
         self.withdrawn.fill(false);
+        self.uncombined.fill(false);
         Ok(())
     }
 
-    /// A photograph arrives under a number that is free, or is refused where there is none.
+    /// A photograph arrives under a number that is free, often one that was withdrawn since the last combination, or is refused
+    /// where there is none.
     fn add(&mut self, random: &mut Random, counts: &mut Counts) -> Result<(), String> {
-        let free = self.numbers(false);
+        let mut free = self.numbers(false);
+        if free.iter().any(|&number| self.uncombined[number as usize]) && !random.one_in(4) {
+            free.retain(|&number| self.uncombined[number as usize]);
+        }
         let number = if free.is_empty() { random.between(0, 8) } else { random.pick(&free) };
         let [symbols, doubts] = self.photograph(random);
         self.arrive(number, &symbols, &doubts, random, counts)
@@ -167,6 +177,9 @@ impl Tray {
         if answer == 0 {
             if self.withdrawn[number as usize] {
                 counts.sets.event(Event::Reused);
+            }
+            if self.uncombined[number as usize] {
+                counts.sets.event(Event::Replaced);
             }
             if self.numbers(false).is_empty() {
                 counts.sets.event(Event::Full);
@@ -226,6 +239,7 @@ impl Tray {
         expect(&format!("withdraw {number}"), answer, self.model.withdraw(number))?;
         if answer == 0 {
             self.withdrawn[number as usize] = true;
+            self.uncombined[number as usize] = true;
             if self.numbers(true).is_empty() {
                 counts.sets.event(Event::Emptied);
             }
@@ -246,7 +260,7 @@ impl Tray {
     }
 
     /// The combination, and what it is read as.
-    fn hold_combination(&self, random: &mut Random, counts: &mut Counts) -> Result<(), String> {
+    fn hold_combination(&mut self, random: &mut Random, counts: &mut Counts) -> Result<(), String> {
         let plan = &self.model.plan;
         let cells = Code::Mark.cells(plan);
         let [mut symbols, mut doubts] = [random.bytes(cells), random.bytes(cells)];
@@ -260,6 +274,7 @@ impl Tray {
         expect("read", reading, self.model.read(&mut expected))?;
         expect("read left", &record, &expected)?;
         counts.sets.combined(&self.model);
+        self.uncombined.fill(false);
         counts.sets.read(plan, reading.number);
         Ok(())
     }

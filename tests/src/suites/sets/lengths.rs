@@ -2,17 +2,26 @@
 //! one byte or in two would not show, and 1 MiB.
 
 use super::accepted;
-use crate::suites::faults::sound;
+use crate::suites::faults::{arguments, sound};
 use crate::suites::lengths::{doubts, plan, record, symbols, Choose};
 use independent::Code;
 use traymark_tests::counts::Counts;
+use traymark_tests::plans::largest;
 use traymark_tests::random::Random;
 use traymark_tests::sets::{hold, SetCall};
 
-/// Each buffer of every length to a little above its own, and some others. Where it is its own the call is accepted.
-pub fn case(_: u64, random: &mut Random, counts: &mut Counts) -> Result<(), String> {
-    let (sound, lent) = sound(Code::Mark, random);
-    let given = accepted(&sound, &lent, random);
+/// Each buffer of every length to a little above its own, and some others. Where it is its own the call is accepted. The first
+/// case has one of the largest marks.
+pub fn case(seed: u64, random: &mut Random, counts: &mut Counts) -> Result<(), String> {
+    let (by, lent) = match seed {
+        0 => {
+            let largest = largest(random);
+            let lent = arguments(Code::Mark, &largest, random);
+            (largest, lent)
+        }
+        _ => sound(Code::Mark, random),
+    };
+    let given = accepted(&by, &lent, random);
     let buffers: [(Choose, &[SetCall]); 4] = [
         (plan, &[SetCall::Start]),
         (symbols, &[SetCall::Add, SetCall::Combine]),

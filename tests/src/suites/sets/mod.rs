@@ -6,6 +6,7 @@ pub mod documented;
 pub mod faults;
 pub mod histories;
 pub mod lengths;
+pub mod refused;
 pub mod votes;
 
 use independent::{Code, Plan, Set, PHOTOGRAPHS, UNREAD};

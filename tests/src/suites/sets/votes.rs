@@ -7,11 +7,14 @@ use traymark_tests::plans;
 use traymark_tests::random::Random;
 use traymark_tests::sets::{falls, LentSet, SetCall};
 
-/// Cells in which the votes of nine photographs fall in any way, under plans of every prime, every third of which is as large as
-/// can be.
+/// How many of the plans are for the largest marks, and how many there are in all: the others go through the primes four times.
+const LARGEST: u64 = 108;
+pub const CASES: u64 = LARGEST + 4 * 54;
+
+/// Cells in which the votes of nine photographs fall in any way.
 pub fn case(seed: u64, random: &mut Random, counts: &mut Counts) -> Result<(), String> {
-    let plan = match seed % 3 {
-        0 => plans::plan((251, 16, 16, random.below(16)), random),
+    let plan = match seed {
+        ..LARGEST => plans::largest(random),
         _ => plans::of_every_prime(seed, random),
     };
     let cells = Code::Mark.cells(&plan);
