@@ -208,7 +208,7 @@ fn is_strange_symbol(symbol: u8, p: u8) -> bool
 }
 
 // Whether one of the n symbols is such.
-pub fn is_strange(p: u8, symbols: &[u8], n: usize) -> bool
+fn is_strange(p: u8, symbols: &[u8], n: usize) -> bool
     requires { ⌜ length (now symbols) ≡ n ⌝ }
     ensures { λ r. ⌜ r ≡ strange p (now (symbols .entry)) n ⌝ }
 {
@@ -230,7 +230,7 @@ fn is_misdoubted_cell(full: u8, symbol: u8, doubt: u8) -> bool
 }
 
 // Whether one of the n cells is such.
-pub fn is_misdoubted(full: u8, symbols: &[u8], doubts: &[u8], n: usize) -> bool
+fn is_misdoubted(full: u8, symbols: &[u8], doubts: &[u8], n: usize) -> bool
     requires { ⌜ (length (now symbols) ≡ n) × (length (now doubts) ≡ n) ⌝ }
     ensures { λ r. ⌜ r ≡ misdoubted full (now (symbols .entry)) (now (doubts .entry)) n ⌝ }
 {

@@ -29,7 +29,7 @@ pub extern "C" fn traymark_set_size() -> usize
 // Returns 0, else leaves the set as it was and returns the first that applies, in this order, of
 //   1, 2, 3, 13, 4, 5  the plan is refused, as by `traymark_check_plan`
 #[no_mangle]
-pub extern "C" fn traymark_set_start(set: &mut [u8; 2353], plan: &[u8]) -> u32
+pub extern "C" fn traymark_set_start(set: &mut [u8; SET_BYTES], plan: &[u8]) -> u32
     ensures number { λ r. ⌜ r ≡ checkNumber (now (plan .entry)) ⌝ }
     ensures memory { λ r. ⌜ now (set .exit) ≡ startMemory (now (plan .entry)) (now (set .entry)) ⌝ }
 {
@@ -48,7 +48,7 @@ pub extern "C" fn traymark_set_start(set: &mut [u8; 2353], plan: &[u8]) -> u32
 //                      cell's is not the full doubt
 #[no_mangle]
 pub extern "C" fn traymark_set_add(
-    set: &mut [u8; 2353],
+    set: &mut [u8; SET_BYTES],
     photograph: u32,
     symbols: &[u8],
     doubts: &[u8],
@@ -65,7 +65,7 @@ pub extern "C" fn traymark_set_add(
 // Returns 0, else leaves the set as it was and returns
 //   18  `photograph` is not held; so every number above 8
 #[no_mangle]
-pub extern "C" fn traymark_set_withdraw(set: &mut [u8; 2353], photograph: u32) -> u32
+pub extern "C" fn traymark_set_withdraw(set: &mut [u8; SET_BYTES], photograph: u32) -> u32
     ensures number { λ r. ⌜ r ≡ withdrawNumber (now (set .entry)) photograph ⌝ }
     ensures memory { λ r. ⌜ now (set .exit) ≡ withdrawMemory (now (set .entry)) photograph ⌝ }
 {
@@ -82,7 +82,7 @@ pub extern "C" fn traymark_set_withdraw(set: &mut [u8; 2353], photograph: u32) -
 //   6                  `symbols` or `doubts` has not rows times columns bytes
 #[no_mangle]
 pub extern "C" fn traymark_set_combine(
-    set: &[u8; 2353],
+    set: &[u8; SET_BYTES],
     symbols: &mut [u8],
     doubts: &mut [u8],
 ) -> u32
@@ -103,13 +103,14 @@ pub extern "C" fn traymark_set_combine(
 //   10  no record of the plan costs under the radius
 // Other bytes get what reading gives under the plan that stands in them.
 #[no_mangle]
-pub extern "C" fn traymark_set_read(set: &[u8; 2353], record: &mut [u8]) -> Reading
+pub extern "C" fn traymark_set_read(set: &[u8; SET_BYTES], record: &mut [u8]) -> Reading
     ensures reading { λ r. ⌜ r ≡ setReading (now (set .entry)) (now («record» .entry)) ⌝ }
     ensures bytes { λ r. ⌜ now («record» .exit) ≡ setRecord (now (set .entry)) (now («record» .entry)) ⌝ }
 {
     read(set, record)
 }
 
+// The plan in the set comes first; only a sound one tells how many cells there are to combine.
 fn read(set: &[u8], record: &mut [u8]) -> Reading
     requires { ⌜ length (now set) ≡ setBytes ⌝ }
     ensures reading { λ r. ⌜ r ≡ setReading (now (set .entry)) (now («record» .entry)) ⌝ }

@@ -289,11 +289,11 @@ pub fn bytes(numbers: &[u32]) -> Vec<u8> {
 }
 
 #[cfg(test)]
-mod tests {
+pub(crate) mod tests {
     use super::*;
 
     /// p 7, d 1, points 1 2 4 each way, of that season.
-    fn plan_a(season: u8) -> [u8; PLAN] {
+    pub(crate) fn plan_a(season: u8) -> [u8; PLAN] {
         let mut plan = [0; PLAN];
         plan[..9].copy_from_slice(&[0, season, 7, 3, 3, 1, 1, 2, 4]);
         plan[22..25].copy_from_slice(&[1, 2, 4]);

@@ -115,13 +115,7 @@ pub fn ranked(symbols: impl Iterator<Item = u8>) -> Vec<(u8, u32)> {
 #[cfg(test)]
 mod tests {
     use super::*;
-
-    fn plan_a(season: u8) -> [u8; PLAN] {
-        let mut plan = [0; PLAN];
-        plan[..9].copy_from_slice(&[0, season, 7, 3, 3, 1, 1, 2, 4]);
-        plan[22..25].copy_from_slice(&[1, 2, 4]);
-        plan
-    }
+    use crate::calls::tests::plan_a;
 
     #[test]
     fn a_cell_has_the_symbol_with_most_votes() {

@@ -1,32 +1,34 @@
 -- `votes::combine` meets its contract: what the passes found makes the combined cell. Assumes nothing.
-use mathlib.Core.Path.{sym, _∙_}
-use Rattle.votes.proofs.Column.{found}
+use mathlib.Core.Path.{_∙_}
+use Prim.Native.Nat.{_-_}
+use Rattle.votes.proofs.Column.{Found, found}
 use borrow.Author.Needs.{needs}
 use Rattle.votes.proofs.combine.Statement.{statement}
 use Rattle.votes.proofs.combine.Tie as tie
 
+-- all passes are made
+module _ (c : tie.After-larger) where
+  abbrev nexts : tie.After-most3
+  nexts = c .before .before
+
+  abbrev lows : tie.After-most2
+  lows = nexts .before .before
+
+  abbrev leads : tie.After-most
+  leads = lows .before .before
+
+  passes : Found (leads .before .before .args .x) (leads .before .counts .ensures .1)
+      (leads .most .result) (255 - lows .most2 .result) (nexts .most3 .result)
+  passes = found _ (leads .before .counts .ensures .1) _ _ _ _ _ _ (leads .before .counts .ensures .0) (leads .most .ensures)
+      (lows .before .lownesses .ensures) (lows .most2 .ensures) (nexts .before .others .ensures) (nexts .most3 .ensures)
+
 doubt-requires : tie.Need-doubt-requires
-doubt-requires c κs =
-    let s = c .before .before in
-    let o = s .before in
-    let r = o .before in
-    let m = r .before .before in
-    let n = m .before in
-    let f = found _ (n .counts .ensures .1) _ _ _ _ _ _ (n .counts .ensures .0) (m .most .ensures) (r .before .lownesses .ensures)
-    (r .most2 .ensures) (o .others .ensures) (s .most3 .ensures) in
-    rw (c .larger .ensures, c .before .cast .ensures) (f .order)
+doubt-requires c κs = rw (c .larger .ensures, c .before .cast .ensures) (passes c .order)
 
 returns : tie.Need-returns
 returns c =
-    let t = c .before in
-    let s = t .before .before in
-    let o = s .before in
-    let r = o .before in
-    let m = r .before .before in
-    let n = m .before in
-    let f = found _ (n .counts .ensures .1) _ _ _ _ _ _ (n .counts .ensures .0) (m .most .ensures) (r .before .lownesses .ensures)
-    (r .most2 .ensures) (o .others .ensures) (s .most3 .ensures) in
-    (f .symbol, rw (t .larger .ensures, t .before .cast .ensures) at (c .doubt .ensures) ∙ f .doubt _)
+    let all = c .before in
+    (passes all .symbol, rw (all .larger .ensures, all .before .cast .ensures) at (c .doubt .ensures) ∙ passes all .doubt _)
 
 pub combine-spec : {M : Type 1} → statement M
 combine-spec = tie.close (tie.spec (λ c κs. search needs) (λ c κs. search needs) (λ c κs. search needs) (λ c κs. search needs)
