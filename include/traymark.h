@@ -1,7 +1,7 @@
 /*
  * traymark: square and oblong marks on fruit trays, written and read.
  *
- * Twenty-nine calls over plain bytes. Each is proved to give what its comment says, for any bytes and any lengths.
+ * Twenty-two calls over plain bytes. Each is proved to give what its comment says, for any bytes and any lengths.
  * `make lib` writes the library, and `cc -Iinclude program.c target/staticlib/libtraymark.a` links a program with it.
  *
  * Words
@@ -26,31 +26,21 @@
  *   window   12 bytes: season (2, high byte first), first date, last date, two zeros. The days of the season are those from
  *            the first date to the last, both included; it may cross New Year, and it may be one day.
  *   set      2,353 bytes: a plan, and of up to nine photographs of one mark, numbered 0 to 8, the symbols of those that are
- *            held.
- *   belt     1,449 bytes: the plan in force, and of up to 32 trays, from the front of the belt to its end, the number and the
- *            plan that was in force when the tray entered.
+ *            held. A set begins with traymark_set_start.
  *
  * Buffers
  *   A buffer is a pointer and a length, in that order. The pointer is not null and points to that many bytes; where the
  *   length is 0 it is not followed. A `const` buffer is only read. A buffer that a call writes must overlap no other
- *   buffer of that call; its old bytes are not looked at, but for symbols that are masked or unmasked in place, and for sets and
- *   belts. But for the bytes of these, which are the caller's, nothing is kept after the call returns; nothing is allocated,
- *   there is no other state: calls may run in several threads at once, those on one set or belt as follows.
- *
- * Sets and belts
- *   A set and a belt are memory of the caller's, anywhere, of any alignment, each lent like a buffer, behind a pointer alone.
- *   That is all there is of them: there may be any number, a copy of the bytes is a set or a belt too, and one that is no
- *   longer wanted needs no call. A set begins with traymark_set_start, a belt with traymark_belt_start, which look at no byte
- *   of what was there; one that is in use is emptied. To start it again by a plan that is in it, lend a copy of that. The
- *   other calls trust nothing in the memory and answer any bytes whatever.
- *   Two threads may not use one set or belt at the same time where one of their calls may change it; those that take it as
- *   `const` leave it as it is, and may be made in several threads at once.
+ *   buffer of that call; its old bytes are not looked at, but for symbols that are masked or unmasked in place, and for sets.
+ *   A set is lent like a buffer, behind a pointer alone. But for the bytes of sets, which are the caller's, nothing is kept
+ *   after the call returns; nothing is allocated, there is no other state: calls may run in several threads at once, those
+ *   on one set as is said there.
  *
  * Numbers
- *   Every call but the two that give a size answers with a number: 0, or the refusal that applies. Where several apply, the
- *   first of those that the call names is given; they are named in the order of this list, 13 between 3 and 4, 19 to 21 between
- *   5 and 6, 17 and 18 between 6 and 7, but for widening, 11 before 6, and for reading on a belt, 20 before the plan's.
- *   A REFUSAL CHANGES NO LENT BYTE. (*offset and *season of the two finders, and *tray of leaving, are results, and are then 0.)
+ *   Every call but traymark_set_size answers with a number: 0, or the refusal that applies. Where several apply, the first
+ *   of those that the call names is given; they are named in the order of this list, 13 between 3 and 4, 17 and 18 between
+ *   6 and 7, but for widening, 11 before 6.
+ *   A REFUSAL CHANGES NO LENT BYTE. (*offset and *season of the two finders are results, and are then 0.)
  *
  *    1  the plan is not 40 bytes long, or its byte 38 or 39 is not 0
  *    2  p is not a prime from 2 to 251
@@ -59,16 +49,13 @@
  *    4  d is not below the smaller side
  *    5  a row point, or then a column point, is p or more or not above the one before it, or an unused point byte of
  *       either set is not 0
- *   19  a tray enters a belt that 32 are on
- *   20  the number of a tray that enters is on the belt, or that of one to lift or read is not
- *   21  a tray is to leave a belt that none is on
  *    6  a lent buffer (symbols, doubts, record, another record, mark, strip or widened plans) has not its exact length
  *   17  the number of a photograph to add is above 8, or held
  *   18  the number of a photograph to withdraw is not held, as none above 8 is
  *    7  a symbol is p or more and not 255
  *    8  a doubt is above the full doubt, or that of an unread cell is not the full doubt
  *    9  a coefficient of a given record is p or more
- *   10  reading only, a set and on a belt too: no record costs under R
+ *   10  reading only, a set too: no record costs under R
  *   11  the plan file's length is no multiple of 40; widening: more than 1,000 plans, or a length no multiple of 24
  *   12  no plan in the file has the season
  *   14  the window file's length is no multiple of 12, it has more than 64 windows, a date in it is unreal, a last date is
@@ -105,12 +92,12 @@ typedef struct {
     uint32_t excess; /* of reason 3 the expected record's cost less R, 0 or more; else 0 */
 } traymark_reason;
 
-/* How many bytes a set and a belt have. traymark_set_size and traymark_belt_size give the library's own numbers, to compare. */
+/* How many bytes a set has. traymark_set_size gives the library's own number, to compare. */
 #define TRAYMARK_SET_SIZE 2353
-#define TRAYMARK_BELT_SIZE 1449
 
 /*
- * A set.
+ * A set, in memory of the caller's: anywhere, of any alignment. Nothing else is kept of it, so a copy of the bytes is a set too,
+ * and one that is no longer wanted needs no call.
  *
  *   0 to 39      the plan
  *   40 to 48     for each number 0 to 8: 0 where it is not held, else held; the calls write 1
@@ -120,18 +107,6 @@ typedef struct {
 typedef struct {
     uint8_t bytes[TRAYMARK_SET_SIZE];
 } traymark_set;
-
-/*
- * A belt.
- *
- *   0 to 39      the plan in force
- *   40           how many trays are on the belt; more than 32 counts as 32
- *   41 to 1448   32 places of 44 bytes, the front of the belt first, that of tray i, counted from 0, from 41 + 44 * i on: the
- *                tray's number (4, high byte first) and the plan that was in force when it entered; 0s where there is no tray
- */
-typedef struct {
-    uint8_t bytes[TRAYMARK_BELT_SIZE];
-} traymark_belt;
 
 /*
  * Checks a plan.
@@ -388,7 +363,13 @@ uint32_t traymark_unmask_strip(const uint8_t *plan, size_t plan_len,
  *     6 2                  2        100  250
  *     none                 255      100  250
  *
- * The plan in a set is checked at each use. In a set that was started, and changed by these calls alone, it is never refused.
+ * A set takes TRAYMARK_SET_SIZE bytes of the caller's memory. That is all there is of it: nothing is allocated, nothing is kept
+ * elsewhere, and there may be any number of sets. A set begins with traymark_set_start, which looks at no byte of what was there,
+ * and needs no end. The other calls trust nothing in a set and answer any bytes whatever: the plan in it is checked at each use.
+ * In a set that was started, and changed by these calls alone, it is never refused.
+ *
+ * Two threads may not use one set at the same time where one of them starts it, adds or withdraws; combining and reading leave
+ * it as it is, and may be done in several threads at once.
  *
  * The size of a set, in bytes.
  *
@@ -397,7 +378,8 @@ uint32_t traymark_unmask_strip(const uint8_t *plan, size_t plan_len,
 size_t traymark_set_size(void);
 
 /*
- * Starts a set: no photograph is held.
+ * Starts a set: no photograph is held. A set that is in use is emptied, and has the new plan; to start it again by its own, lend
+ * a copy of that.
  *
  *   set      written whole where the number is 0: the plan, nine zeros, 2,304 times 255; else unchanged
  *   plan     read
@@ -450,98 +432,6 @@ uint32_t traymark_set_combine(const traymark_set *set, uint8_t *symbols, size_t 
  *            calls have not made: 1 2 3 13 4 5 of the plan in them, 6, 7 where a combined symbol is p or more, 10
  */
 traymark_reading traymark_set_read(const traymark_set *set, uint8_t *record, size_t record_len);
-
-/*
- * Belts: the season changes with trays on the belt. Up to 32 trays, each with a number of 32 bits, enter at the end, and leave
- * from the front or are lifted out from anywhere; a new plan is put in force between. Each tray keeps the plan that was in force
- * when it entered, and is read under it.
- *
- *     call                  in force   on the belt, the front first, each tray with its plan
- *     start with plan A     A          none
- *     enter 7, enter 9      A          7 A, 9 A
- *     change to plan B      B          7 A, 9 A
- *     enter 8               B          7 A, 9 A, 8 B
- *     lift 9                B          7 A, 8 B
- *     leave: 7              B          8 B
- *     enter 7               B          8 B, 7 B
- *
- * Over any history of these calls from a start, the trays that entered are as many as those that left, those that were lifted and
- * those that are on the belt, all counted from the calls since the last start that were not refused. The trays on the belt stand
- * in the order in which they entered, and no two have one number. A number that left or was lifted may enter again, and freed
- * places serve again.
- *
- * A plan is checked when it is given to a start or a change, and when a tray is read under it; entering, leaving and lifting look
- * at none. On a belt that was started, and changed by these calls alone, no tray's plan is ever refused.
- *
- * The size of a belt, in bytes.
- *
- *   result   TRAYMARK_BELT_SIZE, of the library that is linked
- */
-size_t traymark_belt_size(void);
-
-/*
- * Starts a belt: no tray is on it, and the plan is in force.
- *
- *   belt     written whole where the number is 0: the plan, 1,409 zeros; else unchanged
- *   plan     read
- *   result   0; refusals 1 2 3 13 4 5
- */
-uint32_t traymark_belt_start(traymark_belt *belt, const uint8_t *plan, size_t plan_len);
-
-/*
- * Puts a new plan in force, for the trays that enter from now on. Those on the belt keep theirs.
- *
- *   belt     changed where the number is 0: bytes 0 to 39 become the plan; else unchanged
- *   plan     read
- *   result   0; refusals 1 2 3 13 4 5
- */
-uint32_t traymark_belt_change_plan(traymark_belt *belt, const uint8_t *plan, size_t plan_len);
-
-/*
- * A tray enters, at the end.
- *
- *   belt     changed where the number is 0: the tray's number and the plan in force go into the place behind the last tray's,
- *            and byte 40 becomes one more; else unchanged
- *   tray     its number, any
- *   result   0; refusals 19 20
- */
-uint32_t traymark_belt_enter(traymark_belt *belt, uint32_t tray);
-
-/*
- * The tray at the front leaves.
- *
- *   belt     changed where the number is 0: the tray's 44 bytes are taken out, all bytes behind them move 44 down, 44 zeros stand
- *            at the end, and byte 40 becomes the number of trays that stay; else unchanged
- *   tray     always written: where the number is 0, the number of the tray that left; else 0
- *   result   0; refusal 21
- */
-uint32_t traymark_belt_leave(traymark_belt *belt, uint32_t *tray);
-
-/*
- * A tray is lifted out, from anywhere. The others keep their order.
- *
- *   belt     changed where the number is 0, as when a tray leaves; else unchanged
- *   tray     its number; in bytes that the calls have not made, the first tray that has it is lifted
- *   result   0; refusal 20
- */
-uint32_t traymark_belt_lift(traymark_belt *belt, uint32_t tray);
-
-/*
- * Reads a photographed mark of a tray on the belt: the number, the result and the record are those that traymark_read_mark gives
- * with the plan that was in force when the tray entered.
- *
- *   belt     read
- *   tray     its number; in bytes that the calls have not made, the first tray that has it is meant
- *   symbols  read; rows * columns bytes by the tray's plan
- *   doubts   read; rows * columns bytes
- *   record   written whole where the number is 0; K bytes
- *   result   that record's cost, margin, changed and unread counts and class; refusals 20 6 7 8 10. Of bytes that the calls have
- *            not made: 20, then 1 2 3 13 4 5 of the tray's plan, 6 7 8 10
- */
-traymark_reading traymark_belt_read(const traymark_belt *belt, uint32_t tray,
-                                    const uint8_t *symbols, size_t symbols_len,
-                                    const uint8_t *doubts, size_t doubts_len,
-                                    uint8_t *record, size_t record_len);
 
 #ifdef __cplusplus
 }

@@ -1,14 +1,12 @@
 //! The ports held against the tests' decoder: cheap random plans and photographs, and faults in what is lent; those of masking
 //! against it and against the library; against the tests' sets, which combine afresh: histories of photographs that are added and
-//! withdrawn; against the library: histories of trays on a belt; and against the tests' calendar: random window files, and dates
-//! in and beside their windows.
+//! withdrawn; and against the tests' calendar: random window files, and dates in and beside their windows.
 
 use crate::masks::Shift;
 use crate::port::{self, Plain, Reduction, Tuned};
 use independent::calls::bytes;
 use independent::windows::window_bytes;
 use independent::{Code, Date, Plan, Windows, DAYS};
-use std::fmt::Debug;
 use traymark::Refusal;
 use traymark_tests::calls::{expected, hold, Arguments, Call, Outcome};
 use traymark_tests::counts::Counts;
@@ -30,9 +28,6 @@ pub const MASKS: Suite = Suite { name: "ports of masking", cases: 7_000, case: m
 
 /// Photographs added, withdrawn, combined and read.
 pub const SETS: Suite = Suite { name: "port of sets", cases: 3_000, case: set_case };
-
-/// Trays that enter, leave, are lifted out and read, and plans that are put in force between.
-pub const BELTS: Suite = Suite { name: "port of belts", cases: 1_000, case: belt_case };
 
 /// The season of a date.
 pub const SEASONS: Suite = Suite { name: "port of the season of a date", cases: 7_000, case: season_case };
@@ -172,7 +167,9 @@ fn set_case(_: u64, random: &mut Random, counts: &mut Counts) -> Result<(), Stri
         (Ok(model), Ok(set)) => (model, set),
         (model, set) => return given(number(set), model.err().unwrap_or(0), counts),
     };
-    let words = marks(&model.plan, random);
+    let record = plans::record(Code::Mark, &model.plan, random);
+    let records = [rival(Code::Mark, &model.plan, &record, random), record];
+    let words = records.map(|record| Code::Mark.word(&model.plan, &record));
     for _ in 0..24 {
         change(&mut set, &mut model, &words, random, counts)?;
         combines(&set, &model, random, counts)?;
@@ -180,17 +177,11 @@ fn set_case(_: u64, random: &mut Random, counts: &mut Counts) -> Result<(), Stri
     reads(&set, &model, random, counts)
 }
 
-/// The marks of a rival of a record and of the record.
-fn marks(plan: &Plan, random: &mut Random) -> [Vec<u32>; 2] {
-    let record = plans::record(Code::Mark, plan, random);
-    [rival(Code::Mark, plan, &record, random), record].map(|record| Code::Mark.word(plan, &record))
-}
-
-/// A photograph arrives, or one is withdrawn.
+/// A photograph arrives, or one is withdrawn. Those that arrive are of one mark, or of nothing, and every fourth is spoiled.
 fn change(
     set: &mut port::Set,
     model: &mut independent::Set,
-    words: &[Vec<u32>; 2],
+    [rival, word]: &[Vec<u32>; 2],
     random: &mut Random,
     counts: &mut Counts,
 ) -> Result<(), String> {
@@ -198,22 +189,17 @@ fn change(
     if random.one_in(3) {
         return given(number(set.withdraw(place)), model.withdraw(place), counts);
     }
-    let [symbols, doubts] = arriving(&model.plan, words, random);
-    given(number(set.add(place, &symbols, &doubts)), model.add(place, &symbols, &doubts), counts)
-}
-
-/// The symbols and the doubts of a photograph of the mark, or of nothing; every fourth is spoiled.
-fn arriving(plan: &Plan, [rival, word]: &[Vec<u32>; 2], random: &mut Random) -> [Vec<u8>; 2] {
-    let cost = random.between(0, Code::Mark.radius(plan));
+    let cost = random.between(0, Code::Mark.radius(&model.plan));
     let photo = match random.one_in(4) {
-        true => noise(Code::Mark, plan, random),
-        false => photograph(plan, word, rival, cost, random),
+        true => noise(Code::Mark, &model.plan, random),
+        false => photograph(&model.plan, word, rival, cost, random),
     };
-    let mut lent = [bytes(&photo.symbols), bytes(&photo.doubts)];
+    let [mut symbols, mut doubts] = [bytes(&photo.symbols), bytes(&photo.doubts)];
     if random.one_in(4) {
-        lent.iter_mut().for_each(|lent| spoil_bytes(lent, random));
+        spoil_bytes(&mut symbols, random);
+        spoil_bytes(&mut doubts, random);
     }
-    lent
+    given(number(set.add(place, &symbols, &doubts)), model.add(place, &symbols, &doubts), counts)
 }
 
 /// The port writes the model's combination, or refuses buffers of wrong lengths and leaves them.
@@ -254,90 +240,7 @@ fn given(number: u32, expected: u32, counts: &mut Counts) -> Result<(), String> 
     counts.number(expected);
     match number == expected {
         true => Ok(()),
-        false => Err(format!("the port gave {number}, expected {expected}")),
-    }
-}
-
-/// A belt, started and changed by 100 calls, by plans of which three are sound; in some cases trays mostly enter. The port
-/// answers as the library does, and in the end the same trays leave both.
-fn belt_case(_: u64, random: &mut Random, counts: &mut Counts) -> Result<(), String> {
-    let seasons = [0; 3].map(|_| {
-        let plan = plans::plan(random.pick(plans::shapes()), random);
-        let words = marks(&plan, random);
-        (plan, words)
-    });
-    let plan = any_plan(&seasons, random);
-    let (mut belt, mut library) = match (port::Belt::start(&plan), traymark::Belt::start(&plan)) {
-        (Ok(belt), Ok(library)) => (belt, library),
-        (belt, library) => return given(number(belt), number(library), counts),
-    };
-    let entering = random.pick(&[4, 24]);
-    for _ in 0..100 {
-        pass(&mut belt, &mut library, &seasons, entering, random, counts)?;
-    }
-    while alike(belt.leave(), library.leave(), counts)?.is_ok() {}
-    Ok(())
-}
-
-/// A plan, and the marks of a rival of a record and of the record.
-type Season = (Plan, [Vec<u32>; 2]);
-
-/// The bytes of one of these plans, every eighth time spoiled.
-fn any_plan(seasons: &[Season], random: &mut Random) -> Vec<u8> {
-    let (plan, _) = &seasons[random.below(seasons.len())];
-    let mut plan = plan.bytes().to_vec();
-    if random.one_in(8) {
-        spoil_bytes(&mut plan, random);
-    }
-    plan
-}
-
-/// One call on the belts. That a tray enters is one of so many ways; numbers are few, so that many of them are on.
-fn pass(
-    belt: &mut port::Belt,
-    library: &mut traymark::Belt,
-    seasons: &[Season],
-    entering: usize,
-    random: &mut Random,
-    counts: &mut Counts,
-) -> Result<(), String> {
-    let tray = random.between(0, 47).wrapping_sub(8);
-    match random.below(9 + entering) {
-        0 if random.one_in(4) => {
-            let plan = any_plan(seasons, random);
-            alike(belt.restart(&plan), library.restart(&plan), counts).map(drop)
-        }
-        0..=1 => {
-            let plan = any_plan(seasons, random);
-            alike(belt.change_plan(&plan), library.change_plan(&plan), counts).map(drop)
-        }
-        2..=3 => alike(belt.leave(), library.leave(), counts).map(drop),
-        4..=5 => alike(belt.lift(tray), library.lift(tray), counts).map(drop),
-        6..=8 => {
-            let (plan, words) = &seasons[random.below(seasons.len())];
-            let [symbols, doubts] = arriving(plan, words, random);
-            let room = vec![0; Code::Mark.size(plan) + usize::from(random.one_in(8))];
-            let [mut record, mut expected] = [room.clone(), room];
-            let reading = belt.read(tray, &symbols, &doubts, &mut record).map(|reading| (reading, record));
-            let expected_reading = library.read(tray, &symbols, &doubts, &mut expected).map(|reading| (reading, expected));
-            alike(reading, expected_reading, counts).map(drop)
-        }
-        _ => alike(belt.enter(tray), library.enter(tray), counts).map(drop),
-    }
-}
-
-/// What both the port and the library answer.
-fn alike<T: Debug + PartialEq>(
-    port: Result<T, Refusal>,
-    library: Result<T, Refusal>,
-    counts: &mut Counts,
-) -> Result<Result<T, Refusal>, String> {
-    match port == library {
-        true => {
-            counts.number(library.as_ref().map_or_else(|refusal| refusal.number(), |_| 0));
-            Ok(port)
-        }
-        false => Err(format!("the port gave {port:?}, expected {library:?}")),
+        false => Err(format!("the port of sets gave {number}, expected {expected}")),
     }
 }
 

@@ -1,14 +1,13 @@
 //! Times of the proved library beside those of its method in plain Rust and of the tests' decoder, all in one run and
-//! over the same streams of distinct marks; and of masking and unmasking, of sets of photographs, of belts and of finding the
-//! season of a date, beside plain Rust.
+//! over the same streams of distinct marks; and of masking and unmasking, of sets of photographs and of finding the season of a
+//! date, beside plain Rust.
 //!
-//! - `bench [N]` prints the tables and whether the targets are met; of each stream it takes at most N marks, sets, belts or dates.
+//! - `bench [N]` prints the tables and whether the targets are met; of each stream it takes at most N marks, trays or dates.
 //! - `bench check` holds the ports in Rust against the tests' decoder, sets and calendar; those of masking against the
-//!   library too, and that of belts against the library.
+//!   library too.
 //! - `bench profile P ROWS COLUMNS D KIND COUNT` runs the library alone, on COUNT marks of a line of season 12, for a profiler.
 //!   KIND is clean, errors, doubts, rivals or noise for reading such marks, or write, measure, explain, mask or unmask; or, on
-//!   sets of nine photographs, combine, read-set, read-combined, exchange or start; or, on belts with 31 trays, enter-leave,
-//!   lift-enter, read-tray or read-mark.
+//!   sets of nine photographs, combine, read-set, read-combined, exchange or start.
 //!
 //! Each line of the first table is a plan and a stream: the microseconds of the median mark, each mark by its least time of
 //! several rounds, by the library, by the port with division (`plain`), by the port with the reciprocal (`tuned`) and by
@@ -17,15 +16,12 @@
 //! those of one run. All is of season 12, with doubts in 100ths, but for one line of season 30, in 250ths, which says so.
 //!
 //! Each line of the second is a plan, for marks or for strips, and whether they are masked or unmasked; each line of the third
-//! is a plan and what is done with sets of photographs, each of the fourth what is done on belts; each line of the fifth is a
-//! kind of window file and date. These have the microseconds of a call, or of the two that are named, of the median batch of
-//! calls.
+//! is a plan and what is done with sets of photographs; each line of the fourth is a kind of window file and date. These have
+//! the microseconds of a call, of the median batch of calls.
 
-mod belts;
 mod check;
 mod contender;
 mod masks;
-mod plain;
 mod port;
 mod question;
 mod sets;
@@ -36,13 +32,14 @@ mod timing;
 use contender::{Call, Contender, EQUATIONS, LIBRARY, MARKS, PLAIN, TUNED};
 use independent::Code;
 use masks::{Masking, Way};
-use plain::Work;
+use question::{Question, FINDERS};
+use sets::{Task, Tray};
 use std::hint::black_box;
 use std::iter;
 use std::process::ExitCode;
 use std::str::FromStr;
 use stream::{Kind, Mark, FINER_SEASON, SEASON};
-use table::{Line, MaskLine};
+use table::{Line, MaskLine, PlainLine};
 use timing::BATCH;
 use traymark_tests::plans::Shape;
 use traymark_tests::run::{run, Suite};
@@ -108,9 +105,7 @@ fn compare(number: usize) -> Result<(), String> {
     println!();
     compare_sets(number);
     println!();
-    compare_belts(number);
-    println!();
-    plain::compare("the season of a date", question::KINDS, number);
+    compare_seasons(number);
     Ok(())
 }
 
@@ -156,18 +151,38 @@ fn compare_masks(number: usize) {
 
 /// Sets of photographs: combined, read, changed and started.
 fn compare_sets(number: usize) {
-    let lines = plain::compare("sets of photographs", sets::KINDS, number);
+    table::print_plain_head("sets of photographs");
+    let lines = sets::KINDS.map(|kind| {
+        let batches = kind.batches(number);
+        batches.iter().flatten().for_each(|tray| sets::agree(kind.task, tray));
+        let mut times =
+            timing::times([&batches[..]; 2], |contender, batch: &[Tray; BATCH]| sets::run(kind.task, contender, batch));
+        let [library, plain] = times.each_mut().map(|times| times.median() / BATCH as f64);
+        let line = PlainLine { what: table::set_described(kind), library, plain };
+        line.print();
+        line
+    });
+    table::print_plain_target(&lines);
     let largest = sets::KINDS.iter().zip(&lines).filter(|(kind, _)| kind.is_largest_combination());
     let says = "nine photographs of 16 by 16 cells are combined in 3 microseconds or less";
     table::print_limit(says, 3.0, largest.map(|(_, line)| line));
 }
 
-/// Belts: trays enter, leave, are lifted out and read.
-fn compare_belts(number: usize) {
-    let lines = plain::compare("belts", belts::KINDS, number);
-    let passing = belts::KINDS.iter().zip(&lines).filter(|(kind, _)| kind.task == belts::Task::EnterAndLeave);
-    let says = "a tray enters and one leaves, both together in 1 microsecond or less";
-    table::print_limit(says, 1.0, passing.map(|(_, line)| line));
+/// The season of a date, by all kinds of window files.
+fn compare_seasons(number: usize) {
+    table::print_plain_head("the season of a date");
+    let lines = question::KINDS.map(|kind| {
+        let batches = question::batches(kind, number);
+        batches.iter().flatten().for_each(agree_on);
+        let ask =
+            |finder: usize, batch: &[Question; BATCH]| batch.each_ref().map(|question| question.ask(FINDERS[finder]));
+        let mut times = timing::times([&batches[..]; FINDERS.len()], ask);
+        let [library, plain] = times.each_mut().map(|times| times.median() / BATCH as f64);
+        let line = PlainLine { what: kind.described(), library, plain };
+        line.print();
+        line
+    });
+    table::print_plain_target(&lines);
 }
 
 /// The lines of a plan, each with its season.
@@ -196,22 +211,36 @@ fn agree_on_mask(masking: Masking, mark: &Mark) {
     assert_eq!(tuned, library, "{} and the library: {masking:?} {mark:?}", TUNED.name);
 }
 
+/// The library and the port find the same season, or none alike.
+fn agree_on(question: &Question) {
+    let [library, plain] = FINDERS.map(|find| question.ask(find));
+    assert_eq!(plain, library, "{} and the library: {question:?}", PLAIN.name);
+}
+
 /// Holds the ports against the tests' decoder, for the seasons before 30 and for those from 30 on, those of masking against that
-/// and the library, that of sets against the tests' sets, that of belts against the library, and that of the season of a date
-/// against the tests' calendar.
+/// and the library, that of sets against the tests' sets, and that of the season of a date against the tests' calendar.
 fn check() -> Result<(), String> {
     check::SUITES.into_iter().try_for_each(check_suite)?;
-    check_calls(check::MASKS, [0, 1, 2, 3, 13, 4, 5, 6, 7, 9])?;
-    check_calls(check::SETS, [0, 1, 2, 3, 13, 4, 5, 6, 17, 18, 7, 8, 10])?;
-    check_calls(check::BELTS, [0, 1, 2, 3, 13, 4, 5, 19, 20, 21, 6, 7, 8, 10])?;
+    check_masks(check::MASKS)?;
+    check_sets(check::SETS)?;
     check_seasons(check::SEASONS)
 }
 
-/// Runs a suite, in which each of these numbers must be answered.
-fn check_calls<const N: usize>(suite: Suite, numbers: [usize; N]) -> Result<(), String> {
+fn check_masks(suite: Suite) -> Result<(), String> {
     let name = suite.name;
     let counts = run(&[suite]).map_err(|failures| failures.join("\n"))?;
-    let numbers = numbers.map(|number| counts.numbers[number]);
+    let numbers = [0, 1, 2, 3, 13, 4, 5, 6, 7, 9].map(|number| counts.numbers[number]);
+    if numbers.contains(&0) {
+        return Err(format!("a number that was never answered: {numbers:?}"));
+    }
+    println!("{name}: ok: {} calls, {} of them not refused", counts.calls, numbers[0]);
+    Ok(())
+}
+
+fn check_sets(suite: Suite) -> Result<(), String> {
+    let name = suite.name;
+    let counts = run(&[suite]).map_err(|failures| failures.join("\n"))?;
+    let numbers = [0, 1, 2, 3, 13, 4, 5, 6, 17, 18, 7, 8, 10].map(|number| counts.numbers[number]);
     if numbers.contains(&0) {
         return Err(format!("a number that was never answered: {numbers:?}"));
     }
@@ -258,11 +287,11 @@ fn profile([p, rows, columns, d]: [&str; 4], word: &str, count: &str) -> Result<
         masks::run(library, &masking.marks(number(count)?)[..number(count)?]);
         return Ok(());
     }
-    if let Some(task) = sets::Task::ALL.into_iter().find(|task| task.name() == word) {
-        return profile_plain(sets::Kind { season: SEASON, shape, photographs: 9, task }, number(count)?);
-    }
-    if let Some(task) = belts::Task::ALL.into_iter().find(|task| task.name() == word) {
-        return profile_plain(belts::Kind { shape, trays: 31, task }, number(count)?);
+    if let Some(task) = Task::ALL.into_iter().find(|task| task.name() == word) {
+        let kind = sets::Kind { season: SEASON, shape, photographs: 9, task };
+        let trays: Vec<Tray> = kind.batches(number(count)?).into_iter().flatten().collect();
+        sets::run(task, 0, &trays[..number::<usize>(count)?.min(trays.len())]);
+        return Ok(());
     }
     let named = |&(call, kind): &(Call, Kind)| match call {
         Call::Read => kind.name() == word,
@@ -274,12 +303,5 @@ fn profile([p, rows, columns, d]: [&str; 4], word: &str, count: &str) -> Result<
     for mark in stream::marks(Code::Mark, SEASON, shape, kind, number(count)?) {
         black_box(LIBRARY.call(call, black_box(&mark)));
     }
-    Ok(())
-}
-
-/// The library does this work on so many items, or on all that there are.
-fn profile_plain<W: Work>(work: W, count: usize) -> Result<(), String> {
-    let items: Vec<W::Item> = work.batches(count).into_iter().flatten().collect();
-    work.run(0, &items[..count.min(items.len())]);
     Ok(())
 }

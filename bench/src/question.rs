@@ -1,21 +1,18 @@
 //! Streams of distinct questions for the season of a date, each with a window file of its own.
 
-use crate::contender::PLAIN;
-use crate::plain::Work;
 use crate::port;
 use crate::timing::BATCH;
 use independent::{Date, Window, DAYS};
 use std::array::from_fn;
 use std::collections::BTreeSet;
-use std::hint::black_box;
 use traymark::Refusal;
 use traymark_tests::random::Random;
 
 /// A call that finds the season of a date.
-type Find = fn(&[u8], u32, u32, u32) -> Result<u16, Refusal>;
+pub type Find = fn(&[u8], u32, u32, u32) -> Result<u16, Refusal>;
 
 /// Who is timed: the proved library, and the port.
-static FINDERS: [Find; 2] = [traymark::find_season, port::find_season];
+pub static FINDERS: [Find; 2] = [traymark::find_season, port::find_season];
 
 /// How many windows the file has, and whether its last window has the date or none has it.
 #[derive(Clone, Copy)]
@@ -27,29 +24,10 @@ pub struct Kind {
 pub const KINDS: [Kind; 3] =
     [Kind { windows: 64, is_found: true }, Kind { windows: 64, is_found: false }, Kind { windows: 2, is_found: true }];
 
-impl Work for Kind {
-    type Item = Question;
-
-    fn described(self) -> String {
+impl Kind {
+    pub fn described(self) -> String {
         let who = if self.is_found { "the last" } else { "none" };
         format!("{} windows, {who} has the date", self.windows)
-    }
-
-    fn batches(self, number: usize) -> Vec<[Question; BATCH]> {
-        let random = &mut Random::new(self.windows as u64);
-        (0..number.div_ceil(BATCH)).map(|_| from_fn(|_| Question::new(self, random))).collect()
-    }
-
-    /// The same season is found, or none.
-    fn agree(self, question: &Question) {
-        let [library, plain] = FINDERS.map(|find| question.ask(find));
-        assert_eq!(plain, library, "{} and the library: {question:?}", PLAIN.name);
-    }
-
-    fn run(self, contender: usize, questions: &[Question]) {
-        for question in questions {
-            _ = black_box(question.ask(FINDERS[contender]));
-        }
     }
 }
 
@@ -60,7 +38,7 @@ pub struct Question {
 }
 
 impl Question {
-    fn ask(&self, find: Find) -> Result<u16, Refusal> {
+    pub fn ask(&self, find: Find) -> Result<u16, Refusal> {
         let Date { year, month, day } = self.date;
         find(&self.file, year, month, day)
     }
@@ -80,4 +58,10 @@ impl Question {
         let last = fours[kind.windows - 1];
         Question { file, date: Date::of(if kind.is_found { last[1] } else { last[3] }) }
     }
+}
+
+/// Questions enough for so many, in batches.
+pub fn batches(kind: Kind, number: usize) -> Vec<[Question; BATCH]> {
+    let random = &mut Random::new(kind.windows as u64);
+    (0..number.div_ceil(BATCH)).map(|_| from_fn(|_| Question::new(kind, random))).collect()
 }

@@ -1,10 +1,8 @@
 //! Streams of distinct trays, each photographed several times, with sets of these photographs.
 
 use crate::contender::PLAIN;
-use crate::plain::{calls, ReadMark, Work, READ_MARK};
-use crate::port;
+use crate::port::{self, Plain};
 use crate::stream::{self, FINER_SEASON, SEASON};
-use crate::table;
 use crate::timing::BATCH;
 use independent::calls::bytes;
 use independent::{Code, Plan, PLAN, UNREAD};
@@ -18,17 +16,53 @@ use traymark_tests::random::Random;
 /// How many trays are taken at most: the sets of so many stay in the processor's second cache.
 const TRAYS: usize = 200;
 
-calls! {
-    /// Who is timed: a set of the library or of the port.
-    Calls of traymark::Set, port::Set {
-        fn start(plan: &[u8]) -> Result<Self, Refusal>;
-        fn restart(self: &mut Self, plan: &[u8]) -> Result<(), Refusal>;
-        fn add(self: &mut Self, photograph: u32, symbols: &[u8], doubts: &[u8]) -> Result<(), Refusal>;
-        fn withdraw(self: &mut Self, photograph: u32) -> Result<(), Refusal>;
-        fn combine(self: &Self, symbols: &mut [u8], doubts: &mut [u8]) -> Result<(), Refusal>;
-        fn read(self: &Self, record: &mut [u8]) -> Result<Reading, Refusal>;
-    }
+/// Who is timed: a set of the library or of the port, and the call that reads a mark.
+pub trait Calls: Sized {
+    fn start(plan: &[u8]) -> Result<Self, Refusal>;
+    fn restart(&mut self, plan: &[u8]) -> Result<(), Refusal>;
+    fn add(&mut self, photograph: u32, symbols: &[u8], doubts: &[u8]) -> Result<(), Refusal>;
+    fn withdraw(&mut self, photograph: u32) -> Result<(), Refusal>;
+    fn combine(&self, symbols: &mut [u8], doubts: &mut [u8]) -> Result<(), Refusal>;
+    fn read(&self, record: &mut [u8]) -> Result<Reading, Refusal>;
+    fn read_mark(plan: &[u8], symbols: &[u8], doubts: &[u8], record: &mut [u8]) -> Result<Reading, Refusal>;
 }
+
+macro_rules! calls {
+    ($set:ty, $read_mark:expr) => {
+        impl Calls for $set {
+            fn start(plan: &[u8]) -> Result<Self, Refusal> {
+                <$set>::start(plan)
+            }
+
+            fn restart(&mut self, plan: &[u8]) -> Result<(), Refusal> {
+                self.restart(plan)
+            }
+
+            fn add(&mut self, photograph: u32, symbols: &[u8], doubts: &[u8]) -> Result<(), Refusal> {
+                self.add(photograph, symbols, doubts)
+            }
+
+            fn withdraw(&mut self, photograph: u32) -> Result<(), Refusal> {
+                self.withdraw(photograph)
+            }
+
+            fn combine(&self, symbols: &mut [u8], doubts: &mut [u8]) -> Result<(), Refusal> {
+                self.combine(symbols, doubts)
+            }
+
+            fn read(&self, record: &mut [u8]) -> Result<Reading, Refusal> {
+                self.read(record)
+            }
+
+            fn read_mark(plan: &[u8], symbols: &[u8], doubts: &[u8], record: &mut [u8]) -> Result<Reading, Refusal> {
+                $read_mark(plan, symbols, doubts, record)
+            }
+        }
+    };
+}
+
+calls!(traymark::Set, traymark::read_mark);
+calls!(port::Set, port::read_mark::<Plain>);
 
 #[derive(Clone, Copy, Debug, PartialEq, Eq)]
 pub enum Task {
@@ -58,13 +92,7 @@ impl Task {
         }
     }
 
-    fn run<S: Calls>(
-        self,
-        tray: &Tray,
-        set: &mut S,
-        read_mark: ReadMark,
-        room: &mut Room,
-    ) -> Result<Option<Reading>, Refusal> {
+    fn run<S: Calls>(self, tray: &Tray, set: &mut S, room: &mut Room) -> Result<Option<Reading>, Refusal> {
         let Tray { plan, photographs, poor, combined: [symbols, doubts], size, .. } = tray;
         let [symbol_room, doubt_room, record] = room;
         let record = &mut record[..*size];
@@ -74,7 +102,7 @@ impl Task {
                 set.combine(symbols, doubts).map(|()| None)
             }
             Task::Read => set.read(record).map(Some),
-            Task::ReadCombined => read_mark(plan, symbols, doubts, record).map(Some),
+            Task::ReadCombined => S::read_mark(plan, symbols, doubts, record).map(Some),
             Task::Exchange => {
                 let [symbols, doubts] = &photographs[*poor];
                 set.withdraw(*poor as u32)?;
@@ -119,6 +147,14 @@ impl Kind {
     pub fn is_largest_combination(self) -> bool {
         let Kind { shape: (_, rows, columns, _), photographs, task, .. } = self;
         (task, photographs, rows, columns) == (Task::Combine, 9, 16, 16)
+    }
+
+    /// Trays enough for so many, in batches.
+    pub fn batches(self, number: usize) -> Vec<[Tray; BATCH]> {
+        let random = &mut Random::new(self.photographs as u64);
+        let plan = stream::plan(self.season, self.shape, random);
+        let mut batch = |_| from_fn(|place| Tray::new(&plan, self.photographs, place, random));
+        (0..number.min(TRAYS).div_ceil(BATCH)).map(&mut batch).collect()
     }
 }
 
@@ -187,50 +223,31 @@ type Room = [[u8; 256]; 3];
 /// No byte of it written yet.
 const EMPTY: Room = [[0; 256]; 3];
 
-impl Work for Kind {
-    type Item = Tray;
-
-    fn described(self) -> String {
-        table::set_described(self)
-    }
-
-    fn batches(self, number: usize) -> Vec<[Tray; BATCH]> {
-        let random = &mut Random::new(self.photographs as u64);
-        let plan = stream::plan(self.season, self.shape, random);
-        let mut batch = |_| from_fn(|place| Tray::new(&plan, self.photographs, place, random));
-        (0..number.min(TRAYS).div_ceil(BATCH)).map(&mut batch).collect()
-    }
-
-    /// With the same answer, the same bytes written, and the same combination afterwards.
-    fn agree(self, tray: &Tray) {
-        let library = done(self.task, tray, &mut *tray.library.borrow_mut(), READ_MARK[0]);
-        let plain = done(self.task, tray, &mut *tray.plain.borrow_mut(), READ_MARK[1]);
-        let Tray { plan, photographs, .. } = tray;
-        assert!(library.is_ok(), "the library: {self:?} {library:?} {plan:?} {photographs:?}");
-        assert_eq!(plain, library, "{} and the library: {self:?} {plan:?} {photographs:?}", PLAIN.name);
-    }
-
-    fn run(self, contender: usize, trays: &[Tray]) {
-        let mut room = EMPTY;
-        for tray in trays {
-            _ = black_box(match contender {
-                0 => self.task.run(tray, &mut *tray.library.borrow_mut(), READ_MARK[0], &mut room),
-                _ => self.task.run(tray, &mut *tray.plain.borrow_mut(), READ_MARK[1], &mut room),
-            });
-            black_box(&room);
-        }
+/// The library and the port do the task on the trays, for times.
+pub fn run(task: Task, contender: usize, trays: &[Tray]) {
+    let mut room = EMPTY;
+    for tray in trays {
+        _ = black_box(match contender {
+            0 => task.run(tray, &mut *tray.library.borrow_mut(), &mut room),
+            _ => task.run(tray, &mut *tray.plain.borrow_mut(), &mut room),
+        });
+        black_box(&room);
     }
 }
 
+/// The library and the port do the task with the same answer, write the same bytes, and leave sets with the same combination.
+pub fn agree(task: Task, tray: &Tray) {
+    let library = done(task, tray, &mut *tray.library.borrow_mut());
+    let plain = done(task, tray, &mut *tray.plain.borrow_mut());
+    let Tray { plan, photographs, .. } = tray;
+    assert!(library.is_ok(), "the library: {task:?} {library:?} {plan:?} {photographs:?}");
+    assert_eq!(plain, library, "{} and the library: {task:?} {plan:?} {photographs:?}", PLAIN.name);
+}
+
 /// What the task answers, and what it and combining the set after it write.
-fn done<S: Calls>(
-    task: Task,
-    tray: &Tray,
-    set: &mut S,
-    read_mark: ReadMark,
-) -> Result<(Option<Reading>, [Room; 2]), Refusal> {
+fn done<S: Calls>(task: Task, tray: &Tray, set: &mut S) -> Result<(Option<Reading>, [Room; 2]), Refusal> {
     let mut rooms = [EMPTY; 2];
-    let answer = task.run(tray, set, read_mark, &mut rooms[0])?;
-    Task::Combine.run(tray, set, read_mark, &mut rooms[1])?;
+    let answer = task.run(tray, set, &mut rooms[0])?;
+    Task::Combine.run(tray, set, &mut rooms[1])?;
     Ok((answer, rooms))
 }

@@ -1,7 +1,6 @@
-//! The tables, a line for each plan and stream, one for each kind of masking, one for each task on sets and on belts and one for
-//! each kind of window file, and whether they meet the targets.
+//! The tables, a line for each plan and stream, one for each kind of masking, one for each task on sets and one for each kind of
+//! window file, and whether they meet the targets.
 
-use crate::belts;
 use crate::contender::{Call, EQUATIONS, LIBRARY, PLAIN, TUNED};
 use crate::masks::Masking;
 use crate::sets::{self, Task};
@@ -252,16 +251,5 @@ pub fn set_described(kind: sets::Kind) -> String {
         Task::ReadCombined => format!("{plan} read its combination"),
         Task::Exchange => format!("{plan} withdraw and add"),
         Task::Start => format!("{plan} start"),
-    }
-}
-
-/// What is timed of belts. Only to reading does the plan matter.
-pub fn belt_described(kind: belts::Kind) -> String {
-    let (plan, trays) = (described(kind.shape), kind.trays);
-    match kind.task {
-        belts::Task::EnterAndLeave => format!("{trays} on the belt, enter and leave"),
-        belts::Task::LiftAndEnter => format!("{trays} on the belt, lift the middle one and enter"),
-        belts::Task::Read => format!("{plan} read the middle one of {trays}"),
-        belts::Task::ReadMark => format!("{plan} read its mark alone"),
     }
 }

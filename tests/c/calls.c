@@ -1,6 +1,6 @@
-/* The twenty-nine calls from C: the layout of the answers, the cases of document 01, wrong and unread cells at once, oblong
+/* The twenty-two calls from C: the layout of the answers, the cases of document 01, wrong and unread cells at once, oblong
    marks and strips beside them, doubts in 250ths, plans widened, seasons by date, the three reasons, masks, sets of photographs,
-   belts, and the refusals at empty buffers. */
+   and the refusals at empty buffers. */
 #include <stdio.h>
 #include <stdlib.h>
 #include <string.h>
@@ -24,10 +24,6 @@ _Static_assert(offsetof(traymark_reason, excess) == 12, "excess");
 _Static_assert(TRAYMARK_SET_SIZE == 40 + 9 + 9 * 256, "a plan, nine flags, nine times 256 symbols");
 _Static_assert(sizeof(traymark_set) == TRAYMARK_SET_SIZE, "its bytes and no others");
 _Static_assert(_Alignof(traymark_set) == 1, "anywhere");
-
-_Static_assert(TRAYMARK_BELT_SIZE == 40 + 1 + 32 * (4 + 40), "a plan, a count, 32 times a number and a plan");
-_Static_assert(sizeof(traymark_belt) == TRAYMARK_BELT_SIZE, "its bytes and no others");
-_Static_assert(_Alignof(traymark_belt) == 1, "anywhere");
 
 /* The calls once more, by their types: a header that declares another one doesn't compile. */
 typedef const uint8_t *in;
@@ -53,13 +49,6 @@ uint32_t traymark_set_add(traymark_set *, uint32_t, in, size_t, in, size_t);
 uint32_t traymark_set_withdraw(traymark_set *, uint32_t);
 uint32_t traymark_set_combine(const traymark_set *, uint8_t *, size_t, uint8_t *, size_t);
 traymark_reading traymark_set_read(const traymark_set *, uint8_t *, size_t);
-size_t traymark_belt_size(void);
-uint32_t traymark_belt_start(traymark_belt *, in, size_t);
-uint32_t traymark_belt_change_plan(traymark_belt *, in, size_t);
-uint32_t traymark_belt_enter(traymark_belt *, uint32_t);
-uint32_t traymark_belt_leave(traymark_belt *, uint32_t *);
-uint32_t traymark_belt_lift(traymark_belt *, uint32_t);
-traymark_reading traymark_belt_read(const traymark_belt *, uint32_t, in, size_t, in, size_t, uint8_t *, size_t);
 
 static int tests;
 
@@ -98,11 +87,6 @@ static const uint8_t plan_w[40] = {0, 12, 7, 2, 3, 1, 1, 3, [22] = 0, 2, 5};
 static const uint8_t mark_w[6] = {4, 1, 0, 6, 3, 2}, strip_w[2] = {4, 6};
 static const uint8_t plan_t[40] = {0, 12, 7, 3, 2, 1, 0, 2, 5, [22] = 1, 3};
 static const uint8_t mark_t[6] = {5, 2, 0, 4, 3, 0}, strip_t[3] = {3, 5, 1};
-
-/* plan A with all faults at once, and what repairs them one after another, each with the number that is given before */
-static const uint8_t plan_spoiled[40] = {0, 12, 9, 0, 0, 16, 7, 2, 4, [22] = 1, 2, 4, [39] = 1};
-static const struct { size_t place; uint8_t repaired; uint32_t before; } repairs[6] = {
-    {39, 0, 1}, {2, 7, 2}, {3, 3, 3}, {4, 3, 13}, {5, 1, 4}, {6, 1, 5}};
 
 static int is(traymark_reading r, uint32_t cost, int32_t margin, uint32_t changed, uint32_t unread, uint32_t class_)
 {
@@ -488,7 +472,10 @@ static void explain_refused(void)
 {
     const uint8_t sevens[9] = {7, 7, 7, 7, 7, 7, 7, 7, 7}, doubts[9] = {101};
     uint8_t plan[40], other[4] = {9, 9, 9, 9};
-    memcpy(plan, plan_spoiled, 40);
+    memcpy(plan, plan_a, 40);
+    plan[2] = 9, plan[3] = 0, plan[4] = 0, plan[5] = 16, plan[6] = 7, plan[39] = 1;
+    const struct { size_t place; uint8_t repaired; uint32_t before; } repairs[6] = {
+        {39, 0, 1}, {2, 7, 2}, {3, 3, 3}, {4, 3, 13}, {5, 1, 4}, {6, 1, 5}};
     for (size_t k = 0; k < 6; k++) {
         uint32_t number = repairs[k].before;
         EXPECT(leaves(traymark_explain_mark(ALL(plan), sevens, 2, sevens, 8, doubts, 8, ALL(other)), number, other));
@@ -592,10 +579,13 @@ static void mask_refused(void)
 {
     const uint8_t sevens[10] = {7, 7, 7, 7, 7, 7, 7, 7, 7, 7}, last_7[9] = {0, 1, 3, 5, 6, 1, 1, 2, 7};
     const uint8_t first_254[9] = {254, 255, 255, 255, 255, 255, 255, 255, 255}, last_p[3] = {5, 4, 7}, far[3] = {255, 255, 0};
+    const struct { size_t place; uint8_t repaired; uint32_t before; } repairs[6] = {
+        {39, 0, 1}, {2, 7, 2}, {3, 3, 3}, {4, 3, 13}, {5, 1, 4}, {6, 1, 5}};
     for (int k = 0; k < 2; k++) {
         mask_call *mark = of_marks[k], *strip = of_strips[k];
         uint8_t plan[40];
-        memcpy(plan, plan_spoiled, 40);
+        memcpy(plan, plan_a, 40);
+        plan[2] = 9, plan[3] = 0, plan[4] = 0, plan[5] = 16, plan[6] = 7, plan[39] = 1;
         for (size_t r = 0; r < 6; r++) {
             EXPECT(turns(mark, ALL(plan), sevens, 2, sevens, sevens, 8, repairs[r].before));
             EXPECT(turns(strip, ALL(plan), sevens, 1, sevens, sevens, 2, repairs[r].before));
@@ -647,22 +637,9 @@ static void mask_and_read(void)
     EXPECT(record[0] == 3 && record[1] == 1 && record[2] == 9);
 }
 
-/* a set and a belt with a byte on each side that no call may change */
-static struct { uint8_t before; traymark_set set; uint8_t between; traymark_belt belt; uint8_t after; } lent = {
-    .before = 77, .between = 88, .after = 99};
+/* sets with a byte on each side that no call may change */
+static struct { uint8_t before; traymark_set set; uint8_t after; } lent = {.before = 77, .after = 88};
 static traymark_set *const set = &lent.set;
-static traymark_belt *const belt = &lent.belt;
-
-static int guarded(void)
-{
-    return lent.before == 77 && lent.between == 88 && lent.after == 99;
-}
-
-/* whether a record of 9s with one more on each side is then the record of case a, or after a refusal still the 9s */
-static int wrote(const uint8_t record[5], uint32_t number)
-{
-    return memcmp(record, number == 0 ? (const uint8_t[5]){9, 3, 1, 2, 9} : (const uint8_t[5]){9, 9, 9, 9, 9}, 5) == 0;
-}
 
 /* the bytes of a set by plan A, or plan A of another season, that holds the photographs of these symbols, or null for none */
 static traymark_set holding(const uint8_t plan[40], const uint8_t *const photographs[9])
@@ -682,7 +659,7 @@ static traymark_set holding(const uint8_t plan[40], const uint8_t *const photogr
 static int holds(const uint8_t plan[40], const uint8_t *const photographs[9])
 {
     const traymark_set expected = holding(plan, photographs);
-    return memcmp(set, &expected, sizeof expected) == 0 && guarded();
+    return memcmp(set, &expected, sizeof expected) == 0 && lent.before == 77 && lent.after == 88;
 }
 
 /* whether the set combines to these symbols and doubts, and stays as it is */
@@ -699,7 +676,8 @@ static traymark_reading read_set(void)
 {
     uint8_t record[5] = {9, 9, 9, 9, 9};
     traymark_reading r = traymark_set_read(set, record + 1, 3);
-    EXPECT(wrote(record, r.number));
+    EXPECT(memcmp(record + 1, r.number == 0 ? record_a : (const uint8_t[3]){9, 9, 9}, 3) == 0);
+    EXPECT(record[0] == 9 && record[4] == 9);
     return r;
 }
 
@@ -811,7 +789,9 @@ static void set_of_any_bytes(void)
     uint8_t s[9] = NINES, d[9] = NINES, record[3] = {9, 9, 9};
     *set = holding(plan_a, held);
     uint8_t *plan = set->bytes;
-    memcpy(plan, plan_spoiled, 40);
+    plan[2] = 9, plan[3] = 0, plan[4] = 0, plan[5] = 16, plan[6] = 7, plan[39] = 1;
+    const struct { size_t place; uint8_t repaired; uint32_t before; } repairs[6] = {
+        {39, 0, 1}, {2, 7, 2}, {3, 3, 3}, {4, 3, 13}, {5, 1, 4}, {6, 1, 5}};
     for (size_t k = 0; k < 6; k++) {
         uint32_t number = repairs[k].before;
         EXPECT(traymark_set_add(set, 9, mark_a, 8, sure, 8) == number && traymark_set_combine(set, s, 8, d, 8) == number);
@@ -848,231 +828,7 @@ static void set_largest(void)
     }
     /* nine cells in doubt 56 and sixteen wrong ones */
     EXPECT(is(traymark_set_read(set, record, 1), 9 * 56 + 16 * 500, 64000 - 9 * 56 - 16 * 500, 16, 0, 3));
-    EXPECT(record[0] == 7 && record[1] == 9 && guarded());
-}
-
-/* a tray's number, and the plan that was in force when it entered */
-struct tray { uint32_t number; const uint8_t *plan; };
-
-/* a belt of n trays with one more at the end, and one with tray i of n taken out */
-static traymark_belt with(traymark_belt b, struct tray tray, size_t n)
-{
-    uint8_t *place = b.bytes + 41 + 44 * n;
-    for (int byte = 0; byte < 4; byte++)
-        place[byte] = (uint8_t)(tray.number >> (24 - 8 * byte));
-    memcpy(place + 4, tray.plan, 40);
-    b.bytes[40] = (uint8_t)(n + 1);
-    return b;
-}
-
-static traymark_belt without(traymark_belt b, size_t i, size_t n)
-{
-    uint8_t *place = b.bytes + 41 + 44 * i;
-    memmove(place, place + 44, 44 * (31 - i)), memset(b.bytes + 1405, 0, 44);
-    b.bytes[40] = (uint8_t)(n - 1);
-    return b;
-}
-
-/* the bytes of a belt with this plan in force and these trays on it */
-static traymark_belt carrying(const uint8_t in_force[40], const struct tray *trays, size_t count)
-{
-    traymark_belt carries = {{0}};
-    memcpy(carries.bytes, in_force, 40);
-    for (size_t k = 0; k < count; k++)
-        carries = with(carries, trays[k], k);
-    return carries;
-}
-
-/* whether the belt has exactly these bytes */
-static int is_belt(traymark_belt expected)
-{
-    return memcmp(belt, &expected, sizeof expected) == 0 && guarded();
-}
-
-/* the number, with the tray that is always written beside it, and nothing around that */
-static int lets_go(uint32_t number, uint32_t tray)
-{
-    uint32_t left[3] = {0x77777777, 0x88888888, 0x99999999};
-    return traymark_belt_leave(belt, left + 1) == number && left[1] == tray && left[0] == 0x77777777 && left[2] == 0x99999999;
-}
-
-/* reads a photograph of a tray into a record of 9s, which it leaves on a refusal; the belt stays as it is */
-static traymark_reading read_tray(uint32_t tray, in symbols, size_t symbols_length, in doubts, size_t doubts_length)
-{
-    const traymark_belt unchanged = *belt;
-    uint8_t record[5] = {9, 9, 9, 9, 9};
-    traymark_reading r = traymark_belt_read(belt, tray, symbols, symbols_length, doubts, doubts_length, record + 1, 3);
-    EXPECT(wrote(record, r.number) && is_belt(unchanged));
-    return r;
-}
-
-/* the header's example, in memory of any bytes, and a start while trays are on the belt; refused starts and changes between */
-static void belts(void)
-{
-    uint8_t plan[40];
-    EXPECT(traymark_belt_size() == TRAYMARK_BELT_SIZE);
-    memset(belt, 0xa5, sizeof *belt);
-    const traymark_belt any = *belt;
-    memcpy(plan, plan_spoiled, 40);
-    for (size_t k = 0; k < 6; k++) {
-        EXPECT(traymark_belt_start(belt, ALL(plan)) == repairs[k].before);
-        EXPECT(traymark_belt_change_plan(belt, ALL(plan)) == repairs[k].before);
-        plan[repairs[k].place] = repairs[k].repaired;
-    }
-    EXPECT(traymark_belt_start(belt, plan_a, 39) == 1 && traymark_belt_start(belt, plan_a, 0) == 1);
-    EXPECT(traymark_belt_change_plan(belt, plan_a, 39) == 1 && traymark_belt_change_plan(belt, plan_a, 0) == 1);
-    EXPECT(is_belt(any));
-
-    EXPECT(traymark_belt_start(belt, ALL(plan_a)) == 0 && is_belt(carrying(plan_a, NULL, 0)));
-    EXPECT(traymark_belt_enter(belt, 7) == 0 && traymark_belt_enter(belt, 9) == 0);
-    const struct tray old[2] = {{7, plan_a}, {9, plan_a}}, mixed_plans[3] = {{7, plan_a}, {9, plan_a}, {8, plan_w}};
-    EXPECT(is_belt(carrying(plan_a, old, 2)));
-    EXPECT(traymark_belt_change_plan(belt, ALL(plan_w)) == 0 && is_belt(carrying(plan_w, old, 2)));
-    EXPECT(traymark_belt_enter(belt, 8) == 0 && is_belt(carrying(plan_w, mixed_plans, 3)));
-    const struct tray lifted[2] = {{7, plan_a}, {8, plan_w}}, again[2] = {{8, plan_w}, {7, plan_w}};
-    EXPECT(traymark_belt_lift(belt, 9) == 0 && is_belt(carrying(plan_w, lifted, 2)));
-    EXPECT(lets_go(0, 7) && is_belt(carrying(plan_w, again, 1)));
-    EXPECT(traymark_belt_enter(belt, 7) == 0 && is_belt(carrying(plan_w, again, 2)));
-    EXPECT(traymark_belt_start(belt, ALL(plan_spoiled)) == 1 && traymark_belt_change_plan(belt, ALL(plan_spoiled)) == 1);
-    EXPECT(is_belt(carrying(plan_w, again, 2)));
-    EXPECT(traymark_belt_start(belt, ALL(plan_t)) == 0 && is_belt(carrying(plan_t, NULL, 0)) && lets_go(21, 0));
-}
-
-/* trays by plan A and by plan T, in season 12 and in season 30, are read under their own plans while yet another is in force */
-static void belt_plans(void)
-{
-    const uint8_t doubt_101[9] = {101}, zeros[6] = {0};
-    uint8_t later_a[40], later_t[40];
-    in_season(plan_a, 30, later_a), in_season(plan_t, 30, later_t);
-    const struct tray trays[4] = {{500, plan_a}, {501, plan_t}, {0, later_a}, {UINT32_MAX, later_t}};
-    EXPECT(traymark_belt_start(belt, ALL(plan_j)) == 0);
-    for (size_t k = 0; k < 4; k++)
-        EXPECT(traymark_belt_change_plan(belt, trays[k].plan, 40) == 0 && traymark_belt_enter(belt, trays[k].number) == 0);
-    EXPECT(traymark_belt_change_plan(belt, ALL(plan_h)) == 0 && is_belt(carrying(plan_h, trays, 4)));
-
-    EXPECT(is(read_tray(500, ALL(case_c), ALL(sure)), 400, 200, 2, 0, 1));
-    EXPECT(is(read_tray(500, ALL(mixed), ALL(mixed_doubts)), 300, 300, 1, 1, 1));
-    EXPECT(refused(read_tray(500, ALL(case_d), ALL(sure)), 10));
-    EXPECT(is(read_tray(0, ALL(case_c), ALL(sure)), 1000, 500, 2, 0, 1));
-    EXPECT(refused(read_tray(500, ALL(mark_a), ALL(doubt_101)), 8));
-    EXPECT(is(read_tray(0, ALL(mark_a), ALL(doubt_101)), 101, 1399, 0, 0, 0));
-    EXPECT(is(read_tray(501, ALL(mark_t), doubt_101 + 1, 6), 0, 300, 0, 0, 0));
-    EXPECT(refused(read_tray(501, ALL(mark_t), doubt_101, 6), 8));
-    EXPECT(is(read_tray(UINT32_MAX, ALL(mark_t), doubt_101, 6), 101, 649, 0, 0, 0));
-    EXPECT(refused(read_tray(500, ALL(mark_t), ALL(zeros)), 6) && refused(read_tray(501, ALL(mark_a), ALL(sure)), 6));
-
-    /* one is lifted out from between: the others have their plans still */
-    EXPECT(traymark_belt_lift(belt, 501) == 0 && refused(read_tray(501, ALL(mark_t), ALL(zeros)), 20));
-    EXPECT(is(read_tray(0, ALL(case_c), ALL(sure)), 1000, 500, 2, 0, 1));
-    EXPECT(is(read_tray(UINT32_MAX, ALL(mark_t), doubt_101, 6), 101, 649, 0, 0, 0));
-    EXPECT(lets_go(0, 500) && lets_go(0, 0) && lets_go(0, UINT32_MAX) && lets_go(21, 0));
-    EXPECT(is_belt(carrying(plan_h, NULL, 0)));
-}
-
-/* 32 trays, each with a plan of its own, and one more, which is refused be its number new or on the belt; places that are freed
-   at the front, in the middle and at the end serve again */
-static void belt_full(void)
-{
-    static uint8_t plans[33][40];
-    struct tray trays[32];
-    EXPECT(traymark_belt_start(belt, ALL(plan_a)) == 0);
-    for (uint16_t k = 0; k < 33; k++)
-        in_season(plan_a, (uint16_t)(k * 0x0305), plans[k]);
-    for (size_t k = 0; k < 32; k++) {
-        trays[k] = (struct tray){UINT32_MAX << k, plans[k]};
-        EXPECT(traymark_belt_change_plan(belt, ALL(plans[k])) == 0 && traymark_belt_enter(belt, trays[k].number) == 0);
-        EXPECT(is_belt(carrying(plans[k], trays, k + 1)));
-    }
-    EXPECT(traymark_belt_change_plan(belt, ALL(plans[32])) == 0);
-    EXPECT(traymark_belt_enter(belt, 5) == 19 && traymark_belt_enter(belt, trays[31].number) == 19);
-    const size_t freed[4] = {0, 31, 16, 30};
-    for (size_t k = 0; k < 4; k++) {
-        EXPECT(traymark_belt_lift(belt, trays[freed[k]].number) == 0);
-        memmove(trays + freed[k], trays + freed[k] + 1, (31 - freed[k]) * sizeof *trays);
-        EXPECT(is_belt(carrying(plans[32], trays, 31)));
-        trays[31] = (struct tray){(uint32_t)k, plans[32]};
-        EXPECT(traymark_belt_enter(belt, (uint32_t)k) == 0 && is_belt(carrying(plans[32], trays, 32)));
-        EXPECT(traymark_belt_enter(belt, 5) == 19);
-    }
-    for (size_t k = 0; k < 32; k++)
-        EXPECT(lets_go(0, trays[k].number) && is_belt(carrying(plans[32], trays + k + 1, 31 - k)));
-    EXPECT(lets_go(21, 0) && is_belt(carrying(plans[32], NULL, 0)));
-}
-
-/* 20, then 6, 7, 8 and 10; numbers that have one bit more; an empty belt; no byte changes */
-static void belt_refused(void)
-{
-    const struct tray trays[2] = {{4, plan_a}, {5, plan_w}};
-    const uint8_t sevens[10] = {7, 7, 7, 7, 7, 7, 7, 7, 7, 7}, doubts[10] = {101}, unread[9] = {255};
-    uint8_t record[4] = {9, 9, 9, 9};
-    *belt = carrying(plan_t, NULL, 0);
-    EXPECT(lets_go(21, 0) && traymark_belt_lift(belt, 0) == 20 && refused(read_tray(0, ALL(mark_a), ALL(sure)), 20));
-    EXPECT(is_belt(carrying(plan_t, NULL, 0)));
-    *belt = carrying(plan_t, trays, 2);
-    for (uint32_t bit = 1; bit < 32; bit++) {
-        const uint32_t other = 5 ^ 1u << bit;
-        EXPECT(traymark_belt_lift(belt, other) == 20 && refused(read_tray(other, sevens, 8, doubts, 8), 20));
-    }
-    EXPECT(traymark_belt_lift(belt, 0) == 20 && refused(read_tray(0, ALL(mark_a), ALL(sure)), 20));
-    EXPECT(traymark_belt_enter(belt, 4) == 20 && traymark_belt_enter(belt, 5) == 20);
-    for (size_t length = 0; length <= 10; length++) {
-        const uint32_t number = length == 9 ? 7 : 6;
-        EXPECT(refused(read_tray(4, sevens, length, doubts, 9), number));
-        EXPECT(refused(read_tray(4, sevens, 9, doubts, length), number));
-        EXPECT(length == 3 || length > 4 || refused(traymark_belt_read(belt, 4, ALL(mark_a), ALL(sure), record, length), 6));
-    }
-    EXPECT(refused(read_tray(4, ALL(mark_a), doubts, 9), 8) && refused(read_tray(4, ALL(unread), ALL(sure)), 8));
-    EXPECT(refused(read_tray(4, ALL(case_d), ALL(sure)), 10));
-    EXPECT(memcmp(record, (const uint8_t[4]){9, 9, 9, 9}, 4) == 0 && is_belt(carrying(plan_t, trays, 2)));
-}
-
-/* bytes that no call has made: a tray's plan is checked when it is read, and of trays with one number the first is meant */
-static void belt_of_any_plans(void)
-{
-    uint8_t plan[40];
-    memcpy(plan, plan_spoiled, 40);
-    for (size_t k = 0; k < 6; k++) {
-        const struct tray trays[4] = {{7, plan_a}, {4, plan}, {4, plan_a}, {5, plan}};
-        *belt = carrying(plan, trays, 3);
-        EXPECT(is(read_tray(7, ALL(mark_a), ALL(sure)), 0, 600, 0, 0, 0));
-        EXPECT(refused(read_tray(4, mark_a, 8, sure, 8), repairs[k].before));
-        EXPECT(traymark_belt_enter(belt, 4) == 20 && traymark_belt_enter(belt, 5) == 0 && is_belt(carrying(plan, trays, 4)));
-        EXPECT(traymark_belt_lift(belt, 4) == 0 && is_belt(without(carrying(plan, trays, 4), 1, 4)));
-        EXPECT(is(read_tray(4, ALL(mark_a), ALL(sure)), 0, 600, 0, 0, 0));
-        plan[repairs[k].place] = repairs[k].repaired;
-    }
-}
-
-/* any bytes, with every count of trays: more than 32 are 32. The last of them has the number ~7, and no other; none has 7 */
-static void belt_of_any_bytes(void)
-{
-    uint32_t random = 1;
-    for (size_t count = 0; count < 256; count++) {
-        const size_t n = count > 32 ? 32 : count;
-        for (size_t k = 0; k < sizeof *belt; k++)
-            random = random * 1664525 + 1013904223, belt->bytes[k] = (uint8_t)(random >> 24);
-        if (n > 0)
-            *belt = with(*belt, (struct tray){~7u, belt->bytes + 41}, n - 1);
-        belt->bytes[40] = (uint8_t)count;
-        const traymark_belt any = *belt;
-        EXPECT(refused(read_tray(7, ALL(mark_a), ALL(sure)), 20) && traymark_belt_lift(belt, 7) == 20);
-        if (n == 0) {
-            EXPECT(lets_go(21, 0) && is_belt(any));
-        } else {
-            const uint8_t *first = any.bytes + 41, *last = first + 44 * (n - 1);
-            EXPECT(refused(read_tray(~7u, ALL(mark_a), ALL(sure)), traymark_check_plan(last + 4, 40)));
-            EXPECT(traymark_belt_enter(belt, ~7u) == (n == 32 ? 19 : 20) && is_belt(any));
-            EXPECT(traymark_belt_lift(belt, ~7u) == 0 && is_belt(without(any, n - 1, n)));
-            *belt = any;
-            EXPECT(lets_go(0, n == 1 ? ~7u : (uint32_t)first[0] << 24 | first[1] << 16 | first[2] << 8 | first[3]));
-            EXPECT(is_belt(without(any, 0, n)));
-        }
-        *belt = any;
-        EXPECT(traymark_belt_enter(belt, 7) == (n == 32 ? 19 : 0));
-        EXPECT(is_belt(n == 32 ? any : with(any, (struct tray){7, any.bytes}, n)));
-        EXPECT(traymark_belt_change_plan(belt, ALL(plan_a)) == 0 && memcmp(belt->bytes, plan_a, 40) == 0);
-        EXPECT(traymark_belt_start(belt, ALL(plan_t)) == 0 && is_belt(carrying(plan_t, NULL, 0)));
-    }
+    EXPECT(record[0] == 7 && record[1] == 9 && lent.before == 77 && lent.after == 88);
 }
 
 /* 16 by 16 cells from season 30 on: the highest margin, the lowest, as much as an answer costs, and the largest excess */
@@ -1139,12 +895,6 @@ int main(void)
     set_refused();
     set_of_any_bytes();
     set_largest();
-    belts();
-    belt_plans();
-    belt_full();
-    belt_refused();
-    belt_of_any_plans();
-    belt_of_any_bytes();
     largest();
     printf("calls.c: ok: %d tests\n", tests);
     return 0;

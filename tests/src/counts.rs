@@ -1,9 +1,8 @@
 //! What was seen, so that tests that test nothing show.
 
-use crate::belts::{self, BeltCall};
 use crate::calls::{Arguments, Call, Outcome};
 use crate::plans::primes;
-use crate::sets::{self, SetCall};
+use crate::sets::{Seen, SetCall};
 use independent::windows::MOST_WINDOWS;
 use independent::{Code, Date, Plan, Reading, Reason, Windows, FINER};
 use std::collections::BTreeMap;
@@ -53,10 +52,9 @@ pub struct Counts {
     pub fullest_masks: u64,
     /// cells that were masked: unread; with the symbol 0 and another value; with the value 0; with a sum of p; with 250 and 250
     pub masked_cells: [u64; 5],
-    pub sets: sets::Seen,
-    pub belts: belts::Seen,
+    pub sets: Seen,
     /// answers by number, and accepted readings and measurements by class
-    pub numbers: [u64; 22],
+    pub numbers: [u64; 19],
     pub classes: [u64; 4],
 }
 
@@ -241,13 +239,7 @@ impl Counts {
     /// What a call on a set answers.
     pub fn set_answer(&mut self, call: SetCall, number: u32) {
         self.number(number);
-        self.sets.answers.see((call, number));
-    }
-
-    /// What a call on a belt answers.
-    pub fn belt_answer(&mut self, call: BeltCall, number: u32) {
-        self.number(number);
-        self.belts.answers.see((call, number));
+        self.sets.answer(call, number);
     }
 
     pub fn number(&mut self, number: u32) {
@@ -286,7 +278,6 @@ impl Counts {
         self.fullest_masks += other.fullest_masks;
         add_each(&mut self.masked_cells, other.masked_cells);
         self.sets.add(&other.sets);
-        self.belts.add(&other.belts);
         add_each(&mut self.numbers, other.numbers);
         add_each(&mut self.classes, other.classes);
     }
@@ -347,7 +338,6 @@ impl Counts {
         .into_iter()
         .find_map(|(missing, what)| missing.then_some(what))
         .or_else(|| self.sets.missing())
-        .or_else(|| self.belts.missing())
     }
 
     /// Whether one of the ages has fewer than so many.
@@ -380,8 +370,7 @@ impl fmt::Display for Counts {
              both methods: {}; first of several plans: {}, unsound before sound: {}; \
              widened: {}; reasons: {}; other at the first, the last, the latest cell: {} {} {}; excess 0, 1: {} {}; \
              window files with 64, one season twice, touching: {} {} {}; first days, last days, beside a window: {} {} {}; \
-             masks of 0, of p - 1: {} {}; cells masked unread, 0, by 0, to p, to 500: {}; sets: {}; belts: {}; \
-             numbers: {}; classes: {}",
+             masks of 0, of p - 1: {} {}; cells masked unread, 0, by 0, to p, to 500: {}; sets: {}; numbers: {}; classes: {}",
             self.calls,
             self.marks,
             self.oblongs,
@@ -411,7 +400,6 @@ impl fmt::Display for Counts {
             self.fullest_masks,
             list(&self.masked_cells),
             self.sets,
-            self.belts,
             list(&self.numbers),
             list(&self.classes)
         )

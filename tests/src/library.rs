@@ -5,6 +5,7 @@ use crate::calls::{Arguments, Call, Outcome};
 use crate::lent::Lent;
 use crate::random::Random;
 use independent::{Code, Date, Reading, Reason};
+use std::array::from_fn;
 use std::fmt::Debug;
 use traymark::ffi::{self, Explain, Measure, RawReading, RawReason, Read, Write};
 use traymark::Refusal;
@@ -191,29 +192,24 @@ pub fn find(file: &[u8], season: u16, random: &mut Random) -> Result<(u32, usize
 pub fn season(file: &Lent, date: Date, random: &mut Random) -> Result<(u32, u16), String> {
     let Date { year, month, day } = date;
     let bytes = file.bytes();
-    let given = [0; 3].map(|_| random.number() as u16);
-    let find = |season: *mut u16| unsafe {
+    // the middle one is lent
+    let before: [u16; 3] = from_fn(|_| random.number() as u16);
+    let mut after = before;
+    let number = unsafe {
+        let season = after.as_mut_ptr().add(1);
         ffi::traymark_find_season(bytes.as_ptr(), bytes.len(), year, month, day, season)
     };
-    let (number, season) = on_number(given, find)?;
     untouched(&[file])?;
-    let found = (number, season);
+    if [after[0], after[2]] != [before[0], before[2]] {
+        return Err("changed a byte beside the season".into());
+    }
+    let found = (number, after[1]);
     alike(number, found, || match traymark::find_season(bytes, year, month, day) {
         Ok(season) => (0, season),
         Err(refusal) => (refusal.number(), 0),
     })?;
     untouched(&[file])?;
     Ok(found)
-}
-
-/// A call that is lent the middle one of these numbers: what it answers, and that number afterwards.
-pub fn on_number<N: Copy + PartialEq, A>(given: [N; 3], call: impl FnOnce(*mut N) -> A) -> Result<(A, N), String> {
-    let mut left = given;
-    let answer = call(unsafe { left.as_mut_ptr().add(1) });
-    if [left[0], left[2]] != [given[0], given[2]] {
-        return Err("changed a byte beside the number that it writes".into());
-    }
-    Ok((answer, left[1]))
 }
 
 /// Widening plans: the number, and what the buffer holds afterwards.

@@ -7,10 +7,8 @@
 //!
 //! Marks and strips are masked and unmasked (`masking`). Photographs of one mark are combined (`set`), by sorting the votes of a
 //! cell, and the season of a date is found (`season`), by sorting the windows, as one would in Rust, whatever the library does.
-//! A set is a value of its own with the plan taken apart, not bytes, and is read by division. The trays of a belt (`belt`) are in
-//! a queue, and are read by division too. Nothing is allocated but that queue, when a belt is started.
+//! A set is a value of its own with the plan taken apart, not bytes, and is read by division. Nothing is allocated.
 
-mod belt;
 mod checks;
 mod draft;
 mod field;
@@ -27,7 +25,6 @@ mod steps;
 mod strip;
 mod tally;
 
-pub use belt::Belt;
 pub use field::{Plain, Reduction, Tuned};
 pub use masking::{mask_mark, mask_strip, unmask_mark, unmask_strip};
 pub use season::find_season;

@@ -1,7 +1,7 @@
 //! The calls as `include/traymark.h` declares them: each slice is a pointer and a length, in that order.
 //!
-//! What a caller owes is in that header: each pointer points to as many bytes as its length says, that of a set to `SET_SIZE` and
-//! that of a belt to `BELT_SIZE`, and what is written overlaps nothing else of the call.
+//! What a caller owes is in that header: each pointer points to as many bytes as its length says, that of a set to `SET_SIZE`,
+//! and what is written overlaps nothing else of the call.
 
 /// What measuring and reading answer. Of a refusal everything but the number is 0.
 #[repr(C)]
@@ -25,13 +25,11 @@ pub struct RawReason {
     pub excess: u32,
 }
 
-/// How many bytes a set has, and a belt.
+/// How many bytes a set has.
 pub const SET_SIZE: usize = 2353;
-pub const BELT_SIZE: usize = 1449;
 
-/// The bytes of a set and of a belt, which are the caller's. Any bytes are answered.
+/// The bytes of a set, which are the caller's. Any bytes are answered.
 pub type RawSet = [u8; SET_SIZE];
-pub type RawBelt = [u8; BELT_SIZE];
 
 extern "C" {
     pub fn traymark_check_plan(plan: *const u8, plan_len: usize) -> u32;
@@ -197,29 +195,6 @@ extern "C" {
     ) -> u32;
 
     pub fn traymark_set_read(set: *const RawSet, record: *mut u8, record_len: usize) -> RawReading;
-
-    pub fn traymark_belt_size() -> usize;
-
-    pub fn traymark_belt_start(belt: *mut RawBelt, plan: *const u8, plan_len: usize) -> u32;
-
-    pub fn traymark_belt_change_plan(belt: *mut RawBelt, plan: *const u8, plan_len: usize) -> u32;
-
-    pub fn traymark_belt_enter(belt: *mut RawBelt, tray: u32) -> u32;
-
-    pub fn traymark_belt_leave(belt: *mut RawBelt, tray: *mut u32) -> u32;
-
-    pub fn traymark_belt_lift(belt: *mut RawBelt, tray: u32) -> u32;
-
-    pub fn traymark_belt_read(
-        belt: *const RawBelt,
-        tray: u32,
-        symbols: *const u8,
-        symbols_len: usize,
-        doubts: *const u8,
-        doubts_len: usize,
-        record: *mut u8,
-        record_len: usize,
-    ) -> RawReading;
 }
 
 /// Writing a mark or a strip: plan, record, mark. Masking and unmasking one: plan, record, symbols.

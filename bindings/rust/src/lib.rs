@@ -2,8 +2,7 @@
 //!
 //! Plans, records, marks, strips, photographs and season windows are plain bytes; `include/traymark.h` says what each holds.
 //! A call that writes takes the buffer to write into, of the exact length; a refusal changes no byte of it. Masking and unmasking
-//! change the symbols that they are given. Several photographs of one mark are a `Set`; trays that are read by the plans under
-//! which they entered are on a `Belt`.
+//! change the symbols that they are given. Several photographs of one mark are a `Set`.
 //!
 //! A doubt is 0 to the full doubt, which is 100 for plans of seasons before 30 and 250 for plans of season 30 and later; that
 //! of an unread cell is the full doubt.
@@ -35,14 +34,11 @@
 //! # Ok::<(), traymark::Refusal>(())
 //! ```
 
-mod belt;
 pub mod ffi;
-mod lent;
 mod refusal;
 mod set;
 
-pub use belt::Belt;
-pub use ffi::{BELT_SIZE, SET_SIZE};
+pub use ffi::SET_SIZE;
 pub use refusal::Refusal;
 pub use set::Set;
 

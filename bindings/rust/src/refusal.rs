@@ -4,7 +4,7 @@ use std::error::Error;
 use std::fmt;
 
 /// Why a call was refused. Where several reasons apply, the first of them in the order of `ALL` is given; of `widen_plans` alone
-/// 11 comes before 6, and of `Belt::read` 20 before the plan's.
+/// 11 comes before 6.
 #[derive(Clone, Copy, Debug, PartialEq, Eq, Hash)]
 #[non_exhaustive]
 pub enum Refusal {
@@ -14,9 +14,6 @@ pub enum Refusal {
     Columns = 13,
     Degree = 4,
     Points = 5,
-    BeltFull = 19,
-    TrayNumber = 20,
-    BeltEmpty = 21,
     BufferLength = 6,
     NotFree = 17,
     NotHeld = 18,
@@ -32,18 +29,14 @@ pub enum Refusal {
 }
 
 impl Refusal {
-    /// All refusals, in the order in which they are tested: by rising number, but 13 after 3, 19 to 21 after 5, and 17 and 18
-    /// after 6.
-    pub const ALL: [Refusal; 21] = [
+    /// All refusals, in the order in which they are tested: by rising number, but 13 after 3, and 17 and 18 after 6.
+    pub const ALL: [Refusal; 18] = [
         Refusal::PlanForm,
         Refusal::Modulus,
         Refusal::Rows,
         Refusal::Columns,
         Refusal::Degree,
         Refusal::Points,
-        Refusal::BeltFull,
-        Refusal::TrayNumber,
-        Refusal::BeltEmpty,
         Refusal::BufferLength,
         Refusal::NotFree,
         Refusal::NotHeld,
@@ -63,7 +56,7 @@ impl Refusal {
         Refusal::ALL.into_iter().find(|refusal| refusal.number() == number)
     }
 
-    /// Its number, 1 to 21.
+    /// Its number, 1 to 18.
     pub fn number(self) -> u32 {
         self as u32
     }
@@ -79,11 +72,6 @@ impl Refusal {
             Refusal::Points => {
                 "a row or column point is p or more or not above the one before it, or an unused point byte is not 0"
             }
-            Refusal::BeltFull => "32 trays are on the belt",
-            Refusal::TrayNumber => {
-                "the number of the tray to enter is on the belt, or that of the tray to lift or read is not"
-            }
-            Refusal::BeltEmpty => "no tray is on the belt",
             Refusal::BufferLength => "a lent buffer has not its exact length",
             Refusal::NotFree => "the number of the photograph to add is above 8, or held",
             Refusal::NotHeld => "the number of the photograph to withdraw is not held",
@@ -119,11 +107,10 @@ mod tests {
     use super::*;
 
     #[test]
-    fn numbers_go_from_1_to_21_in_the_order_of_the_tests() {
-        let numbers = [1, 2, 3, 13, 4, 5, 19, 20, 21, 6, 17, 18, 7, 8, 9, 10, 11, 12, 14, 15, 16];
-        assert_eq!(Refusal::ALL.map(Refusal::number), numbers);
+    fn numbers_go_from_1_to_18_in_the_order_of_the_tests() {
+        assert_eq!(Refusal::ALL.map(Refusal::number), [1, 2, 3, 13, 4, 5, 6, 17, 18, 7, 8, 9, 10, 11, 12, 14, 15, 16]);
         assert!(Refusal::ALL.iter().all(|&refusal| Refusal::from_number(refusal.number()) == Some(refusal)));
-        assert_eq!([0, 22].map(Refusal::from_number), [None, None]);
+        assert_eq!([0, 19].map(Refusal::from_number), [None, None]);
     }
 
     #[test]

@@ -1,6 +1,5 @@
 //! Several photographs of one mark, combined and read.
 
-use crate::lent::lent;
 use crate::{accepted, ffi, reading, Reading, Refusal, SET_SIZE};
 
 /// Up to nine photographs of one mark, numbered 0 to 8. They are added as they arrive and can be withdrawn; those that are held
@@ -44,10 +43,21 @@ use crate::{accepted, ffi, reading, Reading, Refusal, SET_SIZE};
 #[derive(Clone, Debug, PartialEq, Eq)]
 pub struct Set([u8; SET_SIZE]);
 
-lent!(Set, SET_SIZE, ffi::traymark_set_start);
-
-// The calls below are safe as those of `lent` are.
+// Safety of the calls below: every pointer and its length come from one slice, that of a set from a reference to its bytes, and
+// what is behind a `&mut` overlaps nothing else.
 impl Set {
+    /// A set with this plan that holds no photograph. Refusals 1 2 3 13 4 5.
+    pub fn start(plan: &[u8]) -> Result<Set, Refusal> {
+        let mut set = Set([0; SET_SIZE]);
+        set.restart(plan)?;
+        Ok(set)
+    }
+
+    /// Empties the set and gives it this plan; a refusal leaves it as it is. Refusals 1 2 3 13 4 5.
+    pub fn restart(&mut self, plan: &[u8]) -> Result<(), Refusal> {
+        accepted(unsafe { ffi::traymark_set_start(&mut self.0, plan.as_ptr(), plan.len()) })
+    }
+
     /// Adds a photograph: `symbols` and `doubts` have rows * columns bytes. The doubts are checked and not kept. Refusals 6, 17
     /// where the number is above 8 or held, 7 and 8; before them, in bytes that the calls have not made, 1 2 3 13 4 5.
     pub fn add(&mut self, photograph: u32, symbols: &[u8], doubts: &[u8]) -> Result<(), Refusal> {
@@ -80,5 +90,15 @@ impl Set {
     /// where no record is within the radius; in bytes that the calls have not made, 1 2 3 13 4 5 before 6, and 7 after it.
     pub fn read(&self, record: &mut [u8]) -> Result<Reading, Refusal> {
         reading(unsafe { ffi::traymark_set_read(&self.0, record.as_mut_ptr(), record.len()) })
+    }
+
+    /// A set of these bytes. All calls answer whatever bytes they are.
+    pub fn from_bytes(bytes: [u8; SET_SIZE]) -> Set {
+        Set(bytes)
+    }
+
+    /// Its bytes.
+    pub fn as_bytes(&self) -> &[u8; SET_SIZE] {
+        &self.0
     }
 }

@@ -1,13 +1,11 @@
 //! Each call through the wrapper: cases a, c and f of document 01, wrong and unread cells at once, strips, oblong marks, doubts
-//! in 250ths, the three reasons, season windows, masks, sets of photographs, belts, and a refusal of each call. Buffers that are
-//! to be written hold 9s before, so that it is seen when a refusal changes one.
+//! in 250ths, the three reasons, season windows, masks, sets of photographs, and a refusal of each call. Buffers that are to be
+//! written hold 9s before, so that it is seen when a refusal changes one.
 
-use traymark::{Belt, Reading, Reason, Refusal, Set, BELT_SIZE, OLD_PLAN_LENGTH, PLAN_LENGTH, SET_SIZE, WINDOW_LENGTH};
+use traymark::{Reading, Reason, Refusal, Set, OLD_PLAN_LENGTH, PLAN_LENGTH, SET_SIZE, WINDOW_LENGTH};
 
 /// Plan A: season 12, p 7, 3 rows, 3 columns, d 1, points 1 2 4 each way.
 const PLAN: [u8; PLAN_LENGTH] = plan([0, 12, 7, 3, 3, 1], [1, 2, 4], [1, 2, 4]);
-/// The same with p 9, which is no prime.
-const UNSOUND_PLAN: [u8; PLAN_LENGTH] = plan([0, 12, 9, 3, 3, 1], [1, 2, 4], [1, 2, 4]);
 /// 3 + X + 2Y, and its mark.
 const RECORD: [u8; 3] = [3, 1, 2];
 const MARK: [u8; 9] = [6, 1, 5, 0, 2, 6, 2, 4, 1];
@@ -453,11 +451,9 @@ fn masked_photographs() {
 }
 
 #[test]
-fn sets_and_belts_have_the_sizes_that_the_library_says() {
+fn a_set_has_the_size_that_the_library_says() {
     assert_eq!(unsafe { traymark::ffi::traymark_set_size() }, SET_SIZE);
     assert_eq!(size_of::<Set>(), SET_SIZE);
-    assert_eq!(unsafe { traymark::ffi::traymark_belt_size() }, BELT_SIZE);
-    assert_eq!(size_of::<Belt>(), BELT_SIZE);
 }
 
 /// The symbols and the doubts of the combination.
@@ -548,7 +544,8 @@ fn sets_refuse() {
     assert_eq!(Set::start(&PLAN[..39]), Err(Refusal::PlanForm));
     let mut set = Set::from_bytes(bytes_of_set(&PLAN, &[4]));
     let before = set.clone();
-    assert_eq!(set.restart(&UNSOUND_PLAN), Err(Refusal::Modulus));
+    let unsound = plan([0, 12, 9, 3, 3, 1], [1, 2, 4], [1, 2, 4]);
+    assert_eq!(set.restart(&unsound), Err(Refusal::Modulus));
     assert_eq!(set.add(4, &[7; 8], &[101; 9]), Err(Refusal::BufferLength));
     assert_eq!(set.add(9, &[7; 9], &[101; 8]), Err(Refusal::BufferLength));
     assert_eq!(set.add(4, &[7; 9], &[101; 9]), Err(Refusal::NotFree));
@@ -582,146 +579,4 @@ fn sets_of_any_bytes() {
     assert_eq!(set.withdraw(2), Ok(()));
     assert_eq!(set.withdraw(4), Ok(()));
     assert_eq!(read(&set), (Err(Refusal::Symbol), [9; 3]));
-}
-
-/// Plan T in season 30.
-const LATER_HALF_PLAN: [u8; PLAN_LENGTH] = plan([0, 30, 7, 3, 2, 1], [0, 2, 5], [1, 3, 0]);
-
-/// A tray's number, and the plan by which it entered.
-type Tray = (u32, [u8; PLAN_LENGTH]);
-
-/// The bytes of a belt with this plan in force and these trays on it, the front first.
-fn bytes_of_belt(in_force: &[u8; PLAN_LENGTH], trays: &[Tray]) -> [u8; BELT_SIZE] {
-    let mut bytes = [0; BELT_SIZE];
-    bytes[..PLAN_LENGTH].copy_from_slice(in_force);
-    bytes[40] = trays.len() as u8;
-    for (place, (number, plan)) in bytes[41..].chunks_exact_mut(44).zip(trays) {
-        place[..4].copy_from_slice(&number.to_be_bytes());
-        place[4..].copy_from_slice(plan);
-    }
-    bytes
-}
-
-/// A belt is filled, and emptied from the front, the middle and the end; freed places serve again.
-#[test]
-fn belts_are_filled_and_emptied() {
-    let mut belt = Belt::start(&PLAN).unwrap();
-    assert_eq!(belt.as_bytes(), &bytes_of_belt(&PLAN, &[]));
-    let mut trays: Vec<Tray> = (0..32).map(|k| (u32::MAX << k, PLAN)).collect();
-    for &(tray, _) in &trays {
-        assert_eq!(belt.enter(tray), Ok(()));
-    }
-    assert_eq!(belt.as_bytes(), &bytes_of_belt(&PLAN, &trays));
-    assert_eq!(belt.enter(0), Err(Refusal::BeltFull));
-    assert_eq!(belt.leave(), Ok(u32::MAX));
-    trays.remove(0);
-    assert_eq!(belt.as_bytes(), &bytes_of_belt(&PLAN, &trays));
-    for place in [15, 29, 0] {
-        assert_eq!(belt.lift(trays.remove(place).0), Ok(()));
-        assert_eq!(belt.as_bytes(), &bytes_of_belt(&PLAN, &trays));
-    }
-    // one that left enters again, by another plan
-    assert_eq!(belt.change_plan(&WIDE_PLAN), Ok(()));
-    assert_eq!(belt.enter(u32::MAX), Ok(()));
-    trays.push((u32::MAX, WIDE_PLAN));
-    assert_eq!(belt, Belt::from_bytes(bytes_of_belt(&WIDE_PLAN, &trays)));
-    for (tray, _) in trays {
-        assert_eq!(belt.leave(), Ok(tray));
-    }
-    assert_eq!(belt.as_bytes(), &bytes_of_belt(&WIDE_PLAN, &[]));
-    assert_eq!(belt.enter(7), Ok(()));
-    assert_eq!(belt.restart(&LATER_PLAN), Ok(()));
-    assert_eq!(belt.as_bytes(), &bytes_of_belt(&LATER_PLAN, &[]));
-}
-
-/// What is said of the record of a tray's photograph, and the record.
-fn read_tray(belt: &Belt, tray: u32, symbols: &[u8], doubts: &[u8]) -> (Result<Reading, Refusal>, [u8; 3]) {
-    let mut record = [9; 3];
-    (belt.read(tray, symbols, doubts, &mut record), record)
-}
-
-/// Trays of two shapes and of two ages are read, each under the plan by which it entered, while yet another is in force.
-#[test]
-fn belts_are_read() {
-    let mut belt = Belt::start(&PLAN).unwrap();
-    for (tray, plan) in [(500, PLAN), (0, LATER_HALF_PLAN), (502, LATER_PLAN)] {
-        assert_eq!(belt.change_plan(&plan), Ok(()));
-        assert_eq!(belt.enter(tray), Ok(()));
-    }
-    assert_eq!(belt.change_plan(&WIDE_PLAN), Ok(()));
-    for (symbols, doubts, reading) in PHOTOS {
-        assert_eq!(read_tray(&belt, 500, &symbols, &doubts), (Ok(reading), RECORD));
-    }
-    for (symbols, doubts, reading) in LATER_PHOTOS {
-        assert_eq!(read_tray(&belt, 502, &symbols, &doubts), (Ok(reading), RECORD));
-    }
-    let [_, Oblong { mark, .. }] = OBLONGS;
-    let in_doubt = Reading { cost: 250, margin: 500, changed: 0, unread: 0, class: 0 };
-    assert_eq!(read_tray(&belt, 0, &mark, &[250, 0, 0, 0, 0, 0]), (Ok(in_doubt), RECORD));
-    assert_eq!(read_tray(&belt, 500, &mark, &[0; 6]), (Err(Refusal::BufferLength), [9; 3]));
-    assert_eq!(read_tray(&belt, 500, &MARK, &[101; 9]), (Err(Refusal::Doubt), [9; 3]));
-    assert_eq!(read_tray(&belt, 502, &CASE_D, &SURE), (Err(Refusal::NoRecord), [9; 3]));
-    // the others are read as before when one is lifted out from between
-    assert_eq!(belt.lift(0), Ok(()));
-    assert_eq!(read_tray(&belt, 0, &mark, &[0; 6]), (Err(Refusal::TrayNumber), [9; 3]));
-    let (symbols, doubts, reading) = LATER_PHOTOS[0];
-    assert_eq!(read_tray(&belt, 502, &symbols, &doubts), (Ok(reading), RECORD));
-}
-
-/// Each refusal with later ones beside it; the belt stays as it was.
-#[test]
-fn belts_refuse() {
-    assert_eq!(Belt::start(&PLAN[..39]), Err(Refusal::PlanForm));
-    let mut belt = Belt::from_bytes(bytes_of_belt(&LATER_PLAN, &[(4, PLAN), (5, HALF_PLAN)]));
-    let before = belt.clone();
-    assert_eq!(belt.restart(&UNSOUND_PLAN), Err(Refusal::Modulus));
-    assert_eq!(belt.change_plan(&UNSOUND_PLAN), Err(Refusal::Modulus));
-    assert_eq!(belt.change_plan(&[]), Err(Refusal::PlanForm));
-    assert_eq!(belt.enter(4), Err(Refusal::TrayNumber));
-    assert_eq!(belt.enter(5), Err(Refusal::TrayNumber));
-    for far in [0, 3, 4 + (1 << 8), 5 + (1 << 16), 4 + (1 << 31), u32::MAX] {
-        assert_eq!(belt.lift(far), Err(Refusal::TrayNumber));
-        assert_eq!(read_tray(&belt, far, &[7; 8], &[101; 9]), (Err(Refusal::TrayNumber), [9; 3]));
-    }
-    assert_eq!(read_tray(&belt, 4, &[7; 8], &[101; 9]), (Err(Refusal::BufferLength), [9; 3]));
-    assert_eq!(belt.read(4, &[7; 9], &[101; 9], &mut [9; 2]), Err(Refusal::BufferLength));
-    assert_eq!(read_tray(&belt, 4, &[7; 9], &[101; 9]), (Err(Refusal::Symbol), [9; 3]));
-    assert_eq!(read_tray(&belt, 4, &CASE_F, &SURE), (Err(Refusal::Doubt), [9; 3]));
-    assert_eq!(read_tray(&belt, 4, &CASE_D, &SURE), (Err(Refusal::NoRecord), [9; 3]));
-    assert_eq!(belt, before);
-    let mut full = Belt::from_bytes(bytes_of_belt(&PLAN, &[(4, PLAN); 32]));
-    assert_eq!(full.enter(4), Err(Refusal::BeltFull));
-    let mut empty = Belt::start(&PLAN).unwrap();
-    assert_eq!(empty.leave(), Err(Refusal::BeltEmpty));
-    assert_eq!(empty.lift(0), Err(Refusal::TrayNumber));
-    assert_eq!(empty.as_bytes(), &bytes_of_belt(&PLAN, &[]));
-}
-
-/// Bytes that no call has made: a tray's plan is checked when it is read, more than 32 trays count as 32, and of trays with one
-/// number the first is meant.
-#[test]
-fn belts_of_any_bytes() {
-    let mut trays = vec![(4, UNSOUND_PLAN), (8, LATER_PLAN), (4, PLAN)];
-    trays.resize(32, (9, PLAN));
-    let mut bytes = bytes_of_belt(&UNSOUND_PLAN, &trays);
-    bytes[40] = 255;
-    let mut belt = Belt::from_bytes(bytes);
-    assert_eq!(belt.enter(1), Err(Refusal::BeltFull));
-    assert_eq!(read_tray(&belt, 4, &MARK, &SURE), (Err(Refusal::Modulus), [9; 3]));
-    assert_eq!(belt.lift(4), Ok(()));
-    trays.remove(0);
-    assert_eq!(belt.as_bytes(), &bytes_of_belt(&UNSOUND_PLAN, &trays));
-    let (symbols, doubts, reading) = PHOTOS[0];
-    assert_eq!(read_tray(&belt, 4, &symbols, &doubts), (Ok(reading), RECORD));
-    // the plan in force is given to the tray as it is
-    assert_eq!(belt.enter(1), Ok(()));
-    assert_eq!(read_tray(&belt, 1, &MARK, &SURE), (Err(Refusal::Modulus), [9; 3]));
-    // what stands behind the trays moves with them
-    let mut bytes = [7; BELT_SIZE];
-    bytes[40] = 1;
-    let mut belt = Belt::from_bytes(bytes);
-    assert_eq!(belt.leave(), Ok(0x0707_0707));
-    bytes[40] = 0;
-    bytes[BELT_SIZE - 44..].fill(0);
-    assert_eq!(belt.as_bytes(), &bytes);
 }

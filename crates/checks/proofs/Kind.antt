@@ -13,12 +13,12 @@ use Prim.Native.Nat.{ℕ}
 use lib.ListN.{length}
 use Rattle.field.specs.Word.{reached}
 use Rattle.definitions.specs.Refusals.{Refusal, first}
-use Rattle.definitions.specs.Plan.{plan_of, modulus, check_number}
+use Rattle.definitions.specs.Plan.{modulus, check_number}
 use Rattle.definitions.specs.Code.{code_of, size, cells}
 use Rattle.definitions.specs.Cost.{full}
 use Rattle.definitions.specs.Calls.{overflowing, photo_tests, photo_rows, write_tests, write_number}
 use Rattle.definitions.specs.Masking.{mask_tests, mask_number}
-use Rattle.definitions.specs.Sets.{add_tests, add_number, combine_tests, combine_number}
+use Rattle.definitions.specs.Sets.{set_plan, add_tests, add_number, combine_tests, combine_number}
 use Rattle.definitions.proofs.Refusals.{Stops, number_at, first-at, answered}
 use Rattle.definitions.proofs.Sound.{checked}
 use Rattle.definitions.proofs.Plan.{strip_size_lem, mark_size_lem}
@@ -62,7 +62,7 @@ module _ (mark : Bool) {P : List ℕ} {plan : Plan} (says : Says P plan) where
   mask_at F s = gives (λ p f. mask_tests p F s) (mask_passes (code_of mark) P F s)
 
 -- of sets: the plan is the one in the memory
-module _ (S : List ℕ) {plan : Plan} (says : Says (plan_of S) plan) where
+module _ (S : List ℕ) {plan : Plan} (says : Says (set_plan S) plan) where
   pub add_at : (k : ℕ) (s u : List ℕ) → Gives true says (λ p f n _. add_tests p f S k s u n) (add_number S k s u)
   add_at k s u = gives true says (λ p f n _. add_tests p f S k s u n) (add_passes S k s u)
 

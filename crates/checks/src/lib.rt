@@ -3,14 +3,13 @@
 // bytes of any length. A loop over cells looks at all of them, with no way out, so that it is vectorised.
 ghost use Rattle.std.specs.Prelude.{◌≡◌, not, ◌&&◌, ◌||◌, List, ℕ, eqb, ltb, leb, length};
 ghost use Rattle.polynomial.specs.Fit.{Fit};
-ghost use Rattle.definitions.specs.Plan.{plan_of};
 ghost use Rattle.definitions.specs.Refusals.{first};
 ghost use Rattle.definitions.specs.Code.{code_of};
 ghost use Rattle.definitions.specs.Cost.{unread};
 ghost use Rattle.definitions.specs.Calls.{strange, misdoubted, photo_rows, write_number, measure_number};
 ghost use Rattle.definitions.specs.Masking.{mask_number};
 ghost use Rattle.definitions.specs.Explaining.{explain_number};
-ghost use Rattle.definitions.specs.Sets.{set_bytes, add_number, combine_number};
+ghost use Rattle.definitions.specs.Sets.{set_bytes, set_plan, add_number, combine_number};
 ghost use Rattle.plan.specs.Says.{Says, Ready};
 ghost use Rattle.checks.specs.Kind.{size_of, cells_of};
 
@@ -127,7 +126,7 @@ pub fn explain_refusal(
 // Refusals 6, 17, 7 and 8, those of photograph k that arrives in the set under whose own plan it is.
 pub fn add_refusal(plan: Plan, set: &[u8], k: u32, symbols: &[u8], doubts: &[u8]) -> u32
     requires { Ready plan × (length set.now ≡ set_bytes) }
-    ensures { Says (plan_of set.now) plan →
+    ensures { Says (set_plan set.now) plan →
         result ≡ add_number set.now k symbols.now doubts.now }
 {
     let g = plan.grid;
@@ -157,7 +156,7 @@ pub fn add_refusal(plan: Plan, set: &[u8], k: u32, symbols: &[u8], doubts: &[u8]
 // Refusal 6, that of the buffers for a combination. Only their lengths count.
 pub fn combine_refusal(plan: Plan, symbols: &[u8], doubts: &[u8]) -> u32
     requires { Ready plan }
-    ensures { (S : List ℕ) → Says (plan_of S) plan →
+    ensures { (S : List ℕ) → Says (set_plan S) plan →
         result ≡ combine_number S symbols.now doubts.now }
 {
     let n = cell_count(true, plan.grid);

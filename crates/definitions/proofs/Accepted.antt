@@ -33,7 +33,7 @@ use lib.ListN.{length}
 use borrow.Author.Tests.{leb-false, lt-leb, eqb-true, not-false}
 use Rattle.bounded.proofs.Any.{any_none, none_any}
 use Rattle.definitions.specs.Refusals.{Refusal, ◌when◌, first}
-use Rattle.definitions.specs.Plan.{plan_of, modulus, plan_rows, check_number}
+use Rattle.definitions.specs.Plan.{modulus, plan_rows, check_number}
 use Rattle.definitions.specs.Code.{Code, oblong, size, cells, IsRecord}
 use Rattle.definitions.specs.Cost.{full}
 use Rattle.definitions.specs.Calls.{length_row, overflowing, record_row, photo_tests, photo_rows}
@@ -41,8 +41,7 @@ use Rattle.definitions.specs.Calls.{write_tests, write_rows, write_number, measu
 use Rattle.definitions.specs.Calls.{nearest, missing, read_rows, read_number}
 use Rattle.definitions.specs.Masking.{mask_tests, mask_rows, mask_number}
 use Rattle.definitions.specs.Explaining.{explain_rows, explain_number}
-use Rattle.definitions.specs.Sets.{combined_symbols, combined_doubts}
-use Rattle.definitions.specs.Belts.{found, tray_plan}
+use Rattle.definitions.specs.Sets.{set_plan, combined_symbols, combined_doubts}
 use Rattle.definitions.specs.Photograph.{Photograph}
 use Rattle.definitions.specs.Accepted.{Writing, Masking, Expecting}
 use Rattle.definitions.specs.Demands.{PlanFirst, LengthsFit, WrittenExactly, TakenExactly, ExplainsExactly}
@@ -53,7 +52,6 @@ use Rattle.definitions.proofs.Sound.{sound, checked}
 use Rattle.definitions.proofs.Photograph.{symbols-fit, fit-symbols, doubts-fit}
 use Rattle.definitions.proofs.Photograph.{photo-accepted, accepted-photo, accepted-buffer}
 use Rattle.definitions.proofs.Sets.{add-refused, combine-refused}
-use Rattle.definitions.proofs.Belts.{read-on}
 
 -- one row that does not apply
 passed : (k : ℕ) (b : Bool) → b ≡ false → first ((k when b) ∷ []) ≡ 0
@@ -293,8 +291,6 @@ plan-first P = record {
   set_add = λ S k s u e n. sym (add-refused S k s u _ (sym (ap check_number e)) n);
   set_combine = λ S B D e n. sym (combine-refused S B D _ (sym (ap check_number e)) n);
   set_read = λ S B e n.
-      sym (read-refused oblong (plan_of S) (combined_symbols S) (combined_doubts S) B _
-      (photo-refused oblong (plan_of S) (combined_symbols S) (combined_doubts S) B _ (sym (ap check_number e)) n) n);
-  belt_read = λ B x s u R o e n. read-on B x s u R o ∙ sym (read-refused oblong (tray_plan B (found B x)) s u R _
-      (photo-refused oblong (tray_plan B (found B x)) s u R _ (sym (ap check_number e)) n) n);
+      sym (read-refused oblong (set_plan S) (combined_symbols S) (combined_doubts S) B _
+      (photo-refused oblong (set_plan S) (combined_symbols S) (combined_doubts S) B _ (sym (ap check_number e)) n) n);
 }

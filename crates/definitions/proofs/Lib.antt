@@ -18,10 +18,8 @@ pub mod Own
 pub mod Margin
 pub mod Published
 pub mod Finder
-pub mod Sets
-pub mod Belts
-pub mod Histories
 pub mod Accepted
+pub mod Sets
 pub mod Masking
 pub mod Masked
 pub mod Explaining

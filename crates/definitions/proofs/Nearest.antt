@@ -5,7 +5,6 @@
 --   reads_refused                a refusal of the plan, or of 6 to 8
 --   reads_none                   10, where no record is within the radius
 --   reads_the                    the record within it, where there is at most one
---   read_keeps                   a refused reading is zeros and leaves the buffer
 --   zero_or_ten                  past 1 to 8 the number is 0 or 10
 --   nearest_says                 what the search finds, a record within the radius or none
 --   reads_found                  a reading that is not refused is of what the search finds, and one of number 10 of none
@@ -13,7 +12,7 @@
 -- What this file is for: a reader proves one of three cases, and has the definition's reading and buffer; whoever calls one has
 -- what the search finds. Assumes nothing.
 use mathlib.Core.Path.{◌≡◌, refl, sym, ap, ap₂, ◌∙◌}
-use mathlib.Core.Logic.{◌≢◌, ◌⊎◌, inl, inr}
+use mathlib.Core.Logic.{◌⊎◌, inl, inr}
 use mathlib.Core.Bool.{true, false}
 use mathlib.Core.List.{List, [], ◌∷◌}
 use mathlib.Core.Option.{Option, some, none}
@@ -28,7 +27,7 @@ use Rattle.definitions.specs.Cost.{radius}
 use Rattle.definitions.specs.Calls.{photo_rows, refused, cost_of, reading_of, within, nearest, missing, the}
 use Rattle.definitions.specs.Calls.{read_rows, read_number, read_reading, read_buffer}
 use Rattle.definitions.specs.Reads.{Reads}
-use Rattle.definitions.proofs.Refusals.{first-append, otherwise}
+use Rattle.definitions.proofs.Refusals.{first-append}
 use Rattle.definitions.proofs.Search.{SearchSays, search_says, search-none, search-the}
 
 -- the test as facts
@@ -69,11 +68,6 @@ module _ (C : Code) (P s u B : List ℕ) where
 
   pub reads_refused : (k : ℕ) → first (photo_rows C P s u B) ≡ suc k → Reads C P s u B (refused (suc k)) B
   reads_refused k e = reads (number e refl) refl
-
-  pub read_keeps : read_number C P s u B ≢ 0 →
-      (read_reading C P s u B ≡ refused (read_number C P s u B)) × (read_buffer C P s u B ≡ B)
-  unfolding read_reading read_buffer
-  read_keeps h = (otherwise (read_number C P s u B) _ _ h, otherwise (read_number C P s u B) _ _ h)
 
   module _ (e : first (photo_rows C P s u B) ≡ 0) where
     pub reads_none : ((F : List ℕ) → IsRecord C P F → within C P s u F ≡ false) → Reads C P s u B (refused 10) B

@@ -12,8 +12,6 @@
 --                                 where the numbers stand in an order, from the k-th on, it is the earliest
 --   absent k rows, first_absent   a number that no row has is not the first
 --   otherwise                     what a refused call does: `accepted`, where the number is not 0
---   keeps, gives                  what a call leaves that has found its number: what was there where it is refused, else what is
---                                 said of an accepted one
 --   equal, unequal                a code's test of two numbers
 --   answered, answered-not        a test that a function has answered
 --   holds                         a test that is not false is true
@@ -169,13 +167,6 @@ first_absent k ((j when false) ∷ rows) z h e = first_absent k rows z (both (no
 pub otherwise : {A : Type 0} (k : ℕ) (a b : A) → k ≢ 0 → accepted k a b ≡ b
 otherwise zero a b h = absurd (h refl)
 otherwise (suc k) a b h = refl
-
-module _ {A : Type 0} {k : ℕ} (n : ℕ) (a b : A) (e : k ≡ n) where
-  pub keeps : k ≢ 0 → b ≡ accepted n a b
-  keeps h = sym (otherwise n a b λ z. h (e ∙ z))
-
-  pub gives : k ≡ 0 → a ≡ accepted n a b
-  gives z = ap (λ k. accepted k a b) (sym z ∙ e)
 
 -- a code's tests as the definitions' tests; `search tests` finds them in what is known at a return
 pub equal : (a b : ℕ) → a ≡ b → not (eqb a b) ≡ false

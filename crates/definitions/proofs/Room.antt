@@ -13,8 +13,9 @@ use native.Mathlib.Omega.{arith}
 use native.Mathlib.Decide.{dec_le}
 use lib.ListN.{length, take, length-append, length-take}
 use lib.Seq.{take_all, take-append_seam, take-take}
-use Rattle.definitions.specs.Plan.{plan_bytes, plan_of, check_number}
+use Rattle.definitions.specs.Plan.{plan_bytes, check_number}
 use Rattle.definitions.specs.Room.{HoldsFirst}
+use Rattle.definitions.specs.Tray.{plan_of}
 use Rattle.definitions.specs.Printed.{refused_line}
 
 pub holds-whole : (input space : List ℕ) → HoldsFirst input (input ++ space) (length input)

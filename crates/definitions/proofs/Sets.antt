@@ -17,15 +17,15 @@ use native.Mathlib.Omega.{arith}
 use borrow.Author.Tests.{eqb-true, ltb-false, not-false}
 use Rattle.bounded.specs.Bounded.{at}
 use Rattle.definitions.specs.Refusals.{Refusal, first}
-use Rattle.definitions.specs.Plan.{plan_of, modulus, plan_rows, check_number}
+use Rattle.definitions.specs.Plan.{modulus, plan_rows, check_number}
 use Rattle.definitions.specs.Code.{oblong, cells}
 use Rattle.definitions.specs.Cost.{full}
 use Rattle.definitions.specs.Sound.{Sound}
-use Rattle.definitions.specs.Sets.{flag, started, start_memory, added, add_tests, add_rows, add_number, add_memory}
+use Rattle.definitions.specs.Sets.{set_plan, flag, started, start_memory, added, add_tests, add_rows, add_number, add_memory}
 use Rattle.definitions.specs.Sets.{withdrawn, withdraw_rows, withdraw_number, withdraw_memory}
 use Rattle.definitions.specs.Sets.{combined_symbols, combined_doubts, combine_tests, combine_rows, combine_number}
 use Rattle.definitions.specs.Sets.{combine_symbols, combine_doubts}
-use Rattle.definitions.specs.SetHistories.{Stored}
+use Rattle.definitions.specs.Histories.{Stored}
 use Rattle.definitions.proofs.Refusals.{first-clear, first_both, Stops, number_at, first-at, first-refuses, first_passes}
 use Rattle.definitions.proofs.Refusals.{otherwise}
 use Rattle.definitions.proofs.Sound.{sound}
@@ -37,26 +37,26 @@ start-keeps P S n = otherwise (check_number P) (started P) S n
 
 module _ (S : List ℕ) (k : ℕ) (s u : List ℕ) where
   abbrev adding : List Refusal
-  adding = add_tests (modulus (plan_of S)) (full (plan_of S)) S k s u (cells oblong (plan_of S))
+  adding = add_tests (modulus (set_plan S)) (full (set_plan S)) S k s u (cells oblong (set_plan S))
 
-  pub add-refused : (j : ℕ) → j ≡ check_number (plan_of S) → j ≢ 0 → j ≡ add_number S k s u
+  pub add-refused : (j : ℕ) → j ≡ check_number (set_plan S) → j ≢ 0 → j ≡ add_number S k s u
   unfolding add_number add_rows plan_rows check_number
-  add-refused j e n = first-refuses (plan_rows (plan_of S)) adding tt j e n
+  add-refused j e n = first-refuses (plan_rows (set_plan S)) adding tt j e n
 
-  pub add_passes : check_number (plan_of S) ≡ 0 → first adding ≡ add_number S k s u
+  pub add_passes : check_number (set_plan S) ≡ 0 → first adding ≡ add_number S k s u
   unfolding add_number add_rows plan_rows check_number
-  add_passes = first_passes (plan_rows (plan_of S)) adding tt
+  add_passes = first_passes (plan_rows (set_plan S)) adding tt
 
-  pub accepted_adding : add_number S k s u ≡ 0 → Sound (plan_of S) × Stored (plan_of S) k s × (at S (flag k) ≡ 0)
+  pub accepted_adding : add_number S k s u ≡ 0 → Sound (set_plan S) × Stored (set_plan S) k s × (at S (flag k) ≡ 0)
   unfolding add_number add_rows plan_rows check_number
   accepted_adding e =
-      let b = first_both (plan_rows (plan_of S)) adding tt e in
+      let b = first_both (plan_rows (set_plan S)) adding tt e in
       let clear = first-clear adding tt b.1 in (
-        sound (plan_of S) b.0,
+        sound (set_plan S) b.0,
         record {
           low = omega (arith, ltb-false 8 k (clear 2));
           whole = eqb-true _ _ (not-false _ (clear 0));
-          symbols = symbols-fit oblong (plan_of S) s u (clear 4);
+          symbols = symbols-fit oblong (set_plan S) s u (clear 4);
         },
         eqb-true _ _ (not-false _ (clear 3)),
       )
@@ -76,15 +76,15 @@ module _ (S : List ℕ) (k : ℕ) where
 
 module _ (S B D : List ℕ) where
   abbrev combining : List Refusal
-  combining = combine_tests B D (cells oblong (plan_of S))
+  combining = combine_tests B D (cells oblong (set_plan S))
 
-  pub combine-refused : (j : ℕ) → j ≡ check_number (plan_of S) → j ≢ 0 → j ≡ combine_number S B D
+  pub combine-refused : (j : ℕ) → j ≡ check_number (set_plan S) → j ≢ 0 → j ≡ combine_number S B D
   unfolding combine_number combine_rows plan_rows check_number
-  combine-refused j e n = first-refuses (plan_rows (plan_of S)) combining tt j e n
+  combine-refused j e n = first-refuses (plan_rows (set_plan S)) combining tt j e n
 
-  pub combine_passes : check_number (plan_of S) ≡ 0 → first combining ≡ combine_number S B D
+  pub combine_passes : check_number (set_plan S) ≡ 0 → first combining ≡ combine_number S B D
   unfolding combine_number combine_rows plan_rows check_number
-  combine_passes = first_passes (plan_rows (plan_of S)) combining tt
+  combine_passes = first_passes (plan_rows (set_plan S)) combining tt
 
   pub combine-keeps : combine_number S B D ≢ 0 → (combine_symbols S B D ≡ B) × (combine_doubts S B D ≡ D)
   unfolding combine_symbols combine_doubts

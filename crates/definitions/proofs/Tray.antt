@@ -16,10 +16,10 @@ use Prim.Native.Nat.{ℕ, zero, suc, ◌+◌, ◌*◌, ◌≤◌, ◌<◌}
 use native.Mathlib.Omega.{arith}
 use lib.ListN.{length, take, drop, replicate, length-take, length-drop}
 use lib.Seq.{take_at, drop_at, drop-drop}
-use Rattle.definitions.specs.Plan.{plan_bytes, plan_of, check_number}
+use Rattle.definitions.specs.Plan.{plan_bytes, check_number}
 use Rattle.definitions.specs.Code.{oblong, size, cells}
 use Rattle.definitions.specs.Calls.{read_number, read_reading}
-use Rattle.definitions.specs.Tray.{symbols_of, doubts_of, buffer_of, tray_reading, longest}
+use Rattle.definitions.specs.Tray.{plan_of, symbols_of, doubts_of, buffer_of, tray_reading, longest}
 use Rattle.definitions.specs.Room.{HoldsFirst}
 use Rattle.definitions.specs.Printed.{refused_line, answer_text, tray_text}
 use Rattle.definitions.specs.Demands.{LengthsFit, TrayParts, TrayRefused}

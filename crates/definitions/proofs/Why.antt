@@ -13,11 +13,11 @@ use Prim.Native.Nat.{ℕ, ◌+◌, ◌*◌, ◌<◌}
 use native.Mathlib.Omega.{arith}
 use lib.ListN.{length, take, drop, length-take, length-drop}
 use lib.Seq.{take_at, drop_at, drop-drop}
-use Rattle.definitions.specs.Plan.{plan_bytes, plan_of, degree, check_number}
+use Rattle.definitions.specs.Plan.{plan_bytes, degree, check_number}
 use Rattle.definitions.specs.Code.{oblong, size, cells}
 use Rattle.definitions.specs.Explaining.{explain_number}
 use Rattle.definitions.specs.Room.{HoldsFirst}
-use Rattle.definitions.specs.Tray.{buffer_of}
+use Rattle.definitions.specs.Tray.{plan_of, buffer_of}
 use Rattle.definitions.specs.Why.{expected_of, shown_symbols, shown_doubts, why_reason, longest}
 use Rattle.definitions.specs.Printed.{refused_line, why_text}
 use Rattle.definitions.specs.Demands.{LengthsFit, places, WhyParts, WhyRefused}

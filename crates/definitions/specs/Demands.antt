@@ -2,7 +2,7 @@
 -- crate `traymark` proves them.
 --
 --   RefusalsKeep            demand 1: a refused call gives its number and zeros or an empty part, and leaves the buffer lent for
---                           its result, or the memory lent for a set or a belt
+--                           its result, or the memory lent for a set
 --   CheckedExactly P        which number checking gives: that of the first row of the table that the plan P breaks; `Whole` is
 --                           its length and its last two bytes, `IsModulus` says which p may be
 --   PlanFirst P             a plan that is refused has its own number in every call, for strips and marks, whatever else is wrong
@@ -23,9 +23,8 @@
 --                           and k what a wrong cell costs that is in no doubt. Costs and limits are spelled out
 --   MarkMargins Y low high  under plans of the seasons Y a mark's margin is from -low to high, and both ends are reached
 --   LowestGiven             the number that is given is the first in the table's order of the rows of the call whose test holds;
---                           in widening 11 stands before 6: the plans are looked at before the buffer for them, and in reading
---                           a tray of a belt 20 before 1: without the tray there is no plan. What the tests of the rows mean is
---                           in the statements that end in Exactly
+--                           in widening 11 stands before 6: the plans are looked at before the buffer for them. What the tests
+--                           of the rows mean is in the statements that end in Exactly
 --   Measures C P s u F      measuring never gives 10: every record of a photograph's plan is measured, whatever its margin, and
 --                           the cost it is given is its cost
 --   ExplainsExactly C P s u F B
@@ -70,7 +69,7 @@ use Rattle.definitions.specs.declared.Reading.{Reading}
 use Rattle.definitions.specs.declared.Reason.TheVariants.{Refused, Answer, Other, Nothing}
 use Rattle.definitions.specs.declared.Explanation.{Explanation}
 use Rattle.definitions.specs.Refusals.{table, Earliest}
-use Rattle.definitions.specs.Plan.{plan_bytes, plan_of, season, modulus, rows, columns, degree, row_point, column_point}
+use Rattle.definitions.specs.Plan.{plan_bytes, season, modulus, rows, columns, degree, row_point, column_point}
 use Rattle.definitions.specs.Plan.{filled, plan_rows, check_number}
 use Rattle.definitions.specs.Code.{Code, strip, oblong, size, cells, value, mark, IsRecord}
 use Rattle.polynomial.specs.Layout.{value as value_at}
@@ -82,20 +81,17 @@ use Rattle.definitions.specs.Calls.{cost_of, reading_of, write_rows, write_numbe
 use Rattle.definitions.specs.Calls.{measure_rows, measure_number, measure_reading}
 use Rattle.definitions.specs.Calls.{read_rows, read_number, read_reading, read_buffer}
 use Rattle.definitions.specs.Masking.{Way, mask_rows, mask_number, mask_buffer}
-use Rattle.definitions.specs.Sets.{start_memory, add_rows, add_number, add_memory}
+use Rattle.definitions.specs.Sets.{set_plan, start_memory, add_rows, add_number, add_memory}
 use Rattle.definitions.specs.Sets.{withdraw_rows, withdraw_number, withdraw_memory}
 use Rattle.definitions.specs.Sets.{combine_rows, combine_number, combine_symbols, combine_doubts}
 use Rattle.definitions.specs.Sets.{set_number, set_reading, set_record}
-use Rattle.definitions.specs.Belts.{off_belt, found, tray_plan, start_belt, change_belt, enter_rows, enter_number, enter_belt}
-use Rattle.definitions.specs.Belts.{leave_rows, leave_number, leave_tray, leave_belt, lift_rows, lift_number, lift_belt}
-use Rattle.definitions.specs.Belts.{belt_rows, belt_number, belt_reading, belt_record}
 use Rattle.definitions.specs.Explaining.{explain_rows, explain_number, explain_reason, explain_buffer, values_of}
 use Rattle.definitions.specs.Finder.{find_rows, find_number, find_offset, find_bytes}
 use Rattle.definitions.specs.Photograph.{SymbolsFit, DoubtsFit, Photograph, sure}
 use Rattle.definitions.specs.Widening.{widened, widened_all, widen_rows, widen_number, widen_buffer}
 use Rattle.definitions.specs.Widening.{widen_text, narrow_number, cleared}
 use Rattle.definitions.specs.Windows.{season_rows, season_number, season_found}
-use Rattle.definitions.specs.Tray.{symbols_of, doubts_of}
+use Rattle.definitions.specs.Tray.{plan_of, symbols_of, doubts_of}
 use Rattle.definitions.specs.Why.{expected_of, shown_symbols, shown_doubts}
 use Rattle.definitions.specs.Printed.{refused_line, tray_text, why_text}
 
@@ -117,14 +113,6 @@ pub record RefusalsKeep : Type 0 where
   pub set_withdraw : (S : List ℕ) (k : ℕ) → withdraw_number S k ≢ 0 → withdraw_memory S k ≡ S
   pub set_combine : (S B D : List ℕ) → combine_number S B D ≢ 0 → (combine_symbols S B D ≡ B) × (combine_doubts S B D ≡ D)
   pub set_read : (S B : List ℕ) → set_number S B ≢ 0 → (set_reading S B ≡ calls.refused (set_number S B)) × (set_record S B ≡ B)
-  -- nor of belts
-  pub belt_start : (P B : List ℕ) → check_number P ≢ 0 → start_belt P B ≡ B
-  pub belt_change : (P B : List ℕ) → check_number P ≢ 0 → change_belt P B ≡ B
-  pub belt_enter : (B : List ℕ) (x : ℕ) → enter_number B x ≢ 0 → enter_belt B x ≡ B
-  pub belt_leave : (B : List ℕ) → leave_number B ≢ 0 → (leave_tray B ≡ 0) × (leave_belt B ≡ B)
-  pub belt_lift : (B : List ℕ) (x : ℕ) → lift_number B x ≢ 0 → lift_belt B x ≡ B
-  pub belt_read : (B : List ℕ) (x : ℕ) (s u R : List ℕ) → belt_number B x s u R ≢ 0 →
-      (belt_reading B x s u R ≡ calls.refused (belt_number B x s u R)) × (belt_record B x s u R ≡ R)
 
 abbrev pub Whole : List ℕ → Type 0
 Whole P = (length P ≡ 40) × ((at P 38 ≡ 0) × (at P 39 ≡ 0))
@@ -151,12 +139,9 @@ pub record PlanFirst (P : List ℕ) : Type 0 where
   pub mask : (C : Code) (F s : List ℕ) → check_number P ≢ 0 → mask_number C P F s ≡ check_number P
   pub explain : (C : Code) (s u F B : List ℕ) → check_number P ≢ 0 → explain_number C P s u F B ≡ check_number P
   -- so where it is the plan in the memory of a set
-  pub set_add : (S : List ℕ) (k : ℕ) (s u : List ℕ) → plan_of S ≡ P → check_number P ≢ 0 → add_number S k s u ≡ check_number P
-  pub set_combine : (S B D : List ℕ) → plan_of S ≡ P → check_number P ≢ 0 → combine_number S B D ≡ check_number P
-  pub set_read : (S B : List ℕ) → plan_of S ≡ P → check_number P ≢ 0 → set_number S B ≡ check_number P
-  -- or of the tray that is read
-  pub belt_read : (B : List ℕ) (x : ℕ) (s u R : List ℕ) → off_belt B x ≡ false → tray_plan B (found B x) ≡ P → check_number P ≢ 0 →
-      belt_number B x s u R ≡ check_number P
+  pub set_add : (S : List ℕ) (k : ℕ) (s u : List ℕ) → set_plan S ≡ P → check_number P ≢ 0 → add_number S k s u ≡ check_number P
+  pub set_combine : (S B D : List ℕ) → set_plan S ≡ P → check_number P ≢ 0 → combine_number S B D ≡ check_number P
+  pub set_read : (S B : List ℕ) → set_plan S ≡ P → check_number P ≢ 0 → set_number S B ≡ check_number P
 
 abbrev pub LengthsFit : Code → (P s u F : List ℕ) → Type 0
 LengthsFit C P s u F = (length s ≡ cells C P) × ((length u ≡ cells C P) × (length F ≡ size C P))
@@ -278,10 +263,6 @@ pub record LowestGiven : Type 0 where
   pub set_add : (S : List ℕ) (k : ℕ) (s u : List ℕ) → Earliest table (add_rows S k s u) (add_number S k s u)
   pub set_withdraw : (S : List ℕ) (k : ℕ) → Earliest table (withdraw_rows S k) (withdraw_number S k)
   pub set_combine : (S B D : List ℕ) → Earliest table (combine_rows S B D) (combine_number S B D)
-  pub belt_enter : (B : List ℕ) (x : ℕ) → Earliest table (enter_rows B x) (enter_number B x)
-  pub belt_leave : (B : List ℕ) → Earliest table (leave_rows B) (leave_number B)
-  pub belt_lift : (B : List ℕ) (x : ℕ) → Earliest table (lift_rows B x) (lift_number B x)
-  pub belt_read : (B : List ℕ) (x : ℕ) (s u R : List ℕ) → Earliest (20 ∷ table) (belt_rows B x s u R) (belt_number B x s u R)
 
 pub record Measures (C : Code) (P s u F : List ℕ) : Type 0 where
   pub never : measure_number C P s u F ≢ 10

@@ -9,7 +9,6 @@ pub mod Calls
 pub mod Explaining
 pub mod Masking
 pub mod Sets
-pub mod Belts
 pub mod Finder
 pub mod Windows
 pub mod Room
@@ -28,7 +27,5 @@ pub mod Reads
 pub mod Demands
 pub mod Masks
 pub mod Histories
-pub mod SetHistories
-pub mod BeltHistories
 pub mod Seasons
 pub mod Accepted

@@ -1,7 +1,6 @@
 -- "The season plan": a record of 40 bytes, here P. X takes the row points, and every other coordinate the column points.
 --
 --   plan_bytes                the length of a plan
---   plan_of                    the plan with which bytes begin: the input of a program, or the memory of a set or of a belt
 --   pair P a                  the number in two bytes from byte a on, the high one first
 --   season, modulus, degree   the season, p and d
 --   rows, columns             how many points there are each way
@@ -16,16 +15,13 @@
 --   check_number              what checking a plan returns; a plan is sound where it is 0
 --
 -- What this file is for: which plans are sound, and which number an unsound one gets.
-use Rattle.std.specs.Prelude.{Bool, false, not, ◌||◌, cond, List, [], ◌∷◌, ℕ, zero, suc, ◌+◌, ◌*◌, min, eqb, ltb, leb, length, take}
+use Rattle.std.specs.Prelude.{Bool, false, not, ◌||◌, cond, List, [], ◌∷◌, ℕ, zero, suc, ◌+◌, ◌*◌, min, eqb, ltb, leb, length}
 use Rattle.bounded.specs.Bounded.{at, any}
 use Rattle.field.specs.Prime.{is_prime}
 use Rattle.definitions.specs.Refusals.{Refusal, ◌when◌, first}
 
 abbrev pub plan_bytes : ℕ
 plan_bytes = 40
-
-abbrev pub plan_of : List ℕ → List ℕ
-plan_of bytes = take plan_bytes bytes
 
 abbrev pub pair : List ℕ → ℕ → ℕ
 pair P a = at P a * 256 + at P (a + 1)

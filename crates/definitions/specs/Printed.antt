@@ -18,8 +18,8 @@ use Rattle.definitions.specs.declared.Reading.{Reading}
 use Rattle.definitions.specs.declared.Reason.{Reason}
 use Rattle.definitions.specs.declared.Reason.TheVariants.{Refused, Answer, Other, Nothing}
 use Rattle.definitions.specs.Refusals.{accepted}
-use Rattle.definitions.specs.Plan.{plan_of, season}
-use Rattle.definitions.specs.Tray.{tray_reading, tray_record}
+use Rattle.definitions.specs.Plan.{season}
+use Rattle.definitions.specs.Tray.{plan_of, tray_reading, tray_record}
 use Rattle.definitions.specs.Why.{why_reason, why_other, why_reading}
 
 abbrev pub digit : ℕ → ℕ

@@ -2,8 +2,7 @@
 --
 --   k when b               a row of the table "What is returned": the number k and the test when it applies
 --   first rows             the number of the first row whose test holds, and 0 where none does
---   table                  the numbers in the table's order: 13 stands between 3 and 4, 19 to 21 between 5 and 6,
---                          17 and 18 between 6 and 7
+--   table                  the numbers in the table's order: 13 stands between 3 and 4, 17 and 18 between 6 and 7
 --   rank order k           how many numbers stand before k in an order
 --   Applies rows k         a row numbered k applies: its test holds
 --   Earliest order rows k  of the numbers that apply, k is the first in the order, and 0 where none applies
@@ -24,7 +23,7 @@ first ((k when true) ∷ rows) = k
 first ((k when false) ∷ rows) = first rows
 
 abbrev pub table : List ℕ
-table = 1 ∷ 2 ∷ 3 ∷ 13 ∷ 4 ∷ 5 ∷ 19 ∷ 20 ∷ 21 ∷ 6 ∷ 17 ∷ 18 ∷ 7 ∷ 8 ∷ 9 ∷ 10 ∷ 11 ∷ 12 ∷ 14 ∷ 15 ∷ 16 ∷ []
+table = 1 ∷ 2 ∷ 3 ∷ 13 ∷ 4 ∷ 5 ∷ 6 ∷ 17 ∷ 18 ∷ 7 ∷ 8 ∷ 9 ∷ 10 ∷ 11 ∷ 12 ∷ 14 ∷ 15 ∷ 16 ∷ []
 
 abbrev pub rank : (order : List ℕ) (k : ℕ) → ℕ
 rank order k = index (length order) λ i. eqb (at order i) k

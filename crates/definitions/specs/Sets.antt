@@ -5,7 +5,7 @@
 --   bytes 49 to 2352    for each number 256 symbols, those of its photograph and then 255s; all are 255 where none is held
 --
 --   set_bytes                       the length of a set's memory
---   flag, place                     where the flag of number k is, and where its symbols begin; `plan_of` is the plan
+--   set_plan, flag, place           the plan; where the flag of number k is, and where its symbols begin
 --   held S k                        photograph k is held
 --   blank n                         n symbols of unread cells
 --   started, added, withdrawn       the memory after an accepted call; `put` is of the crate `lent`
@@ -20,19 +20,22 @@
 --
 -- Any bytes are a set's: nothing is asked of S. A refusal leaves S and the buffers as they were.
 -- What this file is for: the contracts of the calls are equalities with these.
-use Rattle.std.specs.Prelude.{Bool, not, List, [], ◌∷◌, ◌++◌, ℕ, ◌+◌, ◌*◌, eqb, ltb, replicate, set}
+use Rattle.std.specs.Prelude.{Bool, not, List, [], ◌∷◌, ◌++◌, ℕ, ◌+◌, ◌*◌, eqb, ltb, take, replicate, set}
 use Rattle.bounded.specs.Bounded.{at, tab}
 use Rattle.lent.specs.Put.{put}
 use Rattle.votes.specs.Votes.{symbol_of, doubt_of}
 use Rattle.definitions.specs.declared.Reading.{Reading}
 use Rattle.definitions.specs.Refusals.{Refusal, ◌when◌, first, accepted}
-use Rattle.definitions.specs.Plan.{plan_of, modulus, plan_rows, check_number}
+use Rattle.definitions.specs.Plan.{plan_bytes, modulus, plan_rows, check_number}
 use Rattle.definitions.specs.Code.{oblong, cells}
 use Rattle.definitions.specs.Cost.{full, unread}
 use Rattle.definitions.specs.Calls.{length_row, strange, misdoubted, read_number, read_reading, read_buffer}
 
 abbrev pub set_bytes : ℕ
 set_bytes = 2353
+
+abbrev pub set_plan : List ℕ → List ℕ
+set_plan S = take plan_bytes S
 
 abbrev pub flag : ℕ → ℕ
 flag k = 40 + k
@@ -62,10 +65,10 @@ unfoldable pub column : (S : List ℕ) (c : ℕ) → List ℕ
 column S c = tab 9 λ k. at S (place k + c)
 
 unfoldable pub combined_symbols : List ℕ → List ℕ
-combined_symbols S = tab (cells oblong (plan_of S)) λ c. symbol_of (column S c) 9
+combined_symbols S = tab (cells oblong (set_plan S)) λ c. symbol_of (column S c) 9
 
 unfoldable pub combined_doubts : List ℕ → List ℕ
-combined_doubts S = tab (cells oblong (plan_of S)) λ c. doubt_of (full (plan_of S)) (column S c) 9
+combined_doubts S = tab (cells oblong (set_plan S)) λ c. doubt_of (full (set_plan S)) (column S c) 9
 
 -- STARTING: the plan's refusals
 unfoldable pub start_memory : (P S : List ℕ) → List ℕ
@@ -79,7 +82,7 @@ add_tests p f S k s u n =
 
 unfoldable pub add_rows : (S : List ℕ) (k : ℕ) (s u : List ℕ) → List Refusal
 add_rows S k s u =
-    plan_rows (plan_of S) ++ add_tests (modulus (plan_of S)) (full (plan_of S)) S k s u (cells oblong (plan_of S))
+    plan_rows (set_plan S) ++ add_tests (modulus (set_plan S)) (full (set_plan S)) S k s u (cells oblong (set_plan S))
 
 unfoldable pub add_number : (S : List ℕ) (k : ℕ) (s u : List ℕ) → ℕ
 add_number S k s u = first (add_rows S k s u)
@@ -102,7 +105,7 @@ abbrev pub combine_tests : (B D : List ℕ) (n : ℕ) → List Refusal
 combine_tests B D n = length_row B n ∷ length_row D n ∷ []
 
 unfoldable pub combine_rows : (S B D : List ℕ) → List Refusal
-combine_rows S B D = plan_rows (plan_of S) ++ combine_tests B D (cells oblong (plan_of S))
+combine_rows S B D = plan_rows (set_plan S) ++ combine_tests B D (cells oblong (set_plan S))
 
 unfoldable pub combine_number : (S B D : List ℕ) → ℕ
 combine_number S B D = first (combine_rows S B D)
@@ -115,10 +118,10 @@ combine_doubts S B D = accepted (combine_number S B D) (combined_doubts S) D
 
 -- READING: as any photograph is read
 abbrev pub set_number : (S B : List ℕ) → ℕ
-set_number S B = read_number oblong (plan_of S) (combined_symbols S) (combined_doubts S) B
+set_number S B = read_number oblong (set_plan S) (combined_symbols S) (combined_doubts S) B
 
 abbrev pub set_reading : (S B : List ℕ) → Reading
-set_reading S B = read_reading oblong (plan_of S) (combined_symbols S) (combined_doubts S) B
+set_reading S B = read_reading oblong (set_plan S) (combined_symbols S) (combined_doubts S) B
 
 abbrev pub set_record : (S B : List ℕ) → List ℕ
-set_record S B = read_buffer oblong (plan_of S) (combined_symbols S) (combined_doubts S) B
+set_record S B = read_buffer oblong (set_plan S) (combined_symbols S) (combined_doubts S) B

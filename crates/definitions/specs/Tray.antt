@@ -1,5 +1,6 @@
 -- What the program `trayread` reads from its standard input: a plan, then symbols, then doubts, nothing after.
 --
+--   plan_of                    the plan, with which the input begins
 --   symbols_of a, doubts_of a  the photograph of its mark, from byte a on: a symbol for each cell, and what is left
 --   buffer_of                 a buffer of the record's size
 --   tray_reading, tray_record  the reading of the mark, and the record that is printed
@@ -9,9 +10,12 @@
 -- the symbols or the doubts have not their length.
 use Rattle.std.specs.Prelude.{List, ℕ, ◌+◌, take, drop, replicate}
 use Rattle.definitions.specs.declared.Reading.{Reading}
-use Rattle.definitions.specs.Plan.{plan_bytes, plan_of}
+use Rattle.definitions.specs.Plan.{plan_bytes}
 use Rattle.definitions.specs.Code.{oblong, size, cells}
 use Rattle.definitions.specs.Calls.{read_reading, read_buffer}
+
+abbrev pub plan_of : List ℕ → List ℕ
+plan_of input = take plan_bytes input
 
 abbrev pub symbols_of : (a : ℕ) → List ℕ → List ℕ
 symbols_of a input = take (cells oblong (plan_of input)) (drop a input)

@@ -12,11 +12,11 @@
 use Rattle.std.specs.Prelude.{List, ℕ, ◌+◌, take, drop}
 use Rattle.definitions.specs.declared.Reading.{Reading}
 use Rattle.definitions.specs.declared.Reason.{Reason}
-use Rattle.definitions.specs.Plan.{plan_bytes, plan_of}
+use Rattle.definitions.specs.Plan.{plan_bytes}
 use Rattle.definitions.specs.Code.{oblong, size}
 use Rattle.definitions.specs.Calls.{measure_reading}
 use Rattle.definitions.specs.Explaining.{explain_reason, explain_buffer}
-use Rattle.definitions.specs.Tray.{symbols_of, doubts_of, buffer_of}
+use Rattle.definitions.specs.Tray.{plan_of, symbols_of, doubts_of, buffer_of}
 
 abbrev pub expected_of : List ℕ → List ℕ
 expected_of input = take (size oblong (plan_of input)) (drop plan_bytes input)

@@ -59,17 +59,3 @@ pub const PLACE_BYTES: usize = 256;
 
 // The symbol of a cell that was not read: an erasure.
 pub const UNREAD: u8 = 255;
-
-// The memory of a belt: how long it is, where the count of its trays is, after the plan, where their slots begin, how many bytes
-// a slot has, with the tray's number before its plan, and how many slots there are.
-pub const BELT_BYTES: usize = 1449;
-
-pub const COUNT: usize = 40;
-
-pub const SLOTS: usize = 41;
-
-pub const SLOT_BYTES: usize = 44;
-
-pub const NUMBER_BYTES: usize = 4;
-
-pub const BELT_TRAYS: usize = 32;

@@ -3,22 +3,17 @@
 --   put_back                         what a callee left in the part that it was lent is put there
 --   length-put                       the memory stays as long
 --   at_before, at-within, at_behind  its bytes before what was put there, those that were put, and those behind
---   beside                           those before and behind, which are as they were
---   put_joined, put_whole            two parts at the front one behind the other; a part that is the whole memory
---   copied                           what copying leaves in a part that is as long
---   put_copied, put-filled           bytes copied into a part that is lent, and a part filled, are put there
+--   put_parts                        three parts one after another that are the whole memory
 --   tab_fill                         a table of one number, as filling a part leaves it
 --
 -- What this file is for: the memory after a call, byte by byte. Assumes nothing.
 use mathlib.Core.Path.{◌≡◌, sym, ap, ◌∙◌}
-use mathlib.Core.Logic.{◌⊎◌, inl, inr}
 use mathlib.Core.List.{List, ◌++◌, append-nil, append_assoc}
 use Prim.Native.Nat.{ℕ, ◌+◌, ◌-◌, ◌≤◌, ◌<◌}
 use native.Mathlib.Omega.{arith}
-use native.Mathlib.Nat.{zero-add}
-use lib.ListN.{length, take, drop, length-append, length-drop, get_or-append}
+use lib.ListN.{length, take, drop, length-append, length-drop, drop_of_length-le, get_or-append}
 use lib.ListN.{replicate, length-replicate, get_or-replicate}
-use lib.Seq.{take_at, take-length, drop_at, drop-drop, drop-length, length-take-le, get_or-append-add, get_or-drop, get_or-take}
+use lib.Seq.{take_at, drop_at, drop-drop, length-take-le, get_or-append-add, get_or-drop, get_or-take}
 use borrow.Rule.Slice.PartMut.{put_mid}
 use Rattle.bounded.specs.Bounded.{at, tab}
 use Rattle.bounded.proofs.Tab.{tab-is}
@@ -52,41 +47,23 @@ module _ (S s : List ℕ) (a : ℕ) where
   pub at_behind : (j : ℕ) → a ≤ length S → at (put S a s) (a + (length s + j)) ≡ at S (a + length s + j)
   at_behind j h = after_front (length s + j) h ∙ get_or-append-add s (drop (a + length s) S) j 0 ∙ get_or-drop (a + length s) S j 0
 
--- bytes before and behind those that were put
-pub beside : (S s : List ℕ) (a i : ℕ) → a ≤ length S → (i < a) ⊎ (a + length s ≤ i) → at (put S a s) i ≡ at S i
-beside S s a i h (inl l) = at_before S s a i h l
-beside S s a i h (inr l) =
-    let j = i - (a + length s) in
-    let e : i ≡ a + (length s + j) = omega arith in
-    let f : i ≡ a + length s + j = omega arith in
-    ap (at (put S a s)) e ∙ at_behind S s a j h ∙ ap (at S) (sym f)
-
 -- a part put behind what the memory begins with
 put_next : (p q s : List ℕ) (a : ℕ) → length p ≡ a → put (p ++ q) a s ≡ p ++ (s ++ drop (length s) q)
 put_next p q s a e = rw (take_at p q a e, ← drop-drop (length s) a (p ++ q), drop_at p q a e)
 
--- a part put at the front
-put_front : (S p : List ℕ) → put S 0 p ≡ p ++ drop (length p) S
-put_front S p = ap (λ n. p ++ drop n S) (zero-add (length p))
+pub put_parts : (S p z u : List ℕ) (a b : ℕ) → length p ≡ a → a + length z ≡ b → b + length u ≡ length S →
+    put (put (put S 0 p) a z) b u ≡ p ++ (z ++ u)
+put_parts S p z u a b e f h =
+    ap (λ l. put l b u) (put_next p rest z a e ∙ sym (append_assoc p z (drop (length z) rest)))
+    ∙ put_next (p ++ z) (drop (length z) rest) u b (length-append p z ∙ omega arith)
+    ∙ append_assoc p z (u ++ drop (length u) (drop (length z) rest))
+    ∙ ap (λ l. p ++ (z ++ l)) (ap (λ l. u ++ l) (drop_of_length-le (drop (length z) rest) none) ∙ append-nil u)
+  where
+    rest : List ℕ
+    rest = drop (0 + length p) S
 
-pub put_joined : (S p s : List ℕ) (a : ℕ) → length p ≡ a → put (put S 0 p) a s ≡ put S 0 (p ++ s)
-put_joined S p s a e = ap (λ l. put l a s) (put_front S p) ∙ put_next p (drop (length p) S) s a e
-    ∙ rw (drop-drop, ← length-append p s) (sym (append_assoc p s (drop (length (p ++ s)) S))) ∙ sym (put_front S (p ++ s))
-
-pub put_whole : (S p : List ℕ) → length p ≡ length S → put S 0 p ≡ p
-put_whole S p e = put_front S p ∙ ap (λ l. p ++ l) (ap (λ n. drop n S) e ∙ drop-length S) ∙ append-nil p
-
--- a part as long as what was copied into it
-pub copied : (s t l : List ℕ) → length t ≡ length s → l ≡ take (length s) s ++ drop (length s) t → l ≡ s
-copied s t l e h = h ∙ rw (take-length s, ← e, drop-length t, append-nil s)
-
-pub put_copied : (S s t l : List ℕ) (a n : ℕ) → n ≡ length s → n ≡ length t → l ≡ take (length s) s ++ drop (length s) t →
-    put_mid a n S l ≡ put S a s
-put_copied S s t l a n e f h = ap (put_mid a n S) (copied s t l (sym f ∙ e) h) ∙ put_back S s a n e
-
-pub put-filled : (S l : List ℕ) (a n m v : ℕ) → n ≡ m → l ≡ replicate m v → put_mid a n S l ≡ put S a (replicate n v)
-put-filled S l a n m v e h = ap (put_mid a n S) (h ∙ ap (λ n. replicate n v) (sym e))
-    ∙ put_back S (replicate n v) a n (sym (length-replicate {A = ℕ} n v))
+    none : length (drop (length z) rest) ≤ length u
+    none = simp length-drop (omega arith)
 
 -- a table of one number
 pub tab_fill : (n v : ℕ) → tab n (λ _. v) ≡ replicate n v

@@ -1,7 +1,5 @@
 // The season plan, the 40 bytes of the first table: checking one, what a sound one says, finding one in a plan file. A plan may
 // be any bytes of any length. Its bytes are read here and nowhere else; everything above takes the struct that `parse` makes.
-pub mod keeping;
-
 ghost use Rattle.std.specs.Prelude.{◌≡◌, ◌&&◌, ◌||◌, cond, ◌+◌, ◌≤◌, ◌<◌, min, ltb, leb, length};
 ghost use Rattle.definitions.specs.Plan.{plan_bytes, unfit, misplaced, check_number};
 ghost use Rattle.definitions.specs.Cost.{full_in};
@@ -10,6 +8,7 @@ ghost use Rattle.definitions.specs.Finder.{find_number, find_offset, find_bytes,
 ghost use Rattle.plan.specs.Says.{Says};
 
 use definitions::PLAN_BYTES;
+use field::bytes;
 use field::rows::reciprocal;
 use polynomial::Grid;
 
@@ -28,7 +27,7 @@ pub fn check(plan: &[u8]) -> u32
     if plan.len() != PLAN_BYTES {
         return 1;
     }
-    if field::bytes::reaches(&plan[38..40], 1) {
+    if bytes::reaches(&plan[38..40], 1) {
         return 1;
     }
     let p = plan[2];
@@ -113,14 +112,14 @@ pub fn parse(plan: &[u8]) -> Plan
     requires { Sound plan.now }
     ensures { Says plan.now result }
 {
-    let season = field::bytes::pair(plan[0], plan[1]);
+    let season = bytes::pair(plan[0], plan[1]);
     let p = plan[2] as u16;
     let grid = Grid {
         p,
         m: reciprocal(p),
-        x: field::bytes::row(&plan[6..22]),
+        x: bytes::row(&plan[6..22]),
         a: plan[3] as usize,
-        y: field::bytes::row(&plan[22..38]),
+        y: bytes::row(&plan[22..38]),
         b: plan[4] as usize,
         d: plan[5] as usize,
         full: full_doubt(season),
@@ -152,7 +151,7 @@ pub fn locate(file: &[u8], season: u16, offset: &mut usize) -> u32
     let n = file.len() / PLAN_BYTES;
     for k in 0..n {
         let at = k * PLAN_BYTES;
-        if field::bytes::pair(file[at], file[at + 1]) == season {
+        if bytes::pair(file[at], file[at + 1]) == season {
             *offset = at;
             return 0;
         }

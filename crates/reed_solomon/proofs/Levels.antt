@@ -200,8 +200,8 @@ module _ {g : Axis} {s u l r : List ℕ} {c : ℕ} {t : Pairs} (G : Going g s u 
           ap (λ w. at w (c % 16)) E.marks
           ∙ get_or-set_same t.entered (c % 16) 1 0 (omega (arith, i, G.holds.shaped.size))
 
-      within-enter : {level : ℕ} → c / 16 ≡ level → Within g.n u level t → Within g.n u level t'
-      within-enter e W j i z = elim (ℕ_discrete j (c % 16)) [
+      within_enter : {level : ℕ} → c / 16 ≡ level → Within g.n u level t → Within g.n u level t'
+      within_enter e W j i z = elim (ℕ_discrete j (c % 16)) [
         | yes o ↦ omega (arith, ap (at u) o, going_cell.2)
         | no o ↦ W j i λ a. z (entered-other j o ∙ a)
       ]
@@ -210,7 +210,7 @@ module _ {g : Axis} {s u l r : List ℕ} {c : ℕ} {t : Pairs} (G : Going g s u 
       pub going_enter : {r' : List ℕ} {c' level : ℕ} → r' ≡ row (λ j. cond (eqb (at r j) c) taken (at r j)) → Least 16 r' c' →
           c / 16 ≡ level → Within g.n u level t → Refuted g s u t'.entered →
           Going g s u l r' c' t' × Within g.n u level t' × (c < c') × (c < taken)
-      going_enter {r'} {c'} d L e W now = (G', within-enter e W, later, small)
+      going_enter {r'} {c'} d L e W now = (G', within_enter e W, later, small)
         where
           P : Placed l
           P = placed G.received G.keys

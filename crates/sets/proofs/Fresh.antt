@@ -31,8 +31,8 @@ use Rattle.definitions.specs.Calls.{read_number}
 use Rattle.definitions.specs.Photograph.{Photograph}
 use Rattle.definitions.specs.Sets.{place, column, combined_symbols, combined_doubts}
 use Rattle.definitions.specs.Sets.{combine_tests, combine_number, combine_symbols, combine_doubts, set_number}
-use Rattle.definitions.specs.SetHistories.{Holding, empty, symbol_at, shown, fresh_symbols, fresh_doubts, Holds}
-use Rattle.definitions.specs.SetHistories.{StartsUnread, Fits, Combines, SetReads}
+use Rattle.definitions.specs.Histories.{Holding, empty, symbol_at, shown, fresh_symbols, fresh_doubts, Holds}
+use Rattle.definitions.specs.Histories.{StartsUnread, Fits, Combines, SetReads}
 use Rattle.definitions.proofs.Refusals.{Stops, number_at, first-at, ◌&◌, equal, holds}
 use Rattle.definitions.proofs.Sound.{checked, cells-most}
 use Rattle.definitions.proofs.Photograph.{photo-accepted}

@@ -22,10 +22,9 @@ use borrow.Author.Tests.{eq-eqb, ne_eqb, lt-ltb, le-ltb}
 use Rattle.bounded.specs.Bounded.{at}
 use Rattle.bounded.proofs.Tab.{length-tab, tab-at, tab-is, list_eq}
 use Rattle.lent.specs.Put.{put}
-use Rattle.lent.proofs.Put.{length-put, at-within, beside}
-use Rattle.definitions.specs.Plan.{plan_of}
-use Rattle.definitions.specs.Sets.{set_bytes, flag, place, blank, none_held, started, added, withdrawn}
-use Rattle.definitions.specs.SetHistories.{Holding, empty, with, flag_of, symbol_at, byte_of, memory}
+use Rattle.lent.proofs.Put.{length-put, at_before, at-within, at_behind}
+use Rattle.definitions.specs.Sets.{set_bytes, set_plan, flag, place, blank, none_held, started, added, withdrawn}
+use Rattle.definitions.specs.Histories.{Holding, empty, with, flag_of, symbol_at, byte_of, memory}
 
 pub record Parts (H : Holding) (S : List ℕ) : Type 0 where
   pub size : length S ≡ set_bytes
@@ -85,12 +84,21 @@ module _ (H : Holding) where
     ]
   ]
 
-  pub memory-plan : length H.plan ≡ 40 → plan_of (memory H) ≡ H.plan
+  pub memory-plan : length H.plan ≡ 40 → set_plan (memory H) ≡ H.plan
   memory-plan w = list_eq (take 40 (memory H)) H.plan (cut ∙ sym w) λ i l.
       let k : i < 40 = omega (arith, cut) in get_or-take 40 (memory H) i 0 k ∙ memory_parts.plan i k
     where
       cut : length (take 40 (memory H)) ≡ 40
       cut = length-take-le 40 (memory H) (omega (arith, memory_parts.size))
+
+-- bytes before and behind those that were put
+beside : (S s : List ℕ) (a i : ℕ) → a ≤ length S → (i < a) ⊎ (a + length s ≤ i) → at (put S a s) i ≡ at S i
+beside S s a i h (inl l) = at_before S s a i h l
+beside S s a i h (inr l) =
+    let j = i - (a + length s) in
+    let e : i ≡ a + (length s + j) = omega arith in
+    let f : i ≡ a + length s + j = omega arith in
+    ap (at (put S a s)) e ∙ at_behind S s a j h ∙ ap (at S) (sym f)
 
 -- symbols s, at most 256, put into the place of number k, and its flag set, where o is held afterwards
 module _ (H : Holding) (k : ℕ) (l : k < 9) (s : List ℕ) (m : length s ≤ 256) (o : Option (List ℕ))

@@ -3,37 +3,35 @@
 --   holds-plan          the plan in the memory is the one held
 --   adds_exactly        which number adding gives; the doubts are not used otherwise
 --   withdraws_exactly   which number withdrawing gives; the number can be used again
---   holds-from          after any calls from a start, whatever bytes were there, the memory is that of what is then held
+--   holds_after         whatever was called, the memory is that of what is then held
+--   holds-from          so it is after any calls from a start, whatever bytes were there
 --
 -- What this file is for: a set holds the photographs that arrived and were not withdrawn. Assumes nothing.
 use mathlib.Core.Path.{◌≡◌, refl, sym, ap, ◌∙◌}
 use mathlib.Core.Logic.{◌≢◌}
 use mathlib.Core.Bool.{Bool, true, false, not}
-use mathlib.Core.List.{List}
+use mathlib.Core.List.{List, [], ◌∷◌}
 use mathlib.Core.Option.{Option, some, none, none-ne-some, some-injective}
-use Prim.Native.Nat.{ℕ, ◌≤◌, ◌<◌}
+use Prim.Native.Nat.{ℕ, zero, suc, ◌≤◌, ◌<◌}
 use native.Mathlib.Omega.{arith}
 use native.Mathlib.Decide.{dec_lt, ℕ_discrete}
 use lib.Dec.{eqb}
 use lib.ListN.{length}
 use borrow.Author.Tests.{eqb-true, ltb-false, not-false, lt-ltb, le-ltb, eq-eqb, ne_eqb}
 use Rattle.bounded.specs.Bounded.{at}
-use Rattle.definitions.specs.Refusals.{Refusal, first}
-use Rattle.definitions.specs.Plan.{plan_of, modulus, check_number}
+use Rattle.definitions.specs.Refusals.{Refusal, first, accepted}
+use Rattle.definitions.specs.Plan.{modulus, check_number}
 use Rattle.definitions.specs.Code.{oblong, cells}
 use Rattle.definitions.specs.Cost.{full}
 use Rattle.definitions.specs.Sound.{Sound}
-use Rattle.definitions.specs.Sets.{flag, held, started, added, withdrawn, start_memory, add_tests, add_number, add_memory}
+use Rattle.definitions.specs.Sets.{set_plan, flag, held, started, added, withdrawn, start_memory, add_tests, add_number, add_memory}
 use Rattle.definitions.specs.Sets.{withdraw_rows, withdraw_number, withdraw_memory, combine_number, set_number}
-use Rattle.definitions.specs.Histories.{keeps}
-use Rattle.definitions.specs.SetHistories.{Holding, empty, with, Call, start, add, withdraw, combine, read, answer, after}
-use Rattle.definitions.specs.SetHistories.{changes, memory_after, held_after}
-use Rattle.definitions.specs.SetHistories.{flag_of, memory, Stored, Holds, Fits, AddsExactly, WithdrawsExactly}
+use Rattle.definitions.specs.Histories.{Holding, empty, with, Call, start, add, withdraw, combine, read, after, keeps, run, kept}
+use Rattle.definitions.specs.Histories.{flag_of, memory, Stored, Holds, Fits, AddsExactly, WithdrawsExactly}
 use Rattle.definitions.proofs.Refusals.{test_at, first-clear, Stops, number_at, first-at, ◌&◌, equal, unequal, holds, not-true}
 use Rattle.definitions.proofs.Refusals.{turned_true}
 use Rattle.definitions.proofs.Sound.{sound, checked, cells-most}
 use Rattle.definitions.proofs.Photograph.{symbols-fit, fit-symbols, doubts-fit, fit-doubts}
-use Rattle.definitions.proofs.Histories.{called, unchanged, holds_after}
 use Rattle.definitions.proofs.Sets.{add_passes, accepted_adding, withdraw-at}
 use Rattle.sets.proofs.Held.{memory_parts, memory-plan, started-is, added_is, withdrawn-is}
 
@@ -49,8 +47,8 @@ module _ {H : Holding} {S : List ℕ} (h : Holds H S) where
   abbrev P : List ℕ
   P = H.plan
 
-  pub holds-plan : plan_of S ≡ H.plan
-  holds-plan = ap plan_of h.memory-is ∙ memory-plan H h.sound.whole
+  pub holds-plan : set_plan S ≡ H.plan
+  holds-plan = ap set_plan h.memory-is ∙ memory-plan H h.sound.whole
 
   -- flags
   flag_is : (k : ℕ) → k < 9 → at S (flag k) ≡ flag_of (H.photo k)
@@ -136,13 +134,22 @@ module _ {H : Holding} {S : List ℕ} (h : Holds H S) where
     number : H.photo k ≢ none → withdraw_number S k ≡ 0
     number n = let i = is_held k n in sym (withdraw-at S k 2 (le-ltb 8 k (omega (arith, i.0)) & not-true i.1 & tt))
 
-  step : (c : Call) → Holds (keeps answer changes c S H) (after c S)
+  -- what is held after a call with the number n, which is accepted or not
+  decide : (n : ℕ) (G : Holding) (T : List ℕ) → (n ≡ 0 → Holds G T) → Holds (accepted n G H) (accepted n T S)
+  decide zero G T f = f refl
+  decide (suc n) G T f = h
+
+  unchanged : (n : ℕ) → Holds (accepted n H H) S
+  unchanged zero = h
+  unchanged (suc n) = h
+
+  step : (c : Call) → Holds (keeps c S H) (after c S)
   unfolding start_memory add_memory withdraw_memory
-  step (start Q) = called Holds (check_number Q) H (empty Q) S (started Q) h λ e. starts (sound Q e)
-  step (add k s u) = called Holds (add_number S k s u) H (with H k (some s)) S (added S k s) h (arrives k s u)
-  step (withdraw k) = called Holds (withdraw_number S k) H (with H k none) S (withdrawn S k) h (leaves k)
-  step (combine B D) = unchanged Holds (combine_number S B D) H S h
-  step (read B) = unchanged Holds (set_number S B) H S h
+  step (start Q) = decide (check_number Q) (empty Q) (started Q) λ e. starts (sound Q e)
+  step (add k s u) = decide (add_number S k s u) (with H k (some s)) (added S k s) (arrives k s u)
+  step (withdraw k) = decide (withdraw_number S k) (with H k none) (withdrawn S k) (leaves k)
+  step (combine B D) = unchanged (combine_number S B D)
+  step (read B) = unchanged (set_number S B)
 
 pub withdraws_exactly : {H : Holding} {S : List ℕ} → Holds H S → (k : ℕ) → WithdrawsExactly H S k
 unfolding withdraw_memory
@@ -156,8 +163,10 @@ withdraws_exactly {H} {S} h k = record {
       (is_held h k n).0 (rw (eq-eqb k k refl)) p.symbol p.doubt);
 }
 
-pub holds-from : (P S : List ℕ) → Sound P → (c : List Call) →
-    Holds (held_after c (start_memory P S) (empty P)) (memory_after c (start_memory P S))
+pub holds_after : (c : List Call) (H : Holding) (S : List ℕ) → Holds H S → Holds (kept c S H) (run c S)
+holds_after [] H S h = h
+holds_after (c ∷ l) H S h = holds_after l (keeps c S H) (after c S) (step h c)
+
+pub holds-from : (P S : List ℕ) → Sound P → (c : List Call) → Holds (kept c (start_memory P S) (empty P)) (run c (start_memory P S))
 unfolding start_memory
-holds-from P S d c =
-    holds_after Holds answer after changes (λ c H S h. step h c) c (empty P) (start_memory P S) (rw (checked P d) (starts d))
+holds-from P S d c = holds_after c (empty P) (start_memory P S) (rw (checked P d) (starts d))

@@ -12,10 +12,11 @@ pub fn start(set: &mut [u8], plan: &[u8]) -> u32
     ensures number { result ≡ check_number plan.now }
     ensures memory { set.new ≡ start_memory plan.now set.old }
 {
-    let number = plan::keeping::keep(set, plan);
+    let number = plan::check(plan);
     if number != 0 {
         return number;
     }
+    bytes::copy(plan, &mut set[0..FLAGS]);
     fill(&mut set[FLAGS..PLACES], 0);
     fill(&mut set[PLACES..SET_BYTES], UNREAD);
     0

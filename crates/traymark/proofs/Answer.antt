@@ -4,10 +4,10 @@
 --   write-unsound                      so where the plan itself is refused
 --   measure-refuses, measure-gives     a refused measuring is zeros, an accepted one the reading of the record
 --   measure-unsound                    so where the plan itself is refused
---   read-refuses, read-takes           refusals of the plan and 6 to 8 of a reading; where none applies, the
+--   read-refuses, read_takes           refusals of the plan and 6 to 8 of a reading; where none applies, the
 --                                      photograph is taken
 --   read-unsound                       so where the plan itself is refused
---   read-gives                         an accepted reading is of the record in the buffer
+--   read_keeps, read-gives             a refused reading is zeros and leaves the buffer; an accepted one is of the record in it
 --   explain-keeps                      a refused explaining is the refusal and leaves the buffer
 --
 -- What this file is for: the calls test a number, the definitions choose by it. Assumes nothing.
@@ -65,11 +65,16 @@ module _ (C : Code) (P s u B : List ℕ) {k : ℕ} (e : k ≡ first (photo_rows 
       go zero e h = absurd (h refl)
       go (suc k) e h = reads_refused C P s u B k (sym e)
 
-  pub read-takes : k ≡ 0 → Taken C P s u B
-  read-takes z = taken C P s u B (sym e ∙ z)
+  pub read_takes : k ≡ 0 → Taken C P s u B
+  read_takes z = taken C P s u B (sym e ∙ z)
 
 pub read-unsound : (C : Code) (P s u B : List ℕ) {k : ℕ} → k ≡ check_number P → (k ≡ 0 → ⊥) → Reads C P s u B (refused k) B
 read-unsound C P s u B {k} e h = read-refuses C P s u B (photo-refused C P s u B k e h) h
+
+pub read_keeps : (C : Code) (P s u B : List ℕ) → (read_number C P s u B ≡ 0 → ⊥) →
+    (read_reading C P s u B ≡ refused (read_number C P s u B)) × (read_buffer C P s u B ≡ B)
+unfolding read_reading read_buffer
+read_keeps C P s u B h = (otherwise (read_number C P s u B) _ _ h, otherwise (read_number C P s u B) _ _ h)
 
 -- the reading is that of the record in the buffer
 pub read-gives : (C : Code) (P s u B : List ℕ) → read_number C P s u B ≡ 0 →

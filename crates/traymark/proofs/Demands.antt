@@ -53,7 +53,7 @@ use Rattle.calendar.specs.Dates.{real}
 use Rattle.calendar.specs.Calendar.{IsReal, YearDays, last_date, following, InOrder, IsNext}
 use Rattle.calendar.specs.declared.Date.{Date}
 use Rattle.calendar.proofs.Calendar as calendar
-use Rattle.definitions.specs.Plan.{plan_bytes, plan_of, season, rows, columns, degree, plan_rows, check_number}
+use Rattle.definitions.specs.Plan.{plan_bytes, season, rows, columns, degree, plan_rows, check_number}
 use Rattle.definitions.specs.Code.{Code, oblong, size, cells, value, mark, IsRecord}
 use Rattle.definitions.specs.Cost.{full}
 use Rattle.definitions.specs.Calls.{photo_rows, reading_of, write_rows, write_number, write_buffer}
@@ -61,11 +61,10 @@ use Rattle.definitions.specs.Calls.{measure_rows, measure_number, measure_readin
 use Rattle.definitions.specs.Masking.{on, off, mask_rows, mask_number, mask_buffer}
 use Rattle.definitions.specs.Masks.{Added, plus, MaskedReads, MaskExactly, Masked, Undone}
 use Rattle.votes.specs.Majority.{Majority}
-use Rattle.definitions.specs.Sets.{combined_symbols, combined_doubts, start_memory, add_rows, add_number}
+use Rattle.definitions.specs.Sets.{set_plan, combined_symbols, combined_doubts, start_memory, add_rows, add_number}
 use Rattle.definitions.specs.Sets.{withdraw_rows, withdraw_number, combine_rows, combine_number}
-use Rattle.definitions.specs.SetHistories.{Holding, empty, Call, memory_after, held_after, shown, fresh_symbols, fresh_doubts}
-use Rattle.definitions.specs.SetHistories.{Holds, StartsUnread, AddsExactly, WithdrawsExactly, Combines, SetReads}
-use Rattle.definitions.specs.Belts.{enter_rows, enter_number, leave_rows, leave_number, lift_rows, lift_number, belt_rows, belt_number}
+use Rattle.definitions.specs.Histories.{Holding, empty, Call, run, kept, shown, fresh_symbols, fresh_doubts, Holds, StartsUnread}
+use Rattle.definitions.specs.Histories.{AddsExactly, WithdrawsExactly, Combines, SetReads}
 use Rattle.definitions.specs.Explaining.{explain_rows, explain_number, explain_reason, explain_buffer, values_of}
 use Rattle.definitions.specs.Finder.{find_rows, find_number}
 use Rattle.definitions.specs.Windows.{meet, season_number}
@@ -94,12 +93,10 @@ use Rattle.definitions.proofs.Sound as plans
 use Rattle.definitions.proofs.Accepted as accepted
 use Rattle.definitions.proofs.Plan.{strip_size_lem, mark_size_lem}
 use Rattle.definitions.proofs.Sound.{sound, checked}
-use Rattle.definitions.proofs.Nearest.{read_keeps}
 use Rattle.definitions.proofs.Demands.{nearest-one}
 use Rattle.definitions.proofs.Accepted.{accepted_writing, accepted_measuring, accepted-reading, accepted_explaining}
 use Rattle.definitions.proofs.Accepted.{measuring_accepted}
 use Rattle.definitions.proofs.Sets as sets
-use Rattle.definitions.proofs.Belts as belts
 use Rattle.definitions.proofs.Masking as masking
 use Rattle.definitions.proofs.Masked as masked
 use Rattle.definitions.proofs.Explained as reasons
@@ -114,7 +111,7 @@ use Rattle.polynomial.proofs.Known.{value-mark-is}
 use Rattle.windows.proofs.Seasons as seasons
 use Rattle.sets.proofs.Histories as histories
 use Rattle.sets.proofs.Fresh as fresh
-use Rattle.traymark.proofs.Answer.{write_keeps, write_fills, measure-refuses, measure-gives, read-gives}
+use Rattle.traymark.proofs.Answer.{write_keeps, write_fills, measure-refuses, measure-gives, read_keeps, read-gives}
 use Rattle.traymark.proofs.Answer.{explain-keeps}
 
 -- A plan is sound, all its bytes as in the table, exactly when checking it gives 0.
@@ -163,13 +160,7 @@ demand_1 = record {
   set_add = sets.add-keeps;
   set_withdraw = sets.withdraw-keeps;
   set_combine = sets.combine-keeps;
-  set_read = λ S B. read_keeps oblong (plan_of S) (combined_symbols S) (combined_doubts S) B;
-  belt_start = belts.start-keeps;
-  belt_change = belts.change-keeps;
-  belt_enter = belts.enter-keeps;
-  belt_leave = belts.leave-keeps;
-  belt_lift = belts.lift-keeps;
-  belt_read = belts.tray_keeps;
+  set_read = λ S B. read_keeps oblong (set_plan S) (combined_symbols S) (combined_doubts S) B;
 }
 
 -- Demand 3. For every sound plan and every photograph in buffers of the right lengths, whatever the points, symbols and doubts:
@@ -257,8 +248,8 @@ margins_from_30 = margins_in (λ y. 30 ≤ y) 250 full_from lowest-from highest-
 -- and 4. In widening 11 comes before 6.
 pub lowest-given : LowestGiven
 unfolding check_number write_number measure_number read_number mask_number explain_number find_number widen_number
-    add_number withdraw_number combine_number enter_number leave_number lift_number belt_number
-    plan_rows photo_rows write_rows measure_rows read_rows mask_rows explain_rows find_rows widen_rows add_rows combine_rows belt_rows index
+    add_number withdraw_number combine_number
+    plan_rows photo_rows write_rows measure_rows read_rows mask_rows explain_rows find_rows widen_rows add_rows combine_rows index
 lowest-given = record {
   check = λ P. first_earliest table (plan_rows P) tt refl;
   write = λ C P F B. first_earliest table (write_rows C P F B) tt refl;
@@ -272,10 +263,6 @@ lowest-given = record {
   set_add = λ S k s u. first_earliest table (add_rows S k s u) tt refl;
   set_withdraw = λ S k. first_earliest table (withdraw_rows S k) tt refl;
   set_combine = λ S B D. first_earliest table (combine_rows S B D) tt refl;
-  belt_enter = λ B x. first_earliest table (enter_rows B x) tt refl;
-  belt_leave = λ B. first_earliest table (leave_rows B) tt refl;
-  belt_lift = λ B x. first_earliest table (lift_rows B x) tt refl;
-  belt_read = λ B x s u R. first_earliest (20 ∷ table) (belt_rows B x s u R) tt refl;
 }
 
 -- Measuring never gives 10: a record of the plan is measured against every photograph, a margin of 0 or below returned as such.
@@ -397,14 +384,14 @@ masked-mark C P F Q S = masked.masked-mark S C F Q
 -- photographs that arrived by accepted calls and were not withdrawn by such since, or since a later accepted start: its memory is
 -- that of what it holds, byte by byte, so nothing else is kept.
 pub set-memory : (P S : List ℕ) → Sound P → (h : List Call) →
-    Holds (held_after h (start_memory P S) (empty P)) (memory_after h (start_memory P S))
+    Holds (kept h (start_memory P S) (empty P)) (run h (start_memory P S))
 set-memory = histories.holds-from
 
 -- So over any history of calls from a start, after each arrival and withdrawal, the combination is the one made afresh from the
 -- photographs held then.
 pub set_fresh : (P S : List ℕ) → Sound P → (h : List Call) →
-    (combined_symbols (memory_after h (start_memory P S)) ≡ fresh_symbols (held_after h (start_memory P S) (empty P)))
-    × (combined_doubts (memory_after h (start_memory P S)) ≡ fresh_doubts (held_after h (start_memory P S) (empty P)))
+    (combined_symbols (run h (start_memory P S)) ≡ fresh_symbols (kept h (start_memory P S) (empty P)))
+    × (combined_doubts (run h (start_memory P S)) ≡ fresh_doubts (kept h (start_memory P S) (empty P)))
 set_fresh P S sound h = let holds = set-memory P S sound h in (fresh.fresh_symbols_lem holds, fresh.fresh_doubts_lem holds)
 
 -- Of a set S that holds H, that combination is a photograph of the plan, so that refusals 1 to 8 never meet it.

@@ -1,9 +1,9 @@
 // Several photographs of one tray: a set of them, in memory that the caller lends. It is a fixed number of bytes, and any bytes
 // are answered; a set begins with `traymark_set_start`. Nothing is kept elsewhere.
 ghost use Rattle.std.specs.Prelude.{◌≡◌, length};
-ghost use Rattle.definitions.specs.Plan.{plan_of, check_number};
+ghost use Rattle.definitions.specs.Plan.{check_number};
 ghost use Rattle.definitions.specs.Code.{oblong, cells};
-ghost use Rattle.definitions.specs.Sets.{set_bytes, start_memory, add_number, add_memory};
+ghost use Rattle.definitions.specs.Sets.{set_bytes, set_plan, start_memory, add_number, add_memory};
 ghost use Rattle.definitions.specs.Sets.{withdraw_number, withdraw_memory, combine_number, combine_symbols, combine_doubts};
 ghost use Rattle.definitions.specs.Sets.{set_reading, set_record};
 ghost use Rattle.plan.specs.Says.{Says};
@@ -133,8 +133,8 @@ fn read_by(
     doubts: &mut [u8],
     record: &mut [u8],
 ) -> Reading
-    requires { Says (plan_of set.now) plan × (length set.now ≡ set_bytes)
-        × (length symbols.old ≡ cells oblong (plan_of set.now)) × (length doubts.old ≡ length symbols.old) }
+    requires { Says (set_plan set.now) plan × (length set.now ≡ set_bytes)
+        × (length symbols.old ≡ cells oblong (set_plan set.now)) × (length doubts.old ≡ length symbols.old) }
     ensures reading { result ≡ set_reading set.now «record».old }
     ensures bytes { «record».new ≡ set_record set.now «record».old }
 {

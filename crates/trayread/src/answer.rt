@@ -1,8 +1,9 @@
 // The whole answer to an input, as text.
 ghost use Rattle.std.specs.Prelude.{◌≡◌, List, ℕ, ◌+◌, ◌*◌, ◌≤◌, length, take};
-ghost use Rattle.definitions.specs.Plan.{plan_of, check_number};
+ghost use Rattle.definitions.specs.Plan.{check_number};
 ghost use Rattle.definitions.specs.Code.{oblong};
 ghost use Rattle.definitions.specs.Calls.{read_reading, read_buffer};
+ghost use Rattle.definitions.specs.Tray.{plan_of};
 ghost use Rattle.definitions.specs.Room.{HoldsFirst};
 ghost use Rattle.definitions.specs.Printed.{answer_text, tray_text};
 ghost use Rattle.text.specs.Put.{Put};

@@ -1,9 +1,10 @@
 // The whole answer to an input, as text.
 ghost use Rattle.std.specs.Prelude.{◌≡◌, List, ℕ, ◌+◌, ◌*◌, ◌≤◌, length, take};
-ghost use Rattle.definitions.specs.Plan.{plan_of, check_number};
+ghost use Rattle.definitions.specs.Plan.{check_number};
 ghost use Rattle.definitions.specs.Code.{oblong};
 ghost use Rattle.definitions.specs.Calls.{measure_reading};
 ghost use Rattle.definitions.specs.Explaining.{explain_reason, explain_buffer};
+ghost use Rattle.definitions.specs.Tray.{plan_of};
 ghost use Rattle.definitions.specs.Room.{HoldsFirst};
 ghost use Rattle.definitions.specs.Printed.{reason_text, why_text};
 ghost use Rattle.text.specs.Put.{Put};

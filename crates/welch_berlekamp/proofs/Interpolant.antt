@@ -292,18 +292,18 @@ module _ {p k : ℕ} {c z : List ℕ} {i : ℕ} {a b : List ℕ} (pos : 0 < p) (
   ]
 
   -- the places after i hold a
-  put-tail : (g : ℕ → ℕ) → ((o : ℕ) → g o ≡ o + suc i) → (X : ℕ) →
+  put_tail : (g : ℕ → ℕ) → ((o : ℕ) → g o ≡ o + suc i) → (X : ℕ) →
       eval (k - i) (λ o. put (g o)) X ≡ eval (k - i) (λ o. at a (o + suc i)) X
-  put-tail g e X = sum-eq (k - i) λ o _. ap (λ t. t * X ^ o) (ap put (e o) ∙ put-after (o + suc i) (omega arith))
+  put_tail g e X = sum-eq (k - i) λ o _. ap (λ t. t * X ^ o) (ap put (e o) ∙ put-after (o + suc i) (omega arith))
 
   -- X a + c
   raised : (X : ℕ) → eval (suc (k - i)) (λ o. put (o + i)) X ≡ at c i + X * eval (k - i) (λ o. at a (o + suc i)) X
   raised X = eval_front (k - i) (λ o. put (o + i)) X
-      ∙ ap₂ (λ s t. s + X * t) (ap put (omega arith) ∙ put_here) (put-tail (λ o. suc o + i) (λ o. omega arith) X)
+      ∙ ap₂ (λ s t. s + X * t) (ap put (omega arith) ∙ put_here) (put_tail (λ o. suc o + i) (λ o. omega arith) X)
 
   put_next : (X : ℕ) → eval (suc (k - i)) (λ o. put (suc (o + i))) X ≡ eval (k - i) (λ o. at a (o + suc i)) X
   put_next X = eval-short (k - i) (suc (k - i)) (λ o. put (suc (o + i))) X (omega arith) ended
-      ∙ put-tail (λ o. suc (o + i)) (λ o. omega arith) X
+      ∙ put_tail (λ o. suc (o + i)) (λ o. omega arith) X
     where
       ended : (l : ℕ) → k - i ≤ l → put (suc (l + i)) ≡ 0
       ended l o = put-after (suc (l + i)) (omega arith) ∙ H.above (suc (l + i)) (omega arith)

@@ -1,4 +1,5 @@
-//! The calls on sets, and what the independent model says that they do.
+//! The calls on sets, and what the independent model says that they do. Each is made twice, as `include/traymark.h` declares it
+//! on memory between guard bytes, and on the Rust wrapper's value; both must answer alike and leave the same bytes.
 
 mod seen;
 
@@ -7,21 +8,23 @@ pub use seen::{falls, Event, Seen};
 use crate::calls::Arguments;
 use crate::counts::Counts;
 use crate::lent::Lent;
-use crate::library::{alike, guarded, refused};
-use crate::memory::{Memory, OnMemory};
+use crate::library::{alike, answered, guarded, reading, refused, untouched};
 use crate::random::Random;
 use independent::{memory, Reading};
 use traymark::ffi::{self, RawSet};
-use traymark::Set;
 
 /// The calls on a set.
-#[derive(Clone, Copy, Debug, PartialEq, Eq, PartialOrd, Ord)]
+#[derive(Clone, Copy, Debug, PartialEq, Eq)]
 pub enum SetCall {
     Start,
     Add,
     Withdraw,
     Combine,
     Read,
+}
+
+impl SetCall {
+    pub const ALL: [SetCall; 5] = [SetCall::Start, SetCall::Add, SetCall::Withdraw, SetCall::Combine, SetCall::Read];
 }
 
 /// All that a call on a set can be given: the memory of the set; numbers of photographs, one to add and one to withdraw; and the
@@ -34,21 +37,27 @@ pub struct SetArguments {
     pub lent: Arguments,
 }
 
-impl OnMemory for SetArguments {
-    type Call = SetCall;
-
-    const CALLS: &'static [SetCall] =
-        &[SetCall::Start, SetCall::Add, SetCall::Withdraw, SetCall::Combine, SetCall::Read];
-    const READ: SetCall = SetCall::Read;
-
-    fn memory(&mut self) -> &mut Vec<u8> {
-        &mut self.memory
+/// Holds what the library answers and leaves against the independent model, for any bytes as memory.
+pub fn hold(
+    call: SetCall,
+    given: &SetArguments,
+    random: &mut Random,
+    counts: &mut Counts,
+) -> Result<(Reading, SetArguments), String> {
+    let told = |what: String| format!("{call:?} {what}; {given:?}");
+    let mut expected = given.clone();
+    let reading = expected.expect(call);
+    let mut left = given.clone();
+    let answer = left.answer(call, random).map_err(told)?;
+    counts.set_answer(call, answer.number);
+    if (answer, &left) != (reading, &expected) {
+        return Err(told(format!("gave {answer:?}, expected {reading:?}; left {left:?}, expected {expected:?}")));
     }
+    Ok((answer, left))
+}
 
-    fn lent(&mut self) -> &mut Arguments {
-        &mut self.lent
-    }
-
+impl SetArguments {
+    /// What the model answers; what it leaves is left here.
     fn expect(&mut self, call: SetCall) -> Reading {
         let SetArguments { memory, arriving, withdrawn, lent } = self;
         match call {
@@ -60,6 +69,7 @@ impl OnMemory for SetArguments {
         }
     }
 
+    /// What the library answers, likewise.
     fn answer(&mut self, call: SetCall, random: &mut Random) -> Result<Reading, String> {
         let SetArguments { memory, arriving, withdrawn, lent } = self;
         let mut set = LentSet::new(memory, random);
@@ -73,28 +83,60 @@ impl OnMemory for SetArguments {
         memory.copy_from_slice(set.bytes());
         Ok(answer)
     }
-
-    fn count(call: SetCall, number: u32, counts: &mut Counts) {
-        counts.set_answer(call, number);
-    }
 }
 
-/// A set that is lent to one call after another.
-pub type LentSet = Memory<Set>;
+/// A set that is lent to one call after another: its memory between guard bytes, and the wrapper's value with the same bytes.
+pub struct LentSet {
+    memory: Lent,
+    value: traymark::Set,
+}
 
 impl LentSet {
+    /// A set of any bytes.
+    pub fn new(bytes: &[u8], random: &mut Random) -> LentSet {
+        let value = traymark::Set::from_bytes(bytes.try_into().expect("the bytes of a set"));
+        LentSet { memory: Lent::new(bytes, random), value }
+    }
+
+    pub fn bytes(&self) -> &[u8] {
+        self.memory.bytes()
+    }
+
+    pub fn start(&mut self, plan: &[u8], random: &mut Random) -> Result<u32, String> {
+        let plan = Lent::new(plan, random);
+        let lent = plan.bytes();
+        let number = unsafe { ffi::traymark_set_start(self.raw_mut(), lent.as_ptr(), lent.len()) };
+        untouched(&[&plan])?;
+        alike(number, number, || refused(self.value.restart(lent)))?;
+        let mut started = None;
+        alike(number, number, || refused(traymark::Set::start(lent).map(|set| started = Some(set))))?;
+        untouched(&[&plan])?;
+        self.changed()?;
+        if started.is_some_and(|set| set != self.value) {
+            return Err("a new set has other bytes than one that is started again".into());
+        }
+        Ok(number)
+    }
+
     pub fn add(&mut self, photograph: u32, symbols: &[u8], doubts: &[u8], random: &mut Random) -> Result<u32, String> {
         let lent = [symbols, doubts].map(|bytes| Lent::new(bytes, random));
         let [symbols, doubts] = [0, 1].map(|k| lent[k].bytes());
-        let by_c = |set: *mut RawSet| unsafe {
+        let number = unsafe {
+            let set = self.raw_mut();
             ffi::traymark_set_add(set, photograph, symbols.as_ptr(), symbols.len(), doubts.as_ptr(), doubts.len())
         };
-        self.change(&lent.each_ref(), by_c, |set| set.add(photograph, symbols, doubts))
+        untouched(&lent.each_ref())?;
+        alike(number, number, || refused(self.value.add(photograph, symbols, doubts)))?;
+        untouched(&lent.each_ref())?;
+        self.changed()?;
+        Ok(number)
     }
 
     pub fn withdraw(&mut self, photograph: u32) -> Result<u32, String> {
-        let by_c = |set: *mut RawSet| unsafe { ffi::traymark_set_withdraw(set, photograph) };
-        self.change(&[], by_c, |set| set.withdraw(photograph))
+        let number = unsafe { ffi::traymark_set_withdraw(self.raw_mut(), photograph) };
+        alike(number, number, || refused(self.value.withdraw(photograph)))?;
+        self.changed()?;
+        Ok(number)
     }
 
     /// The buffers are left as the call leaves them.
@@ -102,7 +144,7 @@ impl LentSet {
         let mut lent = [&*symbols, &*doubts].map(|bytes| Lent::new(bytes, random));
         let number = unsafe {
             let [symbols, doubts] = lent.each_mut().map(Lent::bytes_mut);
-            let set = self.raw();
+            let set = self.bytes().as_ptr().cast::<RawSet>();
             ffi::traymark_set_combine(set, symbols.as_mut_ptr(), symbols.len(), doubts.as_mut_ptr(), doubts.len())
         };
         for (buffer, lent) in [&mut *symbols, &mut *doubts].into_iter().zip(&mut lent) {
@@ -112,7 +154,7 @@ impl LentSet {
         }
         self.kept()?;
         let [by_wrapper, doubts_by_wrapper] = lent.each_mut().map(Lent::bytes_mut);
-        alike(number, number, || refused(self.value().combine(by_wrapper, doubts_by_wrapper)))?;
+        alike(number, number, || refused(self.value.combine(by_wrapper, doubts_by_wrapper)))?;
         lent.iter().try_for_each(guarded)?;
         if [&*symbols, &*doubts] != lent.each_ref().map(Lent::bytes) {
             return Err("left other bytes through the wrapper".into());
@@ -123,9 +165,41 @@ impl LentSet {
 
     /// The buffer is left as the call leaves it.
     pub fn read(&self, record: &mut [u8], random: &mut Random) -> Result<Reading, String> {
-        let by_c = |set: *const RawSet, record: &mut [u8]| unsafe {
-            ffi::traymark_set_read(set, record.as_mut_ptr(), record.len())
+        let mut lent = Lent::new(record, random);
+        let raw = unsafe {
+            let buffer = lent.bytes_mut();
+            ffi::traymark_set_read(self.bytes().as_ptr().cast::<RawSet>(), buffer.as_mut_ptr(), buffer.len())
         };
-        self.read_by(&[], record, random, by_c, Set::read)
+        guarded(&lent)?;
+        record.copy_from_slice(lent.bytes());
+        lent.restore();
+        self.kept()?;
+        alike(raw.number, reading(raw), || answered(self.value.read(lent.bytes_mut())))?;
+        guarded(&lent)?;
+        if record != lent.bytes() {
+            return Err("left another record through the wrapper".into());
+        }
+        self.kept()?;
+        Ok(reading(raw))
+    }
+
+    fn raw_mut(&mut self) -> *mut RawSet {
+        self.memory.bytes_mut().as_mut_ptr().cast()
+    }
+
+    /// After a call that may change the set: what it left is the same both ways, and the guards are as they were.
+    fn changed(&mut self) -> Result<(), String> {
+        guarded(&self.memory)?;
+        self.memory.settle();
+        self.kept()
+    }
+
+    /// No byte of the set has changed, in either form, nor a guard.
+    fn kept(&self) -> Result<(), String> {
+        untouched(&[&self.memory])?;
+        if self.value.as_bytes() != self.bytes() {
+            return Err("the set has other bytes through the wrapper".into());
+        }
+        Ok(())
     }
 }

@@ -18,7 +18,7 @@ pub struct Fault {
     pub place: &'static str,
     pub number: u32,
     /// the calls that it concerns
-    pub calls: &'static [Call],
+    calls: &'static [Call],
     pub apply: fn(&mut Arguments, &Plan, &mut Random),
 }
 
@@ -71,12 +71,10 @@ pub fn in_plans(seed: u64, random: &mut Random, counts: &mut Counts) -> Result<(
     Ok(())
 }
 
-/// A plan that is unsound in one way.
-pub fn unsound_plan(random: &mut Random) -> Vec<u8> {
-    let (plan, mut given) = sound(Code::Mark, random);
+/// Makes a plan unsound.
+pub fn break_plan(given: &mut Arguments, plan: &Plan, random: &mut Random) {
     let faults: Vec<&Fault> = FAULTS.iter().copied().filter(|fault| rank(fault.number) < rank(6)).collect();
-    (random.pick(&faults).apply)(&mut given, &plan, random);
-    given.plan
+    (random.pick(&faults).apply)(given, plan, random);
 }
 
 /// The place of a number in the order in which refusals are tested.
@@ -120,16 +118,6 @@ pub fn sound(code: Code, random: &mut Random) -> (Plan, Arguments) {
     let shape = repeat_with(|| random.pick(plans::shapes())).find(fits).expect("there are such shapes");
     let plan = plans::plan(shape, random);
     let given = arguments(code, &plan, random);
-    (plan, given)
-}
-
-/// The same for marks, or one of the largest marks.
-pub fn sound_or_largest(is_largest: bool, random: &mut Random) -> (Plan, Arguments) {
-    if !is_largest {
-        return sound(Code::Mark, random);
-    }
-    let plan = plans::largest(random);
-    let given = arguments(Code::Mark, &plan, random);
     (plan, given)
 }
 

@@ -1,7 +1,6 @@
 //! The suites. Each case is made from its seed alone.
 
 mod ages;
-mod belts;
 mod coefficients;
 mod decoding;
 mod documented;
@@ -12,8 +11,6 @@ mod files;
 mod finer;
 mod lengths;
 mod masks;
-mod on_memory;
-mod photographed;
 mod plans;
 mod rows;
 mod rubbish;
@@ -22,7 +19,6 @@ mod sets;
 mod swapped;
 mod widening;
 
-use std::fmt::Debug;
 use traymark_tests::plans::{primes, shapes, shapes_of};
 use traymark_tests::run::Suite;
 
@@ -83,12 +79,4 @@ pub fn all() -> Vec<Suite> {
         Suite { name: "lengths-far", cases: 20, case: lengths::far },
         Suite { name: "rubbish", cases: 20_000, case: rubbish::case },
     ]
-}
-
-/// What something gave is what was expected.
-fn expect<A: PartialEq + Debug>(what: &str, is: A, expected: A) -> Result<(), String> {
-    if is != expected {
-        return Err(format!("{what} gave {is:?}, expected {expected:?}"));
-    }
-    Ok(())
 }

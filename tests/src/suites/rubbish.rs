@@ -16,13 +16,9 @@ pub fn case(_: u64, random: &mut Random, counts: &mut Counts) -> Result<(), Stri
     Ok(())
 }
 
-/// Any bytes, of the right length for a mark by that plan or not, or a photograph of nothing.
-pub fn about(plan: &Plan, random: &mut Random) -> Arguments {
-    match random.below(4) {
-        0 => arguments(random),
-        1 => of_right_length(Code::Mark, plan, plan.bytes().to_vec(), random),
-        _ => of_nothing(Code::Mark, plan, random),
-    }
+/// The right lengths for a mark by that plan, the plan too, and any bytes in them.
+pub fn on(plan: &Plan, random: &mut Random) -> Arguments {
+    of_right_length(Code::Mark, plan, plan.bytes().to_vec(), random)
 }
 
 /// Any bytes, for all buffers or for some.
@@ -33,15 +29,12 @@ pub fn arguments(random: &mut Random) -> Arguments {
         0 => of_any_length(code, random),
         1 => of_right_length(code, &sound, random.bytes(PLAN), random),
         2 => of_right_length(code, &sound, sound.bytes().to_vec(), random),
-        _ => of_nothing(code, &sound, random),
+        _ => {
+            let photo = noise(code, &sound, random);
+            let [symbols, doubts] = [photo.symbols, photo.doubts].map(|numbers| bytes(&numbers));
+            Arguments { symbols, doubts, ..of_right_length(code, &sound, sound.bytes().to_vec(), random) }
+        }
     }
-}
-
-/// A photograph of nothing.
-fn of_nothing(code: Code, sound: &Plan, random: &mut Random) -> Arguments {
-    let photo = noise(code, sound, random);
-    let [symbols, doubts] = [photo.symbols, photo.doubts].map(|numbers| bytes(&numbers));
-    Arguments { symbols, doubts, ..of_right_length(code, sound, sound.bytes().to_vec(), random) }
 }
 
 fn of_any_length(code: Code, random: &mut Random) -> Arguments {

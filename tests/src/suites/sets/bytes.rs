@@ -1,14 +1,15 @@
 //! Any bytes as the memory of a set: every call answers, and one call goes on with what another has left.
 
 use super::{accepted, too_high};
-use crate::suites::on_memory::changed_at;
 use crate::suites::{faults, rubbish};
+use independent::calls::bytes;
 use independent::{memory, Code, Plan, PHOTOGRAPHS, PLAN, SET};
+use traymark_tests::calls::Arguments;
 use traymark_tests::counts::Counts;
-use traymark_tests::memory::{hold, OnMemory};
+use traymark_tests::photo::noise;
 use traymark_tests::plans::{plan, shapes};
 use traymark_tests::random::Random;
-use traymark_tests::sets::SetArguments;
+use traymark_tests::sets::{hold, SetArguments, SetCall};
 
 /// Several calls, one after another, on one memory.
 pub fn case(_: u64, random: &mut Random, counts: &mut Counts) -> Result<(), String> {
@@ -16,8 +17,8 @@ pub fn case(_: u64, random: &mut Random, counts: &mut Counts) -> Result<(), Stri
     let mut memory = any(&plan, random);
     for _ in 0..4 {
         let [arriving, withdrawn] = [0, 1].map(|_| number(random));
-        let given = SetArguments { memory, arriving, withdrawn, lent: rubbish::about(&plan, random) };
-        memory = hold(random.pick(SetArguments::CALLS), &given, random, counts)?.1.memory;
+        let given = SetArguments { memory, arriving, withdrawn, lent: lent(&plan, random) };
+        memory = hold(random.pick(&SetCall::ALL), &given, random, counts)?.1.memory;
     }
     Ok(())
 }
@@ -28,7 +29,27 @@ pub fn changed(_: u64, random: &mut Random, counts: &mut Counts) -> Result<(), S
     let given = accepted(&plan, &lent, random);
     let symbols = (0..50).map(|_| random.between((PLAN + PHOTOGRAPHS) as u32, SET as u32 - 1) as usize);
     let places: Vec<usize> = (0..PLAN + PHOTOGRAPHS).chain(symbols).collect();
-    changed_at(places, &given, random, counts)
+    for place in places {
+        let mut given = given.clone();
+        given.memory[place] ^= random.between(1, 255) as u8;
+        for call in SetCall::ALL {
+            hold(call, &given, random, counts)?;
+        }
+    }
+    Ok(())
+}
+
+/// Any bytes, of the right length or not, or a photograph.
+fn lent(plan: &Plan, random: &mut Random) -> Arguments {
+    match random.below(4) {
+        0 => rubbish::arguments(random),
+        1 => rubbish::on(plan, random),
+        _ => {
+            let photo = noise(Code::Mark, plan, random);
+            let [symbols, doubts] = [photo.symbols, photo.doubts].map(|numbers| bytes(&numbers));
+            Arguments { symbols, doubts, ..rubbish::on(plan, random) }
+        }
+    }
 }
 
 /// A number of a photograph, or any.

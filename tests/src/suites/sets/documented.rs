@@ -1,6 +1,6 @@
 //! Worked out by hand: combined cells, and the bytes of a set after each call.
 
-use crate::suites::expect;
+use super::expect;
 use crate::suites::rows::{oblong, plan_16, plan_a, plan_t, plan_w, CASE_C, CASE_D, EARLIER, LATER, MARK, SURE};
 use independent::{Reading, FINER, PHOTOGRAPHS, SET};
 use traymark_tests::counts::Counts;

@@ -2,12 +2,13 @@
 //! times in four where something arrived, was withdrawn or was started anew, so are the combination and what it is read as. The
 //! model combines the photographs held afresh.
 
-use super::too_high;
-use crate::suites::photographed::{Mark, Taken};
-use crate::suites::{expect, faults};
-use independent::{Code, Set, PHOTOGRAPHS, SET};
+use super::{expect, too_high};
+use crate::suites::faults;
+use independent::calls::bytes;
+use independent::{Code, Plan, Set, PHOTOGRAPHS, SET};
+use traymark_tests::calls::Arguments;
 use traymark_tests::counts::Counts;
-use traymark_tests::memory::same_bytes;
+use traymark_tests::photo::{noise, photograph, rival, unread, Photo};
 use traymark_tests::plans::{self, Shape, LARGE_OBLONGS, LARGE_SQUARES};
 use traymark_tests::random::Random;
 use traymark_tests::sets::{Event, LentSet, SetCall};
@@ -39,6 +40,24 @@ struct Tray {
     /// the numbers that were withdrawn since the start, and those since the last combination
     withdrawn: [bool; PHOTOGRAPHS],
     uncombined: [bool; PHOTOGRAPHS],
+}
+
+/// A mark that is photographed, and whether its photographs are of it, and not of nothing.
+struct Mark {
+    values: Vec<u32>,
+    /// those of a near mark
+    near: Vec<u32>,
+    is_sharp: bool,
+}
+
+impl Mark {
+    /// Any mark by that plan.
+    fn by(plan: &Plan, random: &mut Random) -> Mark {
+        let record = plans::record(Code::Mark, plan, random);
+        let rival = rival(Code::Mark, plan, &record, random);
+        let [values, near] = [record, rival].map(|record| Code::Mark.word(plan, &record));
+        Mark { values, near, is_sharp: !random.one_in(4) }
+    }
 }
 
 fn shape(is_large: bool, random: &mut Random) -> Shape {
@@ -77,7 +96,7 @@ impl Tray {
         match random.below(40) {
             0 => self.restart(random, counts)?,
             1 => {
-                counts.sets.events.see(Event::Unstarted);
+                counts.sets.event(Event::Unstarted);
                 refuse_start(&mut self.set, random, counts)?;
             }
             2..6 => self.add_with_faults(random, counts)?,
@@ -106,7 +125,7 @@ impl Tray {
         counts.set_answer(SetCall::Start, 0);
         let in_use = self.model.photographs.iter().any(Option::is_some);
         if in_use && Code::Mark.cells(&plan) != Code::Mark.cells(&self.model.plan) {
-            counts.sets.events.see(Event::Restarted);
+            counts.sets.event(Event::Restarted);
         }
         self.model = Set::start(&plan.bytes()).expect("the plan is sound");
         self.mark = Mark::by(&plan, random);
@@ -123,8 +142,25 @@ impl Tray {
             free.retain(|&number| self.uncombined[number as usize]);
         }
         let number = if free.is_empty() { random.between(0, 8) } else { random.pick(&free) };
-        let Taken { symbols, doubts, .. } = self.mark.photograph(&self.model.plan, random);
+        let [symbols, doubts] = self.photograph(random);
         self.arrive(number, &symbols, &doubts, random, counts)
+    }
+
+    /// A photograph of the mark, damaged in any way, or of nothing, or with no cell read.
+    fn photograph(&self, random: &mut Random) -> [Vec<u8>; 2] {
+        let plan = &self.model.plan;
+        let Mark { values, near, is_sharp } = &self.mark;
+        let radius = Code::Mark.radius(plan);
+        let some = random.between(0, radius);
+        let cost = random.pick(&[0, some, some, radius - 1, radius]);
+        let Photo { symbols, doubts } = match random.below(16) {
+            0 => unread(Code::Mark, plan),
+            1 => photograph(plan, near, values, cost, random),
+            2 => noise(Code::Mark, plan, random),
+            _ if *is_sharp => photograph(plan, values, near, cost, random),
+            _ => noise(Code::Mark, plan, random),
+        };
+        [bytes(&symbols), bytes(&doubts)]
     }
 
     fn arrive(
@@ -140,13 +176,13 @@ impl Tray {
         expect(&format!("add {number} {symbols:?} {doubts:?}"), answer, self.model.add(number, symbols, doubts))?;
         if answer == 0 {
             if self.withdrawn[number as usize] {
-                counts.sets.events.see(Event::Reused);
+                counts.sets.event(Event::Reused);
             }
             if self.uncombined[number as usize] {
-                counts.sets.events.see(Event::Replaced);
+                counts.sets.event(Event::Replaced);
             }
             if self.numbers(false).is_empty() {
-                counts.sets.events.see(Event::Full);
+                counts.sets.event(Event::Full);
             }
         }
         Ok(())
@@ -154,10 +190,31 @@ impl Tray {
 
     /// A photograph that is refused for one of several reasons, mostly.
     fn add_with_faults(&mut self, random: &mut Random, counts: &mut Counts) -> Result<(), String> {
-        let plan = &self.model.plan;
-        let [symbols, doubts] = self.mark.photograph(plan, random).broken(plan, random);
+        let p = self.model.plan.p;
+        let full = self.model.plan.full_doubt();
+        let [mut symbols, mut doubts] = self.photograph(random);
         let number = random.between(0, 8);
         let number = if random.one_in(3) { too_high(number, random) } else { number };
+        let cell = random.below(symbols.len());
+        if random.one_in(4) {
+            doubts[cell] = random.between(full + 1, 255) as u8;
+        }
+        if random.one_in(4) {
+            (symbols[cell], doubts[cell]) = (255, random.pick(&[0, full - 1, 350 - full]) as u8);
+        }
+        if random.one_in(3) {
+            let cell = random.below(symbols.len());
+            let any = random.between(p, 254);
+            symbols[cell] = random.pick(&[p, 254, any]) as u8;
+        }
+        if random.one_in(6) {
+            let longer = symbols.len() + 1;
+            symbols.resize(random.pick(&[0, longer - 2, longer]), 0);
+        }
+        if random.one_in(6) {
+            let longer = doubts.len() + 1;
+            doubts.resize(random.pick(&[0, longer - 2, longer]), 0);
+        }
         self.arrive(number, &symbols, &doubts, random, counts)
     }
 
@@ -184,7 +241,7 @@ impl Tray {
             self.withdrawn[number as usize] = true;
             self.uncombined[number as usize] = true;
             if self.numbers(true).is_empty() {
-                counts.sets.events.see(Event::Emptied);
+                counts.sets.event(Event::Emptied);
             }
         }
         Ok(())
@@ -192,7 +249,14 @@ impl Tray {
 
     /// Every byte of the set is what the model says.
     fn hold_memory(&self) -> Result<(), String> {
-        same_bytes(self.set.bytes(), &self.model.memory()).map_err(|what| format!("{what}; {:?}", self.model))
+        let memory = self.model.memory();
+        match self.set.bytes().iter().zip(&memory).position(|(byte, expected)| byte != expected) {
+            None => Ok(()),
+            Some(place) => {
+                let byte = self.set.bytes()[place];
+                Err(format!("byte {place} is {byte}, expected {}; {:?}", memory[place], self.model))
+            }
+        }
     }
 
     /// The combination, and what it is read as.
@@ -211,7 +275,7 @@ impl Tray {
         expect("read left", &record, &expected)?;
         counts.sets.combined(&self.model);
         self.uncombined.fill(false);
-        counts.sets.readings.read(plan, reading.number);
+        counts.sets.read(plan, reading.number);
         Ok(())
     }
 
@@ -237,7 +301,9 @@ impl Tray {
 
 /// A start with an unsound plan.
 fn refuse_start(set: &mut LentSet, random: &mut Random, counts: &mut Counts) -> Result<(), String> {
-    let plan = faults::unsound_plan(random);
+    let (plan, mut given) = faults::sound(Code::Mark, random);
+    faults::break_plan(&mut given, &plan, random);
+    let Arguments { plan, .. } = given;
     let number = set.start(&plan, random)?;
     counts.set_answer(SetCall::Start, number);
     expect(&format!("start with {plan:?}"), number, independent::check_plan(&plan))

@@ -11,6 +11,7 @@ pub mod votes;
 
 use independent::{Code, Plan, Set, PHOTOGRAPHS, UNREAD};
 use std::array::from_fn;
+use std::fmt::Debug;
 use traymark_tests::calls::Arguments;
 use traymark_tests::plans;
 use traymark_tests::random::Random;
@@ -45,4 +46,11 @@ pub fn too_high(number: u32, random: &mut Random) -> u32 {
         number + (1 << 31),
         number + (1 << bits),
     ])
+}
+
+fn expect<A: PartialEq + Debug>(what: &str, is: A, expected: A) -> Result<(), String> {
+    if is != expected {
+        return Err(format!("{what} gave {is:?}, expected {expected:?}"));
+    }
+    Ok(())
 }

@@ -2,13 +2,11 @@
 
 use super::accepted;
 use crate::suites::faults;
-use crate::suites::on_memory::gives;
 use independent::{memory, Code, Plan, PHOTOGRAPHS, PLAN};
 use traymark_tests::counts::Counts;
-use traymark_tests::memory::hold;
 use traymark_tests::plans;
 use traymark_tests::random::Random;
-use traymark_tests::sets::{SetArguments, SetCall};
+use traymark_tests::sets::{hold, SetArguments, SetCall};
 
 /// A plan of every prime, and then some for the largest marks.
 const PRIMES: u64 = 54;
@@ -32,8 +30,8 @@ fn numbers(given: &SetArguments, random: &mut Random, counts: &mut Counts) -> Re
     let around = (4..32).flat_map(|bit| (0..10).map(move |more| (1 << bit) - 1 + more));
     for number in (9..600).chain(around).chain([u32::MAX]) {
         let given = SetArguments { arriving: number, withdrawn: number, ..given.clone() };
-        gives(SetCall::Add, &given, 17, random, counts)?;
-        gives(SetCall::Withdraw, &given, 18, random, counts)?;
+        expect(SetCall::Add, &given, 17, random, counts)?;
+        expect(SetCall::Withdraw, &given, 18, random, counts)?;
     }
     Ok(())
 }
@@ -62,7 +60,7 @@ fn cells(
         ];
         for (symbol, doubt, refusal) in broken {
             (given.lent.symbols[cell], given.lent.doubts[cell]) = (symbol, doubt);
-            gives(SetCall::Add, &given, refusal, random, counts)?;
+            expect(SetCall::Add, &given, refusal, random, counts)?;
         }
         (given.lent.symbols[cell], given.lent.doubts[cell]) = (symbol, doubt);
     }
@@ -81,4 +79,19 @@ fn unflagged(given: SetArguments, random: &mut Random, counts: &mut Counts) -> R
         }
     }
     Ok(())
+}
+
+/// The call gives that number.
+fn expect(
+    call: SetCall,
+    given: &SetArguments,
+    expected: u32,
+    random: &mut Random,
+    counts: &mut Counts,
+) -> Result<(), String> {
+    let number = hold(call, given, random, counts)?.0.number;
+    match number == expected {
+        true => Ok(()),
+        false => Err(format!("{call:?} gave {number}, not {expected}; {given:?}")),
+    }
 }

@@ -1,6 +1,6 @@
 //! Votes in every way in which they can fall.
 
-use crate::suites::expect;
+use super::expect;
 use independent::{Code, Plan, Set, PHOTOGRAPHS, SET};
 use traymark_tests::counts::Counts;
 use traymark_tests::plans;

@@ -2,11 +2,10 @@
 use mathlib.Core.Path.{sym, ◌∙◌}
 use native.Mathlib.Omega.{arith}
 use Rattle.definitions.specs.Sets.{combine_symbols, combine_doubts, combined_symbols, combined_doubts}
-use Rattle.definitions.proofs.Refusals.{keeps, gives}
 use Rattle.definitions.proofs.Sound.{sound}
 use Rattle.definitions.proofs.Sets.{combine-refused}
 use Rattle.plan.proofs.Ready.{ready}
-use Rattle.sets.proofs.Refused.{combine-accepted}
+use Rattle.sets.proofs.Refused.{combine-accepted, keeps, gives}
 use borrow.Author.Rules.{rules}
 use Rattle.sets.proofs.combining.combine.Statement.{statement}
 use Rattle.sets.proofs.combining.combine.Tie as tie

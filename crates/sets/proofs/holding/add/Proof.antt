@@ -2,8 +2,7 @@
 use mathlib.Core.Path.{sym, ◌∙◌}
 use native.Mathlib.Omega.{arith}
 use Rattle.definitions.specs.Sets.{add_memory}
-use Rattle.definitions.proofs.Refusals.{keeps, gives}
-use Rattle.sets.proofs.Refused.{add-accepted}
+use Rattle.sets.proofs.Refused.{add-accepted, keeps, gives}
 use Rattle.sets.proofs.Memory.{put-photo}
 use borrow.Author.Rules.{rules}
 use Rattle.sets.proofs.holding.add.Statement.{statement}

@@ -3,8 +3,9 @@ use mathlib.Core.Path.{refl, ◌∙◌}
 use native.Mathlib.Omega.{arith}
 use borrow.Author.Tests.{lt-ltb, le-ltb}
 use Rattle.definitions.specs.Sets.{withdraw_memory}
-use Rattle.definitions.proofs.Refusals.{keeps, gives, equal, unequal, not-true, turned_true, ◌&◌}
+use Rattle.definitions.proofs.Refusals.{equal, unequal, not-true, turned_true, ◌&◌}
 use Rattle.definitions.proofs.Sets.{withdraw-at}
+use Rattle.sets.proofs.Refused.{keeps, gives}
 use Rattle.sets.proofs.Memory.{put-blank}
 use borrow.Author.Rules.{rules}
 use Rattle.sets.proofs.holding.withdraw.Statement.{statement}

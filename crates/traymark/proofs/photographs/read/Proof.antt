@@ -4,8 +4,8 @@ use mathlib.Core.Path.{◌≡◌, refl, sym, ◌∙◌}
 use mathlib.Core.Bool.{true}
 use Prim.Native.Nat.{ℕ, ◌≤◌}
 use lib.ListN.{length}
-use Rattle.definitions.specs.Plan.{plan_of}
 use Rattle.definitions.specs.Code.{oblong, cells}
+use Rattle.definitions.specs.Sets.{set_plan}
 use Rattle.definitions.proofs.Sound.{sound}
 use Rattle.plan.proofs.Ready.{ready}
 use Rattle.checks.proofs.Kind.{cells-said}
@@ -20,7 +20,7 @@ module _ (s : tie.After-cell-count) where
   abbrev count : ℕ
   count = s.cell-count.result
 
-  count-is : count ≡ cells oblong (plan_of s.before.before.before.before.before.before.before.args.set.now)
+  count-is : count ≡ cells oblong (set_plan s.before.before.before.before.before.before.before.args.set.now)
   count-is = s.cell-count.ensures ∙ cells-said true s.before.parse.ensures
 
   most : count ≤ 256

@@ -5,14 +5,13 @@ use Prim.Native.Nat.{ℕ}
 use native.Mathlib.Omega.{arith}
 use Rattle.bounded.specs.Bounded.{tab}
 use Rattle.votes.specs.Votes.{symbol_of, doubt_of}
-use Rattle.definitions.specs.Plan.{plan_of}
 use Rattle.definitions.specs.declared.Reading.{Reading}
 use Rattle.definitions.specs.Code.{oblong}
 use Rattle.definitions.specs.Reads.{Reads}
-use Rattle.definitions.specs.Sets.{column, combined_symbols, combined_doubts}
+use Rattle.definitions.specs.Sets.{set_plan, column, combined_symbols, combined_doubts}
 use Rattle.definitions.proofs.Sound.{cells-most}
 use Rattle.plan.proofs.Ready.{ready}
-use Rattle.traymark.proofs.Answer.{read-refuses, read-takes}
+use Rattle.traymark.proofs.Answer.{read-refuses, read_takes}
 use borrow.Author.Rules.{rules}
 use Rattle.traymark.proofs.photographs.read_by.Statement.{statement}
 use Rattle.traymark.proofs.photographs.read_by.Tie as tie
@@ -42,9 +41,9 @@ module _ (s : tie.After-cells) where
       s.cells.ensures.1 ∙ ap₂ (λ n f. tab n λ c. doubt_of f (column S c) 9) start.pre.2 Full-is
 
   -- a reading of what the buffers hold is that of the combination
-  of-set : (r : Reading) (b : List ℕ) → Reads oblong (plan_of S) s.cells.last.1.1.0 s.cells.last.1.1.1.0 B r b →
-      Reads oblong (plan_of S) (combined_symbols S) (combined_doubts S) B r b
-  of-set r b = same-photo (plan_of S) _ _ _ _ B b r symbols-are doubts-are
+  of-set : (r : Reading) (b : List ℕ) → Reads oblong (set_plan S) s.cells.last.1.1.0 s.cells.last.1.1.1.0 B r b →
+      Reads oblong (set_plan S) (combined_symbols S) (combined_doubts S) B r b
+  of-set r b = same-photo (set_plan S) _ _ _ _ B b r symbols-are doubts-are
 
 cells-requires : tie.Need-cells-requires
 cells-requires c κs =
@@ -65,7 +64,7 @@ returns-2 c =
     let test = read.before.before.before.before in
     let combined = test.before.before.before.before.before.before.before.before.before in
     let says = (start combined).requires.0 in
-    let taken = read-takes _ _ _ _ _ (test.before.photo-refusal.ensures _ says) test.if1.false in
+    let taken = read_takes _ _ _ _ _ (test.before.photo-refusal.ensures _ says) test.if1.false in
     let h = of-set combined _ _ (read.read-mark.ensures _ says taken) in
     (h.reading, h.buffer)
 
@@ -80,6 +79,6 @@ read-by-spec = tie.close (tie.spec
     let test = c.before.before.before in
     let combined = test.before.before.before.before.before.before.before.before.before in
     let says = (start combined).requires.0 in
-    (_, says, read-takes _ _ _ _ _ (test.before.photo-refusal.ensures _ says) test.if1.false))
+    (_, says, read_takes _ _ _ _ _ (test.before.photo-refusal.ensures _ says) test.if1.false))
     (λ c. search rules) (λ c. search rules) (λ c. search rules)
     returns-2)

@@ -3,7 +3,7 @@
 use mathlib.Core.Path.{sym, ◌∙◌}
 use Rattle.definitions.proofs.Sound.{sound}
 use Rattle.plan.proofs.Ready.{ready}
-use Rattle.traymark.proofs.Answer.{read-unsound, read-refuses, read-takes}
+use Rattle.traymark.proofs.Answer.{read-unsound, read-refuses, read_takes}
 use borrow.Author.Rules.{rules}
 use Rattle.traymark.proofs.read.traymark_read_mark.Statement.{statement}
 use Rattle.traymark.proofs.read.traymark_read_mark.Tie as tie
@@ -25,7 +25,7 @@ returns-3 c =
     let read = c.before.before in
     let test = read.before.before in
     let says = test.before.before.before.parse.ensures in
-    let taken = read-takes _ _ _ _ _ (test.before.photo-refusal.ensures _ says) test.if2.false in
+    let taken = read_takes _ _ _ _ _ (test.before.photo-refusal.ensures _ says) test.if2.false in
     let h = read.read-mark.ensures _ says taken in
     (h.reading, h.buffer)
 
@@ -41,6 +41,6 @@ traymark-read-mark-spec =
     returns-2
     (λ c κs. let checked = c.before.before in
     let says = checked.before.before.parse.ensures in
-    (_, says, read-takes _ _ _ _ _ (checked.photo-refusal.ensures _ says) c.before.if2.false))
+    (_, says, read_takes _ _ _ _ _ (checked.photo-refusal.ensures _ says) c.before.if2.false))
     (λ c. search rules)
     returns-3)

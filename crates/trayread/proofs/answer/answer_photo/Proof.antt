@@ -7,13 +7,13 @@ use native.Mathlib.Nat.{mul-le-mul, add-sub_cancel_left}
 use lib.ListN.{length, take, drop, replicate, length-replicate, length-drop}
 use lib.Seq.{take_all}
 use borrow.Author.Rules.{rules}
-use Rattle.definitions.specs.Plan.{plan_bytes, plan_of, season}
+use Rattle.definitions.specs.Plan.{plan_bytes, season}
 use Rattle.definitions.specs.Code.{oblong, size, cells}
 use Rattle.polynomial.specs.declared.Grid.{Grid}
 use Rattle.polynomial.specs.Fit.{Fit}
 use Rattle.polynomial.specs.Record.{start, longest}
 use Rattle.definitions.specs.Sound.{Sound}
-use Rattle.definitions.specs.Tray.{buffer_of, tray_reading, tray_record}
+use Rattle.definitions.specs.Tray.{plan_of, buffer_of, tray_reading, tray_record}
 use Rattle.definitions.specs.Printed.{tray_text}
 use Rattle.definitions.proofs.Plan.{plan-longest, mark_size_lem}
 use Rattle.definitions.proofs.Sound.{sound}
