@@ -1,5 +1,7 @@
 // What calls answer of a record: how many cells are unread, the class of a changed count, the margin, the readings that they
 // return, and what C is handed of a reason.
+#![tactic(auto)]
+
 ghost use Rattle.std.specs.Prelude.{◌≡◌, ◌≤◌, ◌<◌, length};
 ghost use Rattle.definitions.specs.Calls.{refused as refused_with};
 ghost use Rattle.definitions.specs.Explaining.{values_of};

@@ -1,1 +1,3 @@
 // Sums, tests and tables over the numbers below a bound: definitions in specs/, their laws in proofs/. No code.
+
+#![tactic(auto)]

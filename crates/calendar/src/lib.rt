@@ -1,4 +1,6 @@
 // Dates of the Gregorian calendar from 1900 to 2199: which are real, and a number that orders them.
+#![tactic(auto)]
+
 ghost use Rattle.std.specs.Prelude.{◌≡◌, true, ◌≤◌};
 ghost use Rattle.calendar.specs.Dates.{leap, short, days_in, real, key as key_of};
 

@@ -1,6 +1,8 @@
 // The refusals of writing, masking, measuring, reading and explaining under a sound plan, for marks (`mark`) and for strips, and
 // those of sets: one test for each row of document 01's table "What is returned", in its order. Records and buffers may be any
 // bytes of any length. A loop over cells looks at all of them, with no way out, so that it is vectorised.
+#![tactic(auto)]
+
 ghost use Rattle.std.specs.Prelude.{◌≡◌, not, ◌&&◌, ◌||◌, List, ℕ, eqb, ltb, leb, length};
 ghost use Rattle.polynomial.specs.Fit.{Fit};
 ghost use Rattle.definitions.specs.Refusals.{first};

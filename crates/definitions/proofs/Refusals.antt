@@ -99,6 +99,7 @@ first-at ((k when b) ∷ rows) (suc i) h = rw h.0 (first-at rows i h.1)
 -- the first row to apply, whatever the order of the numbers: 0 where none applies, else the number of one that does
 pub first-none : (rows : List Refusal) → Numbered rows → first rows ≡ 0 → (j : ℕ) → ¬ (Applies rows j)
 unfolding first
+first-none [] h e j a = elim a [ ]
 first-none ((zero when b) ∷ rows) h e j a = h
 first-none ((suc k when true) ∷ rows) h e j a = omega arith
 first-none ((suc k when false) ∷ rows) h e j (inl a) = false≢true a.1
@@ -124,6 +125,7 @@ module _ (order : List ℕ) where
       (leb-true m (rank order k) h.0, ltb-true (rank order k) (length order) i.0, i.1)
 
   ordered_after : (m : ℕ) (rows : List Refusal) → ordered m rows ≡ true → (j : ℕ) → Applies rows j → m ≤ rank order j
+  ordered_after m [] r j a = elim a [ ]
   ordered_after m ((k when b) ∷ rows) r j (inl a) = omega (arith, (in_order m k b rows r).0, ap (rank order) a.0)
   ordered_after m ((k when b) ∷ rows) r j (inr a) =
       let h = in_order m k b rows r in omega (arith, h.0, ordered_after (rank order k) rows h.2 j a)
@@ -131,6 +133,7 @@ module _ (order : List ℕ) where
   first-before : (m : ℕ) (rows : List Refusal) → ordered m rows ≡ true → (j : ℕ) → Applies rows j →
       rank order (first rows) ≤ rank order j
   unfolding first
+  first-before m [] r j a = elim a [ ]
   first-before m ((k when true) ∷ rows) r j (inl a) = le_of_eq (ap (rank order) a.0)
   first-before m ((k when true) ∷ rows) r j (inr a) = ordered_after (rank order k) rows (in_order m k true rows r).2 j a
   first-before m ((k when false) ∷ rows) r j (inl a) = absurd (false≢true a.1)

@@ -202,7 +202,12 @@ module _ (old wide : List ℕ) where
   module _ (e : length wide ≡ length old / narrow_bytes * plan_bytes) where
     file_number : widen_number old wide ≡ first (file_rows old)
     unfolding widen_number widen_rows first
-    file_number = rw (equal _ _ e)
+    file_number = rw (equal _ _ e) (go _ _)
+      where
+        go : (a b : Bool) → first ((11 when a) ∷ (11 when b) ∷ (6 when false) ∷ []) ≡ first ((11 when a) ∷ (11 when b) ∷ [])
+        go true b = refl
+        go false true = refl
+        go false false = refl
 
     pub print_widened : 0 ≡ widen_number old wide → widened_all old ≡ widen_text old
     unfolding widen_text

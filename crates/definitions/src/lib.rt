@@ -1,6 +1,8 @@
 // Documents 01 and 02 as definitions: read specs/ in the order of its Lib.antt. The code here is the types that the calls answer
 // with, the length of a plan, the layout of a set's memory, and the symbol of an unread cell.
 
+#![tactic(auto)]
+
 // What measuring and reading answer. Of a refusal all but the number is 0.
 #[repr(C)]
 #[derive(Drop)]

@@ -1,2 +1,4 @@
 // The weighted distance of a word from symbols with doubts.
+#![tactic(auto)]
+
 pub mod word;

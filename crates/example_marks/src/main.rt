@@ -2,6 +2,8 @@
 // a cell unread and another wrong, in season 12 and in season 30; a record beyond the radius; a half tray; and refusals 6 to 9.
 // Each line says what was asked, the number that was answered, and then the buffer or the reading; the file stdout has them as
 // worked out by hand.
+#![tactic(auto)]
+
 use definitions::Reading;
 use text::magnitude;
 use traymark::measure::{traymark_measure_mark, traymark_measure_strip};

@@ -1,6 +1,8 @@
 // The calls for season plans at work: plan A of document 01, then with one byte changed; a half tray; a plan file; and plan A of
 // the old form, widened. Each line says what was asked and the number that was answered; the file stdout has the numbers of the
 // documents, and the first plan of a season.
+#![tactic(auto)]
+
 ghost use Rattle.std.specs.Prelude.{◌<◌};
 
 use traymark::plans::{find_plan, traymark_check_plan, traymark_find_plan, traymark_widen_plans};

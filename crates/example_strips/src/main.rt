@@ -2,6 +2,8 @@
 // which as many count as the plan has rows, n. Each line says p, n and d, the number, the reading, and the record. The file stdin
 // has costs R - 1, R and R + 1, unread cells and doubts from 0 to the full doubt over several primes, in seasons before 30 and
 // from 30 on; the file stdout is what another decoder makes of it.
+#![tactic(auto)]
+
 ghost use Rattle.std.specs.Prelude.{◌≡◌, length};
 
 use traymark::read::traymark_read_strip;

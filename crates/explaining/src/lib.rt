@@ -1,5 +1,7 @@
 // Why a record that was expected did not come up, where nothing is refused: it is measured first, and where it costs the radius
 // or more the photograph is read.
+#![tactic(auto)]
+
 mod kind;
 mod place;
 

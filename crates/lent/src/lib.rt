@@ -1,4 +1,6 @@
 // Memory that the caller lends, as bytes: what is put into it, and where. Copying is `bytes::copy` of the kit.
+#![tactic(auto)]
+
 ghost use Rattle.std.specs.Prelude.{◌≡◌, length, replicate};
 
 // Writes v into all bytes of the part.

@@ -1,4 +1,6 @@
 // The mark or the strip of a record added to lent symbols where they stand, or taken off again, where nothing is refused.
+#![tactic(auto)]
+
 ghost use Rattle.std.specs.Prelude.{◌≡◌, cond, ◌⊎◌, List, ℕ, ◌-◌, ◌<◌, length};
 ghost use Rattle.bounded.specs.Bounded.{at, tab};
 ghost use Rattle.definitions.specs.Code.{code_of};

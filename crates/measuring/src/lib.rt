@@ -1,4 +1,6 @@
 // What a record costs against a photograph, and in how many cells its mark differs, where nothing is refused.
+#![tactic(auto)]
+
 ghost use Rattle.std.specs.Prelude.{◌≡◌, List, ℕ, ◌*◌, ◌≤◌, ◌<◌, length};
 ghost use Rattle.bounded.specs.Bounded.{at};
 ghost use Rattle.polynomial.specs.Record.{grid_value};

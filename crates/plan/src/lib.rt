@@ -1,5 +1,7 @@
 // The season plan, the 40 bytes of the first table: checking one, what a sound one says, finding one in a plan file. A plan may
 // be any bytes of any length. Its bytes are read here and nowhere else; everything above takes the struct that `parse` makes.
+#![tactic(auto)]
+
 ghost use Rattle.std.specs.Prelude.{◌≡◌, ◌&&◌, ◌||◌, cond, ◌+◌, ◌≤◌, ◌<◌, min, ltb, leb, length};
 ghost use Rattle.definitions.specs.Plan.{plan_bytes, unfit, misplaced, check_number};
 ghost use Rattle.definitions.specs.Cost.{full_in};

@@ -1,6 +1,8 @@
 // planwiden: reads plans of 24 bytes from standard input, at most 1,000, and writes them as plans of 40 bytes. Of a longer input,
 // or one that ends inside a plan, it prints REFUSED 11 and nothing else. Any bytes of any length get an answer, which `answer`
 // makes; here bytes come in and go out.
+#![tactic(auto)]
+
 mod answer;
 
 use answer::{ROOM, TEXT};

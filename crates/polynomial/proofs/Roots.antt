@@ -16,14 +16,14 @@ use Rattle.polynomial.proofs.Lead.{divide}
 
 -- w marks some of the first m points by 1
 module _ {q n : ℕ} {x : ℕ → ℕ} (ax : Apart q n x) where
-  pub roots : {k c : ℕ} {f : ℕ → ℕ} (m : ℕ) (w : ℕ → ℕ) → m ≤ n → Lead q n x k c f → ((j : ℕ) → j < m → w j ≤ 1) →
+  pub roots : (m : ℕ) {k c : ℕ} {f : ℕ → ℕ} (w : ℕ → ℕ) → m ≤ n → Lead q n x k c f → ((j : ℕ) → j < m → w j ≤ 1) →
       ((j : ℕ) → j < m → w j ≢ 0 → Cong q (f j) 0) → k < sum m w → Cong q c 0 × Agree q n f (λ j. 0)
   roots zero w i F b z s = absurd (omega arith)
   roots (suc m) w i (con h) b z s = elim (ℕ_discrete (w m) 0) [
     | yes e ↦ roots m w (omega arith) (con h) (λ j l. b j (omega arith)) (λ j l. z j (omega arith)) (omega arith)
     | no e ↦ let t = ~sym (h m i) ⨾ z m (omega arith) e in (t, λ j l. h j l ⨾ t)
   ]
-  roots {f} (suc m) w i (up {k} a G h) b z s = elim (ℕ_discrete (w m) 0) [
+  roots (suc m) {f} w i (up {k} a G h) b z s = elim (ℕ_discrete (w m) 0) [
     | yes e ↦ roots m w (omega arith) (up a G h) (λ j l. b j (omega arith)) (λ j l. z j (omega arith)) (omega arith)
     | no e ↦
         let (g, D, d) = divide k m i (up a G h) in

@@ -1,3 +1,5 @@
 // The strip decoder: Reed-Solomon codes with doubts.
+#![tactic(auto)]
+
 pub mod axis;
 pub mod decoder;

@@ -1,6 +1,8 @@
 // Text put into a lent buffer, piece after piece: each function puts its bytes from `at` on, changes no other byte, and returns
 // the place after them. The caller sees to it that they fit. The lines that more than one program prints are here. And the part
 // of a room that holds what a program read.
+#![tactic(auto)]
+
 ghost use Rattle.std.specs.Prelude.{◌≡◌, [], ◌∷◌, ◌+◌, ◌*◌, ◌≤◌, ◌<◌, nat_abs, length, take};
 ghost use Rattle.definitions.specs.Printed.{digit, decimal, signed, spaced, costs, record_line, number_line, refused_line};
 ghost use Rattle.text.specs.Put.{Put};

@@ -3,6 +3,8 @@
 //     READ 12 2 0 1 400 200      season, changed, unread, class, D, margin
 //     RECORD 3 1 2               the coefficients in order
 // or one, as REFUSED 10. Any bytes of any length get an answer, which `answer` makes; here bytes come in and go out.
+#![tactic(auto)]
+
 mod answer;
 mod lines;
 

@@ -3,6 +3,8 @@
 //     30
 //     REFUSED 16
 // Any bytes of any length get an answer, which `answer` makes; here bytes come in and go out.
+#![tactic(auto)]
+
 mod answer;
 mod date;
 

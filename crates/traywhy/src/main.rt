@@ -6,6 +6,8 @@
 //     NONE 37                no record is within the radius: D of the expected record less the radius
 //     REFUSED 9
 // Any bytes of any length get an answer, which `answer` makes; here bytes come in and go out.
+#![tactic(auto)]
+
 mod answer;
 mod lines;
 

@@ -1,5 +1,7 @@
 // One cell of nine photographs, of which any may be unread there or not held at all: the symbol with most votes, and its doubt.
 // Every function looks at all nine, with no way out and nothing asked before a load, so that a loop over cells is vectorised.
+#![tactic(auto)]
+
 ghost use Rattle.std.specs.Prelude.{◌≡◌, cond, ℕ, ◌*◌, ◌-◌, ◌/◌, ◌≤◌, ◌<◌, max, eqb};
 ghost use Rattle.bounded.specs.Bounded.{at, tab};
 ghost use Rattle.votes.specs.Votes.{votes as votes_for, cast as cast_in, most as most_of, symbol_of, doubt_of};

@@ -1,4 +1,6 @@
 // Plans of document 01's old form, 24 bytes each, turned into plans of 40 bytes. No plan is checked.
+#![tactic(auto)]
+
 ghost use Rattle.std.specs.Prelude.{◌≡◌, ◌*◌, ◌/◌, ◌<◌, length};
 ghost use Rattle.bounded.specs.Bounded.{at};
 ghost use Rattle.definitions.specs.Widening.{widened, widened_all, widen_number, widen_buffer};

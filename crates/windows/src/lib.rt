@@ -1,4 +1,6 @@
 // Season windows: which season a date is in, by a window file. The file may be any bytes of any length, the date any numbers.
+#![tactic(auto)]
+
 ghost use Rattle.std.specs.Prelude.{◌≡◌, ◌+◌, ◌*◌, ◌≤◌, ◌<◌, length};
 ghost use Rattle.bounded.specs.Bounded.{any, index};
 ghost use Rattle.calendar.specs.Calendar.{date};

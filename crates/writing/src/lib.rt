@@ -1,4 +1,6 @@
 // The mark or the strip of a record, written into a lent buffer where nothing is refused.
+#![tactic(auto)]
+
 ghost use Rattle.std.specs.Prelude.{◌≡◌, List, ℕ, ◌*◌, length};
 ghost use Rattle.bounded.specs.Bounded.{at, tab};
 ghost use Rattle.polynomial.specs.Record.{grid_value};
