@@ -18,7 +18,7 @@ help:
 	@sed -n 's/^## \{0,1\}//p' Makefile
 
 # What a proof reads: the files of crates, and the toolchain. Make goes by their times, rt by what is in them.
-read_by = $(shell find $(1) -path '*/must-fail' -prune -o -type f -print) crates.txt $(shell command -v rt)
+read_by = $(shell find $(1) \( -name must-fail -o -name out \) -prune -o -type f -print) crates.txt $(shell command -v rt)
 LIBRARIES = $(patsubst %/src/lib.rt,%,$(wildcard crates/*/src/lib.rt))
 
 ## make example         4 min         1 s             reads a tray end to end by the program: case c of document 01, with its plan
@@ -37,32 +37,24 @@ example: program
 
 ## make program         4 min         1 s             the proved programs, in target/bin: trayread, traywhy, planwiden and
 ##                                                    trayseason
-program: target/stamp/trayread target/stamp/traywhy target/stamp/planwiden target/stamp/trayseason
+program: target/bin/trayread target/bin/traywhy target/bin/planwiden target/bin/trayseason
 
-# rt writes these stamps once a program is proved, has run, and has printed what its file stdout has.
-target/stamp/trayread: $(call read_by,$(LIBRARIES) crates/trayread)
-	rt check trayread
-	touch $@
-
-target/stamp/traywhy: $(call read_by,$(LIBRARIES) crates/traywhy)
-	rt check traywhy
-	touch $@
-
-target/stamp/planwiden: $(call read_by,$(LIBRARIES) crates/planwiden)
-	rt check planwiden
-	touch $@
-
-target/stamp/trayseason: $(call read_by,$(LIBRARIES) crates/trayseason)
-	rt check trayseason
-	touch $@
+# A program is proved and built by the run that its own crate's input gets, and taken once it has printed what its file stdout
+# has.
+target/bin/%: $(call read_by,$(LIBRARIES) $(wildcard crates/tray*/src crates/planwiden/src))
+	mkdir -p target/bin
+	cd crates/$* && rt run -- $$(cat args 2> /dev/null) < stdin > ../../target/$*.printed
+	diff crates/$*/stdout target/$*.printed
+	cp crates/$*/out/$* $@
 
 ## make lib             4 min         1 s             the proved library for C and Rust: target/staticlib/libtraymark.a
 lib: target/staticlib/libtraymark.a
 
-# After `rt ci` this proves the crate traymark once more, and only that: an archive is built by the run that proves its crate as
-# one. The toolchain takes neither the crate's rlib nor a check of it as a library of other crates in the place of that proof.
+# A crate is a library or a static library: traymark_c is the static library, thin over traymark, and has the archive's old name.
 target/staticlib/libtraymark.a: $(call read_by,$(LIBRARIES))
-	rt staticlib traymark
+	mkdir -p target/staticlib
+	cd crates/traymark_c && rt lib
+	cp crates/traymark_c/out/libtraymark_c.a $@
 
 ## make tests           6 min         80 s            the calls and the programs against an independent decoder and calendar,
 ##                                                    from Rust and C; the wrapper's and their own tests, the benchmark's
@@ -89,11 +81,10 @@ tests: lib program
 bench: lib
 	$(CARGO) run --quiet --release -p traymark-bench
 
-## make quick           1 s           1 s             what needs no proof: layout, lines of at most 130 columns, that files of
+## make quick           1 s           1 s             what needs no proof: lines of at most 130 columns, that files of
 ##                                                    laws open with their laws, that what the documents name is there, and
 ##                                                    that each exported contract is there and asks nothing
 quick:
-	rt fmt --check
 	tools/columns
 	tools/heads
 	tools/index
@@ -107,10 +98,11 @@ wrong-programs:
 
 ## make test            20 to 25 min  the same        THE GATE: `quick`, every proof from nothing, every wrong program, which
 ##                                                    must be refused, and `tests`; its last line is 'N passed, 0 failed'
-# `rt ci` removes target/ first, so .verdict stands beside it.
-# Four proofs at a time, also on two processors: rt waits for the whole batch before it begins the next.
+# An edit that is bad, since its text fits nothing or can't be read, shows nothing of a contract: it fails the gate too.
 test: quick
-	RT_JOBS=4 rt ci 2>&1 | tee .verdict
+	mkdir -p target
+	rt ci 2>&1 | tee .verdict
+	! grep '^rt: ok.*, [0-9]* bad' .verdict
 	tools/wrong-programs > target/WRONG-PROGRAMS.md
 	diff -u docs/WRONG-PROGRAMS.md target/WRONG-PROGRAMS.md \
 	|| { echo 'docs/WRONG-PROGRAMS.md is not what the prover said: make wrong-programs writes it anew'; exit 1; }

@@ -2,7 +2,7 @@
 --
 --   margin-fits   it fits
 --   margin-is     it is the margin
---   read-back     bits that keep a number are read back as it
+--   read_back     bits that keep a number are read back as it
 --
 -- What this file is for: the margin R - D. Assumes nothing.
 use mathlib.Core.Path.{◌≡◌}
@@ -41,4 +41,4 @@ module _ (a b : ℕ) (i : a < 2147483648) (l : b < 2147483648) where
 
 -- a signed value that was kept as bits is read back
 pub read_back : (z : ℤ) → mag z < 2 ^ 31 → to_z w32 (of_z w32 z) ≡ z
-read_back z h = to_z-of_z (record { sfits = h })
+read_back z h = to_z-of_z {w = w32} (record { sfits = h })

@@ -43,7 +43,8 @@ row_in r a n h = omega (arith, mul-le-mul_right n h, suc-mul r n)
 
 -- the part from r * n on has come back with row r in it
 pub row_more : (n r : ℕ) (f : ℕ → ℕ) (d mark last : List ℕ) → mark ≡ tab (r * n) f ++ drop (r * n) d →
-    last ≡ tab n (λ j. f (r * n + j)) → put_mid (r * n) (r * n + n - r * n) mark last ≡ tab ((r + 1) * n) f ++ drop ((r + 1) * n) d
+    last ≡ tab n (λ j. f (r * n + j)) →
+    put_mid (r * n) (r * n + n - r * n) mark last ≡ tab ((r + 1) * n) f ++ drop ((r + 1) * n) d
 row_more n r f d mark last e h =
     rw (
       e,

@@ -6,7 +6,7 @@
 --   test_at, number_at rows i      the test and the number of row i
 --   first-clear                   where the number is 0 every test is false
 --   Stops rows i, first-at        the tests before row i are false and its own is true; then its number is the first
---   _&_                           pairs to the right, as `Stops` has them
+--   ◌&◌                           pairs to the right, as `Stops` has them
 --   first-none, first-applies     0 where no row applies, else the number of one that does
 --   ordered order k rows, first_earliest
 --                                 where the numbers stand in an order, from the k-th on, it is the earliest

@@ -15,6 +15,6 @@ use Rattle.definitions.specs.Sets.{combine_rows, combine_number, combine_symbols
 use Rattle.definitions.specs.SetCases.{effect, asks, given, set_cases}
 
 pub set_cases_hold : map effect (map asks set_cases) ≡ map given set_cases
-unfolding effect any first is_prime plan_rows check_number full start_memory add_rows add_number add_memory withdraw_number withdraw_memory
-    combine_rows combine_number combine_symbols combine_doubts blank
+unfolding effect any first is_prime plan_rows check_number full start_memory add_rows add_number add_memory withdraw_number
+    withdraw_memory combine_rows combine_number combine_symbols combine_doubts blank
 set_cases_hold = refl

@@ -223,7 +223,8 @@ long_text input l = rw (lt-ltb _ _ l)
 
 pub room-widened : (input room : List ℕ) (came : ℕ) → most_plans * narrow_bytes < length room → HoldsFirst input room came →
     widen_text (take came room) ≡ widen_text input
-room-widened = room_decides widen_text 0 (most_plans * narrow_bytes) (omega arith) λ a b _ l m. long_text a l ∙ sym (long_text b m)
+room-widened =
+    room_decides widen_text 0 (most_plans * narrow_bytes) (omega arith) λ a b _ l m. long_text a l ∙ sym (long_text b m)
 
 pub prints_exactly : (input : List ℕ) → PrintsExactly input
 unfolding widen_text first

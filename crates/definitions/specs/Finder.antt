@@ -5,7 +5,7 @@
 --   find_rows, find_number        refusals 11 and 12; 0 where neither applies
 --   find_offset                   where the first plan of the season begins in the file, and 0 on a refusal
 --   find_bytes                    its bytes, and none on a refusal
---   address_at                    the address at an offset in what is lent; at `find_offset` lies the part that Rattle callers get
+--   address_at                    the address at an offset in what is lent; at `find_offset` lies what Rattle callers get
 --
 -- What this file is for: the contracts of the finder, for Rattle and for C, are equalities with these. The season bytes alone are
 -- compared; the plan is not checked.

@@ -31,7 +31,8 @@ tray_reading input =
     read_reading oblong (plan_of input) (symbols_of plan_bytes input) (doubts_of plan_bytes input) (buffer_of input)
 
 unfoldable pub tray_record : List ℕ → List ℕ
-tray_record input = read_buffer oblong (plan_of input) (symbols_of plan_bytes input) (doubts_of plan_bytes input) (buffer_of input)
+tray_record input =
+    read_buffer oblong (plan_of input) (symbols_of plan_bytes input) (doubts_of plan_bytes input) (buffer_of input)
 
 abbrev pub longest : ℕ
 longest = plan_bytes + 256 + 256

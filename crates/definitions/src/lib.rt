@@ -5,7 +5,7 @@
 
 // What measuring and reading answer. Of a refusal all but the number is 0.
 #[repr(C)]
-#[derive(Drop)]
+#[derive(Clone, Copy)]
 pub struct Reading {
     // 0, or the refusal of the table "What is returned"
     pub number: u32,
@@ -22,7 +22,7 @@ pub struct Reading {
 }
 
 // What explaining answers: why the record that was expected did not come up, or that it did.
-#[derive(Drop)]
+#[derive(Clone, Copy)]
 pub enum Reason {
     // the refusal of the table "What is returned": its number
     Refused(u32),
@@ -36,7 +36,7 @@ pub enum Reason {
 
 // The same for C, which is handed no enum; there it is `traymark_reason`. What a case does not give is 0.
 #[repr(C)]
-#[derive(Drop)]
+#[derive(Clone, Copy)]
 pub struct Explanation {
     // 0, or the refusal
     pub number: u32,
