@@ -1,8 +1,6 @@
 -- The difference of two numbers below 2^31, kept in an i32.
 --
---   margin-fits   it fits
---   margin-is     it is the margin
---   read_back     bits that keep a number are read back as it
+--   margin-is   it is the margin
 --
 -- What this file is for: the margin R - D. Assumes nothing.
 use mathlib.Core.Path.{◌≡◌}
@@ -10,7 +8,7 @@ use mathlib.Core.Bool.{Bool, true, false, cond}
 use Prim.Native.Nat.{ℕ, zero, suc, ◌-◌, ◌<◌, ◌^◌}
 use native.Mathlib.Omega.{arith}
 use lib.Dec.{ltb}
-use lib.IntN.{ℤ, pos, negsuc, ◌-ℤ◌}
+use lib.IntN.{pos, negsuc, ◌-ℤ◌}
 use lib.Signed.{mag}
 use mir.Syntax.{w32}
 use mir.Val.{SFits, to_z, of_z}
@@ -30,15 +28,7 @@ module _ (a b : ℕ) (i : a < 2147483648) (l : b < 2147483648) where
   signed : to_z w32 a -ℤ to_z w32 b ≡ pos a -ℤ pos b
   signed = rw (to_z_pos w32 {n = a} (omega arith), to_z_pos w32 {n = b} (omega arith))
 
-  -- what the subtraction asks
-  pub margin-fits : SFits w32 (to_z w32 a -ℤ to_z w32 b)
-  margin-fits = rw signed (difference-fits a b i l)
-
-  -- what it gives
+  -- what the subtraction gives
   pub margin-is : to_z w32 (of_z w32 (to_z w32 a -ℤ to_z w32 b)) ≡ margin a b
   unfolding margin
   margin-is = rw signed (to_z-of_z (difference-fits a b i l))
-
--- a signed value that was kept as bits is read back
-pub read_back : (z : ℤ) → mag z < 2 ^ 31 → to_z w32 (of_z w32 z) ≡ z
-read_back z h = to_z-of_z {w = w32} (record { sfits = h })

@@ -39,7 +39,8 @@ row-zeros z = row_of z refl λ j k. rw (get_or-replicate {A = ℕ} 16 j 0 0 k) z
 -- a place of each of some rows
 pub column-row : {p : ℕ} {rows : List (List ℕ)} {l : List ℕ} (t : ℕ) → 0 < p → Rows p rows → l ≡ row (λ r. cell_at rows r t) →
     Row p l
-column-row {rows} t z R e = rw e (row_of z (length-tab 16 _) λ r k. rw (row_at (λ r. cell_at rows r t) r k) ((R.done r k).small t))
+column-row {rows} t z R e =
+    rw e (row_of z (length-tab 16 _) λ r k. rw (row_at (λ r. cell_at rows r t) r k) ((R.done r k).small t))
 
 pub positive : {g : Grid} → Fit g → 0 < g.p
 positive f = omega (arith, f.prime.least)

@@ -14,7 +14,7 @@ use polynomial::Grid;
 use reed_solomon::axis::Axis;
 
 // A line's message and its cost. The line hands on the message's leading coefficient, with the cost for its doubt.
-#[derive(Drop)]
+#[derive(Clone, Copy)]
 pub struct Line {
     pub message: [u16; 16],
     pub cost: u32,

@@ -1,3 +1,2 @@
 -- What the proofs share.
-pub mod Shift
 pub mod Cells

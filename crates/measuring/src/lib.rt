@@ -52,7 +52,7 @@ pub fn measure_strip(plan: Plan, record: &[u8], symbols: &[u8], doubts: &[u8]) -
 }
 
 // The cost of some cells, and how many of them differ from the record's mark, as an unread cell does.
-#[derive(Drop)]
+#[derive(Clone, Copy)]
 struct Tally {
     cost: u32,
     differing: u32,

@@ -2,7 +2,6 @@
 --
 --   low, high       a number compared with what a function has answered
 --   spare-reached   bytes 38 and 39
---   fit-most        a side that is not unfit has at most sixteen points
 --   wrong_pair      byte i of the sixteen from byte a on, by its own value and that of the byte after it
 --   pairs_tell      one is wrong so exactly where a point is misplaced
 --
@@ -21,10 +20,10 @@ use Rattle.bounded.proofs.Any.{any_none, none_any}
 use Rattle.bounded.proofs.Parts.{neither, nor}
 use Rattle.bounded.proofs.Part.{part_any}
 use Rattle.field.specs.Word.{reached}
-use Rattle.definitions.specs.Plan.{plan_bytes, modulus, filled, unfit, misplaced}
+use Rattle.definitions.specs.Plan.{plan_bytes, modulus, filled, misplaced}
 use Rattle.definitions.specs.Sound.{PointsFrom}
 use Rattle.definitions.proofs.Refusals.{answered}
-use Rattle.definitions.proofs.Sound.{fits, placed, in_place}
+use Rattle.definitions.proofs.Sound.{placed, in_place}
 
 pub low : {r m x : ℕ} → r ≡ m → r ≤ x → leb m x ≡ true
 low {m} {x} e h = le-leb m x (omega arith)
@@ -35,9 +34,6 @@ high {m} {x} e h = lt-leb m x (omega arith)
 pub spare-reached : (P : List ℕ) {r t : Bool} → length P ≡ plan_bytes → r ≡ reached 1 (take (40 - 38) (drop 38 P)) → r ≡ t →
     filled P 38 2 ≡ t
 spare-reached P l e = answered (e ∙ part_any 38 2 P (leb 1) (omega arith))
-
-pub fit-most : (p n : ℕ) {r : Bool} → r ≡ unfit p n → r ≡ false → n ≤ 16
-fit-most p n e h = (fits p n (answered e h)).most
 
 -- byte i of the sixteen from byte a on is not below its limit, or the next one is a point too and not above it
 abbrev pub wrong_pair : List ℕ → (a n i : ℕ) → Bool

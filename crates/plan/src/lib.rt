@@ -15,7 +15,7 @@ use field::rows::reciprocal;
 use polynomial::Grid;
 
 // What a sound plan says. Its marks are on the grid, its strips over the grid's row points; the places beyond the points are 0.
-#[derive(Drop)]
+#[derive(Clone, Copy)]
 pub struct Plan {
     pub season: u16,
     pub grid: Grid,

@@ -8,7 +8,7 @@ pub mod limit;
 
 // The grid of a mark: a row points x and b column points y modulo p, the total degree d and the full doubt, that of a cell of
 // which nothing is known. X takes the row point, Y the column point. m is the reciprocal of p (crate `field`).
-#[derive(Drop)]
+#[derive(Clone, Copy)]
 pub struct Grid {
     pub p: u16,
     pub m: u16,

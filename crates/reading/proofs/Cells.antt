@@ -79,7 +79,8 @@ pub differing_more : (n r : ℕ) (s : List ℕ) (left : List (List ℕ)) {k : �
     k ≡ hamming (length (part n r s)) (λ c. flag (at (part n r s) c) (cell_at left r c)) (λ _. 0) →
     differing_cells (r + 1) n s left ≡ differing_cells r n s left + k
 differing_more n r s left h e = sum_more r _ ∙ ap (λ k. differing_cells r n s left + k)
-    (sum-eq n (λ c m. ap (λ v. cond (eqb (flag v (cell_at left r c)) 0) 0 1) (cell_at_lem n s r c m ∙ sym (part_at (r * n) n s c m)))
+    (sum-eq n (λ c m.
+    ap (λ v. cond (eqb (flag v (cell_at left r c)) 0) 0 1) (cell_at_lem n s r c m ∙ sym (part_at (r * n) n s c m)))
     ∙ sym (e ∙ ap (λ m. hamming m (λ c. flag (at (part n r s) c) (cell_at left r c)) (λ _. 0)) (part_length (r * n) n s h)))
 
 -- a cell differs where its flag is set: its value v and what is left of it make its residue

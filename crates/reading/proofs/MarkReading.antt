@@ -66,7 +66,8 @@ module _ {P : List ℕ} (S : Sound P) where
   record-cost s u x y s' u' ex ey loaded F h e =
       sum-eq (rows P * columns P)
       (λ c _. ap (cell (full P) (at s c) (at u c)) (value_cell (modulus P) (degree P) F (side P) (point P) c))
-      ∙ ap (λ p. cost (full P) (cells oblong P) (at s) (at u) (grid_value p (degree P) (columns P) (row_point P) (column_point P) F))
+      ∙ ap (λ p. cost (full P) (cells oblong P) (at s) (at u)
+      (grid_value p (degree P) (columns P) (row_point P) (column_point P) F))
       (sym (plan-modulus S))
       ∙ flat_cost (modulus P - 1) (full P) (rows P) (columns P) (degree P) (row_point P) (column_point P) s u F
       ∙ grid-same (modulus P - 1) (full P) (rows P) (columns P) (degree P) s u ex ey loaded e

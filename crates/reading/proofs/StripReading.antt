@@ -58,7 +58,8 @@ module _ (P s u B : List ℕ) (clear : first (photo_rows strip P s u B) ≡ 0) {
   photo : Photograph strip P s u
   photo = accepted-photo strip P s u B clear
 
-  cost_of_lem : (F : List ℕ) → cost_of strip P s u F ≡ cost (full P) (rows P) s' u' (values (modulus P - 1) (suc (degree P)) (at F) x)
+  cost_of_lem : (F : List ℕ) →
+      cost_of strip P s u F ≡ cost (full P) (rows P) s' u' (values (modulus P - 1) (suc (degree P)) (at F) x)
   cost_of_lem F = record-cost photo.sound s u x s' u' points loaded F
 
   pub strip-none : found ≡ false → Reads strip P s u B (refused 10) B

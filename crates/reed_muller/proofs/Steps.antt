@@ -25,7 +25,7 @@ use Rattle.bounded.specs.Bounded.{at}
 use Rattle.bounded.proofs.Tab.{length-tab}
 use Rattle.field.specs.Congruence.{Cong}
 use Rattle.field.specs.Row.{row}
-use Rattle.field.proofs.Congruence.{same, ◌⨾◌, less}
+use Rattle.field.proofs.Congruence.{same, ◌⨾◌}
 use Rattle.field.proofs.Loop.{upto_put}
 use Rattle.field.proofs.Row.{row_at, result_cong}
 use Rattle.polynomial.specs.Eval.{eval}
@@ -37,7 +37,6 @@ use Rattle.reed_solomon.specs.declared.decoder.Decoded as Strip
 use Rattle.reed_solomon.specs.Axis.{Received}
 use Rattle.reed_solomon.specs.Decoded.{StripDecoded}
 use Rattle.grid.specs.Line.{HandsOn}
-use Rattle.grid.specs.Cost.{lines}
 use Rattle.grid.specs.Axes.{DoubtRows, line_axis, strip_axis}
 use Rattle.grid.specs.Loops.{line, cell_at}
 use Rattle.grid.specs.Answers.{unknown, Answer, kept, KnownRows, AnsweredRows}

@@ -13,7 +13,7 @@ use polynomial::{Grid, bivariate, evaluation, limit};
 use reed_solomon::axis::Axis;
 
 // What a step gives: the coefficients of Y^t by rising power of X, and the costs of the lines whose answers are kept.
-#[derive(Drop)]
+#[derive(Clone, Copy)]
 pub struct Column {
     pub message: [u16; 16],
     pub known: [u32; 16],

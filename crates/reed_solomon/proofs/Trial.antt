@@ -11,8 +11,7 @@
 --                       many as it, and where what the second pair tells costs the radius
 --   enough-usable       the usable cells are enough to go through
 --   tried_usable        a trial at k + 1 of them is a trial at all of them
---   received_doubts, enough_all
---                       the doubts of a strip are small enough for keys, and all its cells have one
+--   enough_all          all cells of a strip have keys
 --   refuted_rest, found-rest
 --                       what a failed and what a successful measure of Newton's polynomial says
 --
@@ -37,7 +36,6 @@ use Rattle.field.specs.Row.{row}
 use Rattle.field.proofs.Congruence.{same, ~sym, ◌⨾◌, remainder, below_eq, cancel, mod_cong, cong_mod}
 use Rattle.field.proofs.Row.{row_at, beyond}
 use Rattle.distance.specs.Cost.{cell, cost}
-use Rattle.distance.specs.Doubts.{Doubts}
 use Rattle.polynomial.specs.Eval.{eval}
 use Rattle.polynomial.specs.Lead.{Lead}
 use Rattle.polynomial.proofs.Eval.{eval_lead}
@@ -231,10 +229,6 @@ module _ {g : Axis} {s u : List ℕ} {t : Pairs} (R : Received g s u) (H : Holds
       pub tried_usable : {f : Newton} {r : Decoded} → FitsOn g s l f → Tried g s u f.entered r → Tried g s u t.entered r
       tried_usable fit (hit D) = hit D
       tried_usable fit (miss N D) = miss N (refuted_usable fit D)
-
--- the doubts are small enough for keys
-pub received_doubts : {g : Axis} {s u : List ℕ} → Received g s u → (g.n ≤ 16) × Doubts 65535 g.n (at u)
-received_doubts R = (R.axis.most, λ j l. omega (arith, R.doubts j l, R.axis.full))
 
 -- all cells have keys
 pub enough_all : {g : Axis} {s u l : List ℕ} → Received g s u → l ≡ row (λ j. key g.n (at u j) j) →

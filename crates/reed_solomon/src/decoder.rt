@@ -20,7 +20,7 @@ use welch_berlekamp::newton::Newton;
 use welch_berlekamp::{interpolation, newton, order};
 
 // Of an answer that there is none, all else is 0.
-#[derive(Drop)]
+#[derive(Clone, Copy)]
 pub struct Decoded {
     pub message: [u16; 16],
     pub values: [u16; 16],

@@ -24,8 +24,8 @@ use Rattle.definitions.specs.Plan.{modulus, check_number}
 use Rattle.definitions.specs.Code.{oblong, cells}
 use Rattle.definitions.specs.Cost.{full}
 use Rattle.definitions.specs.Sound.{Sound}
-use Rattle.definitions.specs.Sets.{set_plan, flag, held, started, added, withdrawn, start_memory, add_tests, add_number, add_memory}
-use Rattle.definitions.specs.Sets.{withdraw_rows, withdraw_number, withdraw_memory, combine_number, set_number}
+use Rattle.definitions.specs.Sets.{set_plan, flag, held, started, added, withdrawn, start_memory, add_tests, add_number}
+use Rattle.definitions.specs.Sets.{add_memory, withdraw_rows, withdraw_number, withdraw_memory, combine_number, set_number}
 use Rattle.definitions.specs.Histories.{Holding, empty, with, Call, start, add, withdraw, combine, read, after, keeps, run, kept}
 use Rattle.definitions.specs.Histories.{flag_of, memory, Stored, Holds, Fits, AddsExactly, WithdrawsExactly}
 use Rattle.definitions.proofs.Refusals.{test_at, first-clear, Stops, number_at, first-at, ◌&◌, equal, unequal, holds, not-true}
@@ -167,6 +167,7 @@ pub holds_after : (c : List Call) (H : Holding) (S : List ℕ) → Holds H S →
 holds_after [] H S h = h
 holds_after (c ∷ l) H S h = holds_after l (keeps c S H) (after c S) (step h c)
 
-pub holds-from : (P S : List ℕ) → Sound P → (c : List Call) → Holds (kept c (start_memory P S) (empty P)) (run c (start_memory P S))
+pub holds-from : (P S : List ℕ) → Sound P → (c : List Call) →
+    Holds (kept c (start_memory P S) (empty P)) (run c (start_memory P S))
 unfolding start_memory
 holds-from P S d c = holds_after c (empty P) (start_memory P S) (rw (checked P d) (starts d))

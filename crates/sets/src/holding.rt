@@ -16,7 +16,7 @@ pub fn start(set: &mut [u8], plan: &[u8]) -> u32
     if number != 0 {
         return number;
     }
-    bytes::copy(plan, &mut set[0..FLAGS]);
+    set[0..FLAGS].copy_from_slice(plan);
     fill(&mut set[FLAGS..PLACES], 0);
     fill(&mut set[PLACES..SET_BYTES], UNREAD);
     0
@@ -35,7 +35,7 @@ pub fn add(set: &mut [u8], k: u32, symbols: &[u8], doubts: &[u8]) -> u32
     }
     let at = PLACES + k as usize * PLACE_BYTES;
     let end = at + symbols.len();
-    bytes::copy(symbols, &mut set[at..end]);
+    set[at..end].copy_from_slice(symbols);
     set[FLAGS + k as usize] = 1;
     0
 }

@@ -57,7 +57,8 @@ use Rattle.definitions.specs.Plan.{plan_bytes, season, rows, columns, degree, pl
 use Rattle.definitions.specs.Code.{Code, oblong, size, cells, value, mark, IsRecord}
 use Rattle.definitions.specs.Cost.{full}
 use Rattle.definitions.specs.Calls.{photo_rows, reading_of, write_rows, write_number, write_buffer}
-use Rattle.definitions.specs.Calls.{measure_rows, measure_number, measure_reading, read_rows, read_number, read_reading, read_buffer}
+use Rattle.definitions.specs.Calls.{measure_rows, measure_number, measure_reading}
+use Rattle.definitions.specs.Calls.{read_rows, read_number, read_reading, read_buffer}
 use Rattle.definitions.specs.Masking.{on, off, mask_rows, mask_number, mask_buffer}
 use Rattle.definitions.specs.Masks.{Added, plus, MaskedReads, MaskExactly, Masked, Undone}
 use Rattle.votes.specs.Majority.{Majority}

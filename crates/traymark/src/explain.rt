@@ -53,10 +53,9 @@ pub fn explain_strip(
     explain(false, plan, record, symbols, doubts, other)
 }
 
-// `explain_mark` for C, which is handed no enum: number 0 with reason 1, 2 or 3, in the order above, and with its place or
-// excess; or the number of the refusal with reason 0. What a case does not give is 0.
-#[unsafe(no_mangle)]
-pub extern "C" fn traymark_explain_mark(
+// `explain_mark` for `traymark_c`, since C is handed no enum: number 0 with reason 1, 2 or 3, in the order above, and with its
+// place or excess; or the number of the refusal with reason 0. What a case does not give is 0.
+pub fn traymark_explain_mark(
     plan: &[u8],
     record: &[u8],
     symbols: &[u8],
@@ -71,9 +70,8 @@ pub extern "C" fn traymark_explain_mark(
     answers::values(explain(true, plan, record, symbols, doubts, other))
 }
 
-// `explain_strip` for C.
-#[unsafe(no_mangle)]
-pub extern "C" fn traymark_explain_strip(
+// `explain_strip` for `traymark_c`.
+pub fn traymark_explain_strip(
     plan: &[u8],
     record: &[u8],
     symbols: &[u8],

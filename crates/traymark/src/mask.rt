@@ -3,8 +3,8 @@ ghost use Rattle.std.specs.Prelude.{◌≡◌};
 ghost use Rattle.definitions.specs.Code.{strip, oblong, code_of};
 ghost use Rattle.definitions.specs.Masking.{on, off as taken_off, way_of, mask_number, mask_buffer};
 
-// Adds the mark of a record to lent symbols where they stand, from Rattle and from C. `plan` and `record` are any bytes of any
-// length, and are only read; `symbols` is a mark to be printed or a photographed one, any bytes too.
+// Adds the mark of a record to lent symbols where they stand, for Rattle and through `traymark_c` for C. `plan` and `record` are
+// any bytes of any length, and are only read; `symbols` is a mark to be printed or a photographed one, any bytes too.
 //
 // Returns 0 and has added to each symbol the record's value at that cell's row and column points, modulo p; an unread cell, 255,
 // is left alone. Else leaves all of `symbols` as it was and returns the first that applies, in this order, of
@@ -12,8 +12,7 @@ ghost use Rattle.definitions.specs.Masking.{on, off as taken_off, way_of, mask_n
 //   6                  `record` has not (d + 1)(d + 2) / 2 bytes, or `symbols` has not rows times columns
 //   7                  a symbol is p or more and not 255
 //   9                  a coefficient is p or more
-#[unsafe(no_mangle)]
-pub extern "C" fn traymark_mask_mark(plan: &[u8], record: &[u8], symbols: &mut [u8]) -> u32
+pub fn traymark_mask_mark(plan: &[u8], record: &[u8], symbols: &mut [u8]) -> u32
     ensures number { result ≡ mask_number oblong plan.now «record».now symbols.old }
     ensures bytes { symbols.new
         ≡ mask_buffer on oblong plan.now «record».now symbols.old }
@@ -22,8 +21,7 @@ pub extern "C" fn traymark_mask_mark(plan: &[u8], record: &[u8], symbols: &mut [
 }
 
 // The same for a strip: `record` has d + 1 bytes, lowest power first, and `symbols` has a byte for each row.
-#[unsafe(no_mangle)]
-pub extern "C" fn traymark_mask_strip(plan: &[u8], record: &[u8], symbols: &mut [u8]) -> u32
+pub fn traymark_mask_strip(plan: &[u8], record: &[u8], symbols: &mut [u8]) -> u32
     ensures number { result ≡ mask_number strip plan.now «record».now symbols.old }
     ensures bytes { symbols.new
         ≡ mask_buffer on strip plan.now «record».now symbols.old }
@@ -32,8 +30,7 @@ pub extern "C" fn traymark_mask_strip(plan: &[u8], record: &[u8], symbols: &mut 
 }
 
 // Takes the mark of a record off again: subtracts what `traymark_mask_mark` adds, and refuses what that refuses.
-#[unsafe(no_mangle)]
-pub extern "C" fn traymark_unmask_mark(plan: &[u8], record: &[u8], symbols: &mut [u8]) -> u32
+pub fn traymark_unmask_mark(plan: &[u8], record: &[u8], symbols: &mut [u8]) -> u32
     ensures number { result ≡ mask_number oblong plan.now «record».now symbols.old }
     ensures bytes { symbols.new
         ≡ mask_buffer taken_off oblong plan.now «record».now symbols.old }
@@ -42,8 +39,7 @@ pub extern "C" fn traymark_unmask_mark(plan: &[u8], record: &[u8], symbols: &mut
 }
 
 // The same for a strip.
-#[unsafe(no_mangle)]
-pub extern "C" fn traymark_unmask_strip(plan: &[u8], record: &[u8], symbols: &mut [u8]) -> u32
+pub fn traymark_unmask_strip(plan: &[u8], record: &[u8], symbols: &mut [u8]) -> u32
     ensures number { result ≡ mask_number strip plan.now «record».now symbols.old }
     ensures bytes { symbols.new
         ≡ mask_buffer taken_off strip plan.now «record».now symbols.old }

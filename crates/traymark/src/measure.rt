@@ -5,7 +5,8 @@ ghost use Rattle.definitions.specs.Calls.{measure_reading};
 
 use definitions::Reading;
 
-// Measures a record against a photographed mark, from Rattle and from C. All four are any bytes of any length, and are only read.
+// Measures a record against a photographed mark, for Rattle and through `traymark_c` for C. All four are any bytes of any length,
+// and are only read.
 //
 // Returns number 0, the record's cost D, the margin R - D, the changed and the unread count, and the class by the changed count.
 // A margin of 0 or below is returned as such: measuring never gives 10. Else all but the number is 0, and that is the first that
@@ -16,13 +17,7 @@ use definitions::Reading;
 //   8                  a doubt is above the full doubt, which is 100 before season 30 and 250 from it on, or an unread
 //                      cell's is not the full doubt
 //   9                  a coefficient is p or more
-#[unsafe(no_mangle)]
-pub extern "C" fn traymark_measure_mark(
-    plan: &[u8],
-    record: &[u8],
-    symbols: &[u8],
-    doubts: &[u8],
-) -> Reading
+pub fn traymark_measure_mark(plan: &[u8], record: &[u8], symbols: &[u8], doubts: &[u8]) -> Reading
     ensures { result
         ≡ measure_reading oblong plan.now symbols.now doubts.now «record».now }
 {
@@ -39,13 +34,7 @@ pub extern "C" fn traymark_measure_mark(
 }
 
 // The same for a strip: `record` has d + 1 bytes, lowest power first, `symbols` and `doubts` have a byte for each row.
-#[unsafe(no_mangle)]
-pub extern "C" fn traymark_measure_strip(
-    plan: &[u8],
-    record: &[u8],
-    symbols: &[u8],
-    doubts: &[u8],
-) -> Reading
+pub fn traymark_measure_strip(plan: &[u8], record: &[u8], symbols: &[u8], doubts: &[u8]) -> Reading
     ensures { result
         ≡ measure_reading strip plan.now symbols.now doubts.now «record».now }
 {

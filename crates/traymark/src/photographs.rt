@@ -13,8 +13,7 @@ use plan::Plan;
 use sets::{combining, holding};
 
 // How many bytes a set is.
-#[unsafe(no_mangle)]
-pub extern "C" fn traymark_set_size() -> usize
+pub fn traymark_set_size() -> usize
     ensures { result ≡ set_bytes }
 {
     SET_BYTES
@@ -25,8 +24,7 @@ pub extern "C" fn traymark_set_size() -> usize
 //
 // Returns 0, else leaves the set as it was and returns the first that applies, in this order, of
 //   1, 2, 3, 13, 4, 5  the plan is refused, as by `traymark_check_plan`
-#[unsafe(no_mangle)]
-pub extern "C" fn traymark_set_start(set: &mut [u8; SET_BYTES], plan: &[u8]) -> u32
+pub fn traymark_set_start(set: &mut [u8; SET_BYTES], plan: &[u8]) -> u32
     ensures number { result ≡ check_number plan.now }
     ensures memory { set.new ≡ start_memory plan.now set.old }
 {
@@ -43,8 +41,7 @@ pub extern "C" fn traymark_set_start(set: &mut [u8; SET_BYTES], plan: &[u8]) -> 
 //   7                  a symbol is p or more and not 255
 //   8                  a doubt is above the full doubt, which is 100 before season 30 and 250 from it on, or an unread
 //                      cell's is not the full doubt
-#[unsafe(no_mangle)]
-pub extern "C" fn traymark_set_add(
+pub fn traymark_set_add(
     set: &mut [u8; SET_BYTES],
     photograph: u32,
     symbols: &[u8],
@@ -61,8 +58,7 @@ pub extern "C" fn traymark_set_add(
 //
 // Returns 0, else leaves the set as it was and returns
 //   18  `photograph` is not held; so every number above 8
-#[unsafe(no_mangle)]
-pub extern "C" fn traymark_set_withdraw(set: &mut [u8; SET_BYTES], photograph: u32) -> u32
+pub fn traymark_set_withdraw(set: &mut [u8; SET_BYTES], photograph: u32) -> u32
     ensures number { result ≡ withdraw_number set.old photograph }
     ensures memory { set.new ≡ withdraw_memory set.old photograph }
 {
@@ -77,12 +73,7 @@ pub extern "C" fn traymark_set_withdraw(set: &mut [u8; SET_BYTES], photograph: u
 // doubt. Else leaves both as they were and returns the first that applies, in this order, of
 //   1, 2, 3, 13, 4, 5  the plan in the set is refused: never where these calls have made the set
 //   6                  `symbols` or `doubts` has not rows times columns bytes
-#[unsafe(no_mangle)]
-pub extern "C" fn traymark_set_combine(
-    set: &[u8; SET_BYTES],
-    symbols: &mut [u8],
-    doubts: &mut [u8],
-) -> u32
+pub fn traymark_set_combine(set: &[u8; SET_BYTES], symbols: &mut [u8], doubts: &mut [u8]) -> u32
     ensures number { result ≡ combine_number set.now symbols.old doubts.old }
     ensures symbols { symbols.new
         ≡ combine_symbols set.now symbols.old doubts.old }
@@ -99,8 +90,7 @@ pub extern "C" fn traymark_set_combine(
 //   6   `record` has not (d + 1)(d + 2) / 2 bytes
 //   10  no record of the plan costs under the radius
 // Other bytes get what reading gives under the plan that stands in them.
-#[unsafe(no_mangle)]
-pub extern "C" fn traymark_set_read(set: &[u8; SET_BYTES], record: &mut [u8]) -> Reading
+pub fn traymark_set_read(set: &[u8; SET_BYTES], record: &mut [u8]) -> Reading
     ensures reading { result ≡ set_reading set.now «record».old }
     ensures bytes { «record».new ≡ set_record set.now «record».old }
 {

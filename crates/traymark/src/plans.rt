@@ -4,7 +4,7 @@ ghost use Rattle.definitions.specs.Plan.{check_number};
 ghost use Rattle.definitions.specs.Finder.{find_number, find_offset, find_bytes, address_at};
 ghost use Rattle.definitions.specs.Widening.{widen_number, widen_buffer};
 
-// Checks a plan, from Rattle and from C. `plan` is any bytes of any length, and is only read.
+// Checks a plan, for Rattle and through `traymark_c` for C. `plan` is any bytes of any length, and is only read.
 //
 // Returns 0 where the plan is sound, else the first that applies, in this order, of
 //   1   the plan is not 40 bytes, or byte 38 or 39 is not 0
@@ -14,8 +14,7 @@ ghost use Rattle.definitions.specs.Widening.{widen_number, widen_buffer};
 //   4   d, byte 5, is not below the smaller side
 //   5   a row point is p or more, or not above the one before it, or an unused byte of the sixteen from byte 6 on is not 0; or
 //       the same of the column points, from byte 22 on
-#[unsafe(no_mangle)]
-pub extern "C" fn traymark_check_plan(plan: &[u8]) -> u32
+pub fn traymark_check_plan(plan: &[u8]) -> u32
     ensures { result ≡ check_number plan.now }
 {
     plan::check(plan)
@@ -36,26 +35,25 @@ pub fn find_plan<'a>(file: &'a [u8], season: u16, number: &mut u32) -> &'a [u8]
     plan::find(file, season, number)
 }
 
-// The same for C, which is handed no part: returns the number, and sets `offset`, whatever it was, to where the 40 bytes begin in
-// `file`. On a refusal `offset` is set to 0.
-#[unsafe(no_mangle)]
-pub extern "C" fn traymark_find_plan(file: &[u8], season: u16, offset: &mut usize) -> u32
+// The same for `traymark_c`, since C is handed no part: returns the number, and sets `offset`, whatever it was, to where the 40
+// bytes begin in `file`. On a refusal `offset` is set to 0.
+pub fn traymark_find_plan(file: &[u8], season: u16, offset: &mut usize) -> u32
     ensures number { result ≡ find_number file.now season }
     ensures offset { offset.new ≡ find_offset file.now season }
 {
     plan::locate(file, season, offset)
 }
 
-// Widens plans of the old form, from Rattle and from C. `old` is 24-byte records one after another, and is only read: season,
-// p, n, d, sixteen points, three bytes that are dropped. No plan is checked: an unsound one is widened all the same.
+// Widens plans of the old form, for Rattle and through `traymark_c` for C. `old` is 24-byte records one after another, and is
+// only read: season, p, n, d, sixteen points, three bytes that are dropped. No plan is checked: an unsound one is widened all the
+// same.
 //
 // Returns 0 and has filled `wide` with a plan of 40 bytes for each of them, in order: n and the points are given twice, for the
 // rows and for the columns, season, p and d are kept, and the last two bytes are 0. Else leaves `wide` as it was and returns the
 // first of
 //   11  `old` has more than 1,000 records, or its length is no multiple of 24
 //   6   `wide` has not 40 bytes for each 24 of `old`
-#[unsafe(no_mangle)]
-pub extern "C" fn traymark_widen_plans(old: &[u8], wide: &mut [u8]) -> u32
+pub fn traymark_widen_plans(old: &[u8], wide: &mut [u8]) -> u32
     ensures number { result ≡ widen_number old.now wide.old }
     ensures buffer { wide.new ≡ widen_buffer old.now wide.old }
 {

@@ -5,7 +5,7 @@ ghost use Rattle.definitions.specs.Calls.{read_reading, read_buffer};
 
 use definitions::Reading;
 
-// Reads a photographed mark, from Rattle and from C.
+// Reads a photographed mark, for Rattle and through `traymark_c` for C.
 // `plan`, `symbols` and `doubts` are any bytes of any length, and are only read.
 //
 // Returns number 0 with the cost, the margin, the changed and the unread count and the class of the one record that costs under
@@ -18,13 +18,7 @@ use definitions::Reading;
 //   8                  a doubt is above the full doubt, which is 100 before season 30 and 250 from it on, or an unread
 //                      cell's is not the full doubt
 //   10                 no record of the plan costs under the radius
-#[unsafe(no_mangle)]
-pub extern "C" fn traymark_read_mark(
-    plan: &[u8],
-    symbols: &[u8],
-    doubts: &[u8],
-    record: &mut [u8],
-) -> Reading
+pub fn traymark_read_mark(plan: &[u8], symbols: &[u8], doubts: &[u8], record: &mut [u8]) -> Reading
     ensures reading { result
         ≡ read_reading oblong plan.now symbols.now doubts.now «record».old }
     ensures bytes { «record».new
@@ -44,13 +38,7 @@ pub extern "C" fn traymark_read_mark(
 
 // The same for a strip: `record` has d + 1 bytes, lowest power first, `symbols` and `doubts` have a byte for each row, and the
 // radius is the full doubt times (rows - d).
-#[unsafe(no_mangle)]
-pub extern "C" fn traymark_read_strip(
-    plan: &[u8],
-    symbols: &[u8],
-    doubts: &[u8],
-    record: &mut [u8],
-) -> Reading
+pub fn traymark_read_strip(plan: &[u8], symbols: &[u8], doubts: &[u8], record: &mut [u8]) -> Reading
     ensures reading { result
         ≡ read_reading strip plan.now symbols.now doubts.now «record».old }
     ensures bytes { «record».new

@@ -3,15 +3,15 @@ ghost use Rattle.std.specs.Prelude.{◌≡◌};
 ghost use Rattle.definitions.specs.Code.{strip as strip_code, oblong};
 ghost use Rattle.definitions.specs.Calls.{write_number, write_buffer};
 
-// Writes the mark of a record, from Rattle and from C. `plan` and `record` are any bytes of any length, and are only read.
+// Writes the mark of a record, for Rattle and through `traymark_c` for C. `plan` and `record` are any bytes of any length, and
+// are only read.
 //
 // Returns 0 and has filled `mark`, rows times columns bytes: the value at the i-th row point and the j-th column point, modulo p,
 // is at i columns + j. Else leaves `mark` as it was and returns the first that applies, in this order, of
 //   1, 2, 3, 13, 4, 5  the plan is refused, as by `traymark_check_plan`
 //   6                  `record` has not (d + 1)(d + 2) / 2 bytes, or `mark` has not rows times columns
 //   9                  a coefficient is p or more
-#[unsafe(no_mangle)]
-pub extern "C" fn traymark_write_mark(plan: &[u8], record: &[u8], mark: &mut [u8]) -> u32
+pub fn traymark_write_mark(plan: &[u8], record: &[u8], mark: &mut [u8]) -> u32
     ensures number { result ≡ write_number oblong plan.now «record».now mark.old }
     ensures bytes { mark.new
         ≡ write_buffer oblong plan.now «record».now mark.old }
@@ -31,8 +31,7 @@ pub extern "C" fn traymark_write_mark(plan: &[u8], record: &[u8], mark: &mut [u8
 
 // The same for a strip: `record` has d + 1 bytes, lowest power first, and `strip` has a byte for each row, of which the i-th is
 // the value at the i-th row point.
-#[unsafe(no_mangle)]
-pub extern "C" fn traymark_write_strip(plan: &[u8], record: &[u8], strip: &mut [u8]) -> u32
+pub fn traymark_write_strip(plan: &[u8], record: &[u8], strip: &mut [u8]) -> u32
     ensures number { result ≡ write_number strip_code plan.now «record».now strip.old }
     ensures bytes { strip.new
         ≡ write_buffer strip_code plan.now «record».now strip.old }

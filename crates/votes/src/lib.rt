@@ -11,7 +11,7 @@ ghost use Rattle.votes.specs.Majority.{counted, lowness, other};
 const SILENT: u8 = 255;
 
 // A combined cell.
-#[derive(Drop)]
+#[derive(Clone, Copy)]
 pub struct Cell {
     pub symbol: u8,
     pub doubt: u8,

@@ -2,10 +2,9 @@
 --
 --   zeros-at                        a place of zeros
 --   key_in, key_out                 the key of a cell, and of what is none
---   keys-start, keys-more           the keys of no cell, and of one more
 --   keys-most, keys-placed          they are at most `taken`, and tell their places
 --   marked_placed, without_most     so do those of some cells; and those without one are at most `taken`
---   least_start, least_more         the least of none, and of one more
+--   least_more                      the least of one more
 --   left-most                       what is left is at most `taken`
 --   next-cell                       the least key is that of a cell that has not entered
 --   entered_below, left-above       the keys of the cells that have entered are below it, those of the others are not
@@ -22,12 +21,11 @@ use native.Mathlib.Decide.{ℕ_discrete, dec_lt}
 use native.Mathlib.Nat.{mod-lt}
 use lib.Dec.{eqb, ltb}
 use borrow.Author.Tests.{eq-eqb, ne_eqb, lt-ltb, le-ltb}
-use lib.ListN.{length, set, length-set, replicate, get_or-replicate}
+use lib.ListN.{length, set, replicate}
 use lib.Seq.{get_or-set_same, get_or-set_other}
 use Rattle.bounded.specs.Bounded.{at}
 use Rattle.bounded.proofs.Sum.{cell-column}
 use Rattle.bounded.proofs.Tab.{length-tab}
-use Rattle.field.specs.Loop.{Upto}
 use Rattle.field.specs.Row.{row}
 use Rattle.field.proofs.Row.{row_at, beyond}
 use Rattle.welch_berlekamp.specs.Order.{taken, key, Placed, Least, Entering}
@@ -44,23 +42,6 @@ key_in n u j l = rw (lt-ltb j n l)
 
 pub key_out : (n u j : ℕ) → n ≤ j → key n u j ≡ taken
 key_out n u j l = rw (le-ltb j n l)
-
--- the keys of j cells and of one more
-pub keys-start : (u : ℕ → ℕ) → Upto 16 0 (λ i v. v ≡ key 0 (u i) i) (replicate 16 taken) 16
-keys-start u = record { size = refl; done = λ i l. get_or-replicate {A = ℕ} 16 i taken 0 l ∙ sym (key_out 0 (u i) i (omega arith)) }
-
-pub keys-more : (u : ℕ → ℕ) (j : ℕ) {l : List ℕ} → j < 16 → Upto 16 0 (λ i v. v ≡ key j (u i) i) l 16 →
-    Upto 16 0 (λ i v. v ≡ key (j + 1) (u i) i) (set l j (u j * 16 + j)) 16
-keys-more u j {l} b U = record {
-  size = length-set l j (u j * 16 + j) ∙ U.size;
-  done = λ i m. elim (ℕ_discrete i j) [
-    | yes e ↦ rw (e, get_or-set_same l j (u j * 16 + j) 0 (omega (arith, U.size))) (sym (key_in (j + 1) (u j) j (omega arith)))
-    | no e ↦ rw (get_or-set_other l j i (u j * 16 + j) 0 e) (U.done i m ∙ elim (dec_lt i j) [
-      | yes o ↦ key_in j (u i) i o ∙ sym (key_in (j + 1) (u i) i (omega arith))
-      | no o ↦ key_out j (u i) i (omega arith) ∙ sym (key_out (j + 1) (u i) i (omega arith))
-    ])
-  ];
-}
 
 -- sixteen keys, none above `taken`, and beyond them 0
 pub keys-most : (f : ℕ → ℕ) {l : List ℕ} → l ≡ row f → ((j : ℕ) → j < 16 → f j ≤ taken) → (j : ℕ) → at l j ≤ taken
@@ -104,9 +85,6 @@ pub without_most : (c : ℕ) (r : List ℕ) {r' : List ℕ} → ((j : ℕ) → a
 without_most c r h e = keys-most _ e λ j m. cond-most (eqb (at r j) c) (at r j) (h j)
 
 -- the least of one key more
-pub least_start : {l : List ℕ} → Least 0 l taken
-least_start = record { most = omega arith; low = λ j m. absurd (omega arith); one = λ m. absurd (omega arith) }
-
 pub least_more : {j r r' : ℕ} {l : List ℕ} → Least j l r → r' ≡ min (at l j) r → Least (j + 1) l r'
 least_more {j} {r} {r'} {l} L e = record {
   most = omega (arith, L.most);

@@ -6,10 +6,10 @@
 --   fits_positive               at the next cell the product of the nodes is not 0
 --   fits-take                   the cell of the least key is taken
 --   Horner p k c z i a          after the terms from i on: a i, a (i + 1), .. are the coefficients of what they make
---   horner_start, horner_step   no term, and the term before
+--   horner_step                 the term before
 --   horner_end                  all terms: a has the form's coefficients
 --   Moved p i m b j a           of the places from i on those before j were given m times the next one
---   moved_start, moved_step     none of them, and one more
+--   moved_step                  one more of them
 --
 -- What this file is for: after k + 1 cells the interpolation's pairs are known without it; and a candidate is handed over by its
 -- coefficients. Assumes nothing.
@@ -245,21 +245,11 @@ pub record Horner (p k : ℕ) (c z : List ℕ) (i : ℕ) (a : List ℕ) : Type 0
   pub rest : (X : ℕ) → Cong (p - 1) (form (p - 1) (at c) (at z) i X
       + base (p - 1) (at z) i X * eval (suc k - i) (λ o. at a (o + i)) X) (form (p - 1) (at c) (at z) (suc k) X)
 
-pub horner_start : {p k : ℕ} {c z : List ℕ} → 0 < p → Horner p k c z (k + 1) (replicate 16 0)
-horner_start {p} {k} {c} {z} pos = rw (add-one k) (record {
-  row = zeros-row pos;
-  above = λ j _. zeros-at 16 j;
-  rest = λ X. let e : suc k - suc k ≡ 0 = omega arith in rw e (same (omega arith));
-})
-
 -- of the places from i on those before j were given m times the next one, all from what they were in b
 pub record Moved (p i m : ℕ) (b : List ℕ) (j : ℕ) (a : List ℕ) : Type 0 where
   pub row : Row p a
   pub done : (l : ℕ) → i ≤ l → l < j → at a l ≡ (at b l + m * at b (suc l)) % p
   pub todo : (l : ℕ) → j ≤ l → at a l ≡ at b l
-
-pub moved_start : {p i m : ℕ} {b : List ℕ} → Row p b → Moved p i m b i b
-moved_start R = record { row = R; done = λ l h o. absurd (omega arith); todo = λ l o. refl }
 
 pub moved_step : {p i m j v : ℕ} {b a : List ℕ} → j < 16 → v ≡ (at a j + m * at a (j + 1)) % p → v < p → Moved p i m b j a →
     Moved p i m b (j + 1) (set a j v)

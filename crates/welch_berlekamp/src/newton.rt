@@ -11,7 +11,7 @@ use field::rows;
 
 // The rest is the polynomial less the symbols, the product that of X - z over all cells taken; `entered` is 1 at these, else 0,
 // and the keys are those of the other cells.
-#[derive(Drop)]
+#[derive(Clone, Copy)]
 pub struct Newton {
     pub rest: [u16; 16],
     pub product: [u16; 16],

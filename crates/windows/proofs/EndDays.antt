@@ -3,15 +3,14 @@
 --   window_part               window k is the part of the file that is lent
 --   faulty_part, date_part    what is answered of it
 --   found-real                a date that was read and found real
---   fault_first, fault_last, fault_order, fault_zeros
---                             what is wrong with a window, test by test
+--   fault_order, fault_zeros  what is wrong with a window of real dates, test by test
 --   is-window                 a window without fault is as it should be
 --   has_by, meet_by           that it has a day, and that two of them meet, by keys
 --   first_with_lem, meet_two_lem  the first window that has a day, and whether two of n meet, by the arrays of the keys
 --
 -- What this file is for: the code compares keys, the definitions dates. Assumes nothing.
 use mathlib.Core.Path.{◌≡◌, sym, ap, ap₂, ◌∙◌}
-use mathlib.Core.Bool.{Bool, true, false, not, ◌&&◌}
+use mathlib.Core.Bool.{Bool, true, false, ◌&&◌}
 use mathlib.Core.List.{List}
 use Prim.Native.Nat.{ℕ, ◌+◌, ◌*◌, ◌-◌, ◌≤◌, ◌<◌}
 use native.Mathlib.Omega.{arith}
@@ -48,25 +47,18 @@ pub date_part : (file : List ℕ) (k a : ℕ) →
 date_part file k a = ap (λ W. date_at W a) (window_part file k)
 
 -- a date that was read and found real
-pub found-real : {t u : Date} {r : Bool} → t ≡ u → r ≡ real t → not r ≡ false → real u ≡ true
-found-real e f h = ap real (sym e) ∙ sym f ∙ not-false _ h
+pub found-real : {t u : Date} {r : Bool} → t ≡ u → r ≡ real t → r ≡ true → real u ≡ true
+found-real e f h = ap real (sym e) ∙ sym f ∙ h
 
--- the faults of a window, in the order in which they are looked for
-module _ (W : List ℕ) where
-  pub fault_first : not (real (first_day W)) ≡ true → true ≡ faulty W
-  fault_first e = rw e
+-- the faults of a window of real dates, in the order in which they are looked for
+module _ (W : List ℕ) (r : real (first_day W) ≡ true) (s : real (last_day W) ≡ true) where
+  pub fault_order : key (last_day W) < key (first_day W) → true ≡ faulty W
+  fault_order l = rw (r, s, earlier_by (last_day W) (first_day W) s r l)
 
-  pub fault_last : real (first_day W) ≡ true → not (real (last_day W)) ≡ true → true ≡ faulty W
-  fault_last r e = rw (r, e)
-
-  module _ (r : real (first_day W) ≡ true) (s : real (last_day W) ≡ true) where
-    pub fault_order : key (last_day W) < key (first_day W) → true ≡ faulty W
-    fault_order l = rw (r, s, earlier_by (last_day W) (first_day W) s r l)
-
-    pub fault_zeros : key (first_day W) ≤ key (last_day W) → length W ≡ 12 → {b : Bool} →
-        b ≡ reached 1 (take (12 - 10) (drop 10 W)) → b ≡ faulty W
-    fault_zeros l w e = rw (r, s, not-true (earlier (last_day W) (first_day W)) (on_or_before_by (first_day W) (last_day W) r s l))
-        (e ∙ part_any 10 2 W (leb 1) (omega arith))
+  pub fault_zeros : key (first_day W) ≤ key (last_day W) → length W ≡ 12 → {b : Bool} →
+      b ≡ reached 1 (take (12 - 10) (drop 10 W)) → b ≡ faulty W
+  fault_zeros l w e = rw (r, s, not-true (earlier (last_day W) (first_day W)) (on_or_before_by (first_day W) (last_day W) r s l))
+      (e ∙ part_any 10 2 W (leb 1) (omega arith))
 
 -- a window without fault is as it should be
 pub is-window : (W : List ℕ) → faulty W ≡ false → IsWindow W

@@ -23,6 +23,7 @@ pub all_windows : (file : List ℕ) (n : ℕ) → any n (λ k. faulty (window_at
 all_windows file n e k l = is-window (window_at file k) (any_none n (λ k. faulty (window_at file k)) e k l)
 
 module _ (file : List ℕ) (t : Date) where
-  pub season_found_lem : {k r : ℕ} → k ≡ first_with file t → 0 ≡ season_number file t → r ≡ pair file (k * 12) → r ≡ season_found file t
+  pub season_found_lem : {k r : ℕ} → k ≡ first_with file t → 0 ≡ season_number file t → r ≡ pair file (k * 12) →
+      r ≡ season_found file t
   unfolding season_found
   season_found_lem e z p = rw (← z, ← e) (p ∙ sym (finder.season-bytes file _ 12 (lit< tt)))

@@ -124,7 +124,8 @@ module _ (file : List ℕ) where
         go (no l) (no m) = omega arith
 
     unclashing : Apart file → clashing file ≡ false
-    unclashing A = none_any (windows file) _ λ k m. none_any k _ λ j l. go k m j l (meet (window_at file j) (window_at file k)) refl
+    unclashing A =
+        none_any (windows file) _ λ k m. none_any k _ λ j l. go k m j l (meet (window_at file j) (window_at file k)) refl
       where
         go : (k : ℕ) → k < windows file → (j : ℕ) → j < k → (b : Bool) → meet (window_at file j) (window_at file k) ≡ b →
             meet (window_at file j) (window_at file k) ≡ false
@@ -238,8 +239,8 @@ module _ (file : List ℕ) (t : Date) where
       outside R A n true r = outside-number file R t A r (no-day file t n)
       outside R A n false r = unreal-number file R t A r
 
-  pub one-window : season_number file t ≢ 14 → season_number file t ≢ 15 → real t ≡ true → (k : ℕ) (W : List ℕ) → Window file k W →
-      HasDay W t → OneWindow file t
+  pub one-window : season_number file t ≢ 14 → season_number file t ≢ 15 → real t ≡ true → (k : ℕ) (W : List ℕ) →
+      Window file k W → HasDay W t → OneWindow file t
   one-window a b = let R = readable_by a in in_one R (apart_by R b)
 
   pub season-given : season_number file t ≡ 0 → (real t ≡ true) × OneWindow file t

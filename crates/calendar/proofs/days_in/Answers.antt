@@ -1,0 +1,18 @@
+-- `calendar::days_in` meets its contract: February, the months of 30 days, and the others. Assumes nothing.
+use mathlib.Core.Path.{sym, ap, ◌∙◌}
+use mathlib.Core.Bool.{cond}
+use Rattle.calendar.proofs.Real.{other_month}
+use Rattle.calendar.proofs.days_in.Goals as goal
+
+pub returns-then-month-eq2 : goal.returns-then-month-eq2
+returns-then-month-eq2 c = rw c.if-month-eq2.true c.february.ensures
+
+pub returns-then-is_short : goal.returns-then-is_short
+returns-then-is_short c =
+    let e = sym c.is_short.ensures ∙ c.if-is_short.true in
+    sym (other_month c.args.year c.args.month c.requires.0 c.requires.1 c.if-month-eq2.false ∙ ap (λ b. cond b 30 31) e)
+
+pub returns : goal.returns
+returns c =
+    let e = sym c.is_short.ensures ∙ c.if-is_short.false in
+    sym (other_month c.args.year c.args.month c.requires.0 c.requires.1 c.if-month-eq2.false ∙ ap (λ b. cond b 30 31) e)

@@ -1,0 +1,25 @@
+-- `masking::shift_all` meets its contract: the symbols below c are masked, the others as they were. Assumes nothing.
+use mathlib.Core.Path.{refl}
+use Prim.Native.Nat.{◌<◌}
+use native.Mathlib.Omega.{arith}
+use lib.ListN.{length}
+use Rattle.bounded.specs.Bounded.{tab}
+use Rattle.bounded.proofs.Tab.{tab-next, tab-more}
+use Rattle.masking.proofs.shift_all.Goals as goal
+
+pub loop-c-init : goal.loop-c-init
+unfolding tab
+loop-c-init c = refl
+
+pub masked_symbol-requires : goal.masked_symbol-requires
+masked_symbol-requires c =
+    let l = c.loop-c in
+    let h : l.c < length c.args.symbols.now = omega arith in
+    let (_, value, symbol) = c.requires in
+    (value l.c h, rw (l.invariant, tab-next _ _ _ h) (symbol l.c h))
+
+pub loop-c-preserved : goal.loop-c-preserved
+loop-c-preserved c =
+    let l = c.loop-c in
+    let h : l.c < length c.args.symbols.now = omega arith in
+    rw (c.masked_symbol.ensures, l.invariant, tab-next _ _ _ h) (tab-more _ _ _ h)

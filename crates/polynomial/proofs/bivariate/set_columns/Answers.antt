@@ -1,0 +1,40 @@
+-- `polynomial::bivariate::set_columns` meets its contract: the columns below t are worked out. Assumes nothing.
+use mathlib.Core.Path.{◌≡◌}
+use Prim.Native.Nat.{suc, ◌<◌}
+use native.Mathlib.Omega.{arith}
+use Rattle.field.proofs.Loop.{upto_start, upto_step, upto_put}
+use Rattle.polynomial.proofs.Powers.{powers-less}
+use Rattle.polynomial.proofs.Columns.{coefficients-row, column-values}
+use Rattle.polynomial.proofs.bivariate.set_columns.Goals as goal
+
+pub loop-t-init : goal.loop-t-init
+loop-t-init c = (omega arith, c.requires.4, λ x P. upto_start c.requires.4.size)
+
+pub values-requires : goal.values-requires
+values-requires c =
+    let t = c.loop-t.t in (
+      c.requires.0,
+      c.requires.1,
+      coefficients-row c.args.d t c.args.message.now (omega (arith, c.requires.0.least)) c.requires.3 (omega arith)
+          c.coefficient_of_y-w.ensures c.requires.2,
+      omega arith,
+    )
+
+pub loop-t-preserved : goal.loop-t-preserved
+loop-t-preserved c =
+    let l = c.loop-t in
+    let z : 0 < c.args.p = omega (arith, c.requires.0.least) in
+    let F = c.args.message.now in
+    let w = c.coefficient_of_y-w.ensures in (
+      omega arith,
+      upto_put _ (omega arith) c.values.ensures.0 l.invariant.1,
+      λ x P.
+          let v = c.values.ensures.1 x (powers-less c.args.p x (omega arith) P) in
+          upto_step _ (omega arith) (column-values c.args.d l.t F z c.requires.3 (omega arith) w x v) (l.invariant.2 x P),
+    )
+
+pub returns : goal.returns
+returns c =
+    let l = c.loop-t in
+    let e : l.t ≡ suc c.args.d = omega arith in
+    (l.invariant.1, λ x P. rw e at (l.invariant.2 x P))

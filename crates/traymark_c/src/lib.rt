@@ -1,0 +1,13 @@
+// The library for C, whose header is `include/traymark.h`. Each export calls the function of its name in `traymark`, which tells what
+// it does and returns, and ensures what that ensures. A slice is a pointer and a length to C. No call asks anything of its
+// arguments: any bytes of any length get an answer.
+#![tactic(auto)]
+
+pub mod explain;
+pub mod mask;
+pub mod measure;
+pub mod photographs;
+pub mod plans;
+pub mod read;
+pub mod seasons;
+pub mod write;
