@@ -13,6 +13,3 @@ parse-requires c = sound _ (sym c.check-number.ensures ∙ c.if-number-ne0.false
 
 pub add_refusal-requires : goal.add_refusal-requires
 add_refusal-requires c = (ready c.parse.ensures, c.requires)
-
-pub returns : goal.returns
-returns c = c.add_refusal.ensures c.parse.ensures
