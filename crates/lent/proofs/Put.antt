@@ -45,7 +45,8 @@ module _ (S s : List ℕ) (a : ℕ) where
   at-within j h l = after_front j h ∙ get_or-append s _ 0 j l
 
   pub at_behind : (j : ℕ) → a ≤ length S → at (put S a s) (a + (length s + j)) ≡ at S (a + length s + j)
-  at_behind j h = after_front (length s + j) h ∙ get_or-append-add s (drop (a + length s) S) j 0 ∙ get_or-drop (a + length s) S j 0
+  at_behind j h =
+      after_front (length s + j) h ∙ get_or-append-add s (drop (a + length s) S) j 0 ∙ get_or-drop (a + length s) S j 0
 
 -- a part put behind what the memory begins with
 put_next : (p q s : List ℕ) (a : ℕ) → length p ≡ a → put (p ++ q) a s ≡ p ++ (s ++ drop (length s) q)

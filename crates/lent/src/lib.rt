@@ -1,4 +1,4 @@
-// Memory that the caller lends, as bytes: what is put into it, and where. Copying is `bytes::copy` of the kit.
+// Memory that the caller lends, as bytes: what is put into it, and where. Copying is the slice's own `copy_from_slice`.
 #![tactic(auto)]
 
 ghost use Rattle.std.specs.Prelude.{◌≡◌, length, replicate};

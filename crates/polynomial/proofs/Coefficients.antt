@@ -16,7 +16,8 @@ abbrev cons : ℕ → (ℕ → ℕ) → ℕ → ℕ
 cons a w zero = a
 cons a w (suc i) = w i
 
-pub lead_eval : {q n : ℕ} {x : ℕ → ℕ} {k c : ℕ} {f : ℕ → ℕ} → Lead q n x k c f → (w : ℕ → ℕ) × (w k ≡ c) × Agree q n f (λ j. eval (suc k) w (x j))
+pub lead_eval : {q n : ℕ} {x : ℕ → ℕ} {k c : ℕ} {f : ℕ → ℕ} → Lead q n x k c f →
+    (w : ℕ → ℕ) × (w k ≡ c) × Agree q n f (λ j. eval (suc k) w (x j))
 lead_eval {x} {c} (con h) = ((λ i. c), refl, λ j l. h j l ⨾ same (sym (eval-one (λ i. c) (x j))))
 lead_eval {x} (up {k} a L h) =
     let (w, e, r) = lead_eval L in

@@ -1,13 +1,17 @@
 // Text put into a lent buffer, piece after piece: each function puts its bytes from `at` on, changes no other byte, and returns
-// the place after them. The caller sees to it that they fit. The lines that more than one program prints are here. And the part
-// of a room that holds what a program read.
+// the place after them. The caller sees to it that they fit. The lines that more than one program prints are here. And what the
+// programs are given: whether there is an argument, a room that is filled, and the part of it that holds what came.
 #![tactic(auto)]
 
 ghost use Rattle.std.specs.Prelude.{◌≡◌, [], ◌∷◌, ◌+◌, ◌*◌, ◌≤◌, ◌<◌, nat_abs, length, take};
+ghost use Rattle.std.specs.Io.KnownBytes.{Consumes};
 ghost use Rattle.definitions.specs.Printed.{digit, decimal, signed, spaced, costs, record_line, number_line, refused_line};
 ghost use Rattle.text.specs.Put.{Put};
 
 use definitions::Reading;
+use std::env::FillError;
+use std::io::{ErrorKind, Read};
+use std::rt::Env;
 
 // A word.
 pub fn put_bytes(text: &mut [u8], at: usize, word: &[u8]) -> usize
@@ -146,4 +150,33 @@ pub fn first<'a>(bytes: &'a [u8], n: usize) -> &'a [u8]
         return bytes;
     }
     &bytes[..n]
+}
+
+// Reads until the room is full or the input ends, and returns how many bytes came: the next ones of the input, none of them lost.
+// A read that a signal interrupts is made again, and one that fails counts as the end.
+pub fn fill<R: Read>(reader: &mut R, room: &mut [u8]) -> usize
+    ensures most { result ≤ length room.new }
+    ensures bytes { Consumes (R.remaining reader.old) (R.remaining reader.new) (take result room.new) }
+{
+    let mut came = 0;
+    for _ in 0..u64::MAX {
+        if came == room.len() {
+            break;
+        }
+        match reader.read(&mut room[came..]) {
+            Ok(0) => break,
+            Ok(n) => came += n,
+            Err(e) => {
+                if e.kind() != ErrorKind::Interrupted {
+                    break;
+                }
+            }
+        }
+    }
+    came
+}
+
+// Whether the program has an argument of this number; the first after its name is 1.
+pub fn has_argument(rt: &impl Env, number: usize) -> bool {
+    !matches!(rt.arg(number, &mut [0u8; 1]), Err(FillError::NotPresent))
 }

@@ -1,6 +1,6 @@
-// The library for C, whose header is `include/traymark.h`. Each export calls the function of its name in `traymark`, which tells what
-// it does and returns, and ensures what that ensures. A slice is a pointer and a length to C. No call asks anything of its
-// arguments: any bytes of any length get an answer.
+// The library for C, with the header `include/traymark.h`. Each export calls the function of its name in `traymark`, where what
+// it does and returns is told, and ensures what that ensures. A slice is a pointer and a length to C. No call asks anything of
+// its arguments: any bytes of any length get an answer.
 #![tactic(auto)]
 
 pub mod explain;

@@ -9,23 +9,20 @@ mod answer;
 mod lines;
 
 use answer::{ROOM, TEXT};
+use text::{fill, has_argument};
 
-fn main() {
-    if os::arg_count() > 1 {
-        io::write_all(
-            libc::STDERR_FILENO,
-            b"usage: trayread < input\nreads a plan, symbols and doubts, and prints the reading or a refusal; see man trayread\n",
+fn main(rt: HostRuntime) {
+    if has_argument(&rt, 1) {
+        let _ = rt.eprintln(
+            "usage: trayread < input\nreads a plan, symbols and doubts, and prints the reading or a refusal; see man trayread",
         );
         return;
     }
     let mut space = [0u8; ROOM];
-    let came = io::read_full(libc::STDIN_FILENO, &mut space);
+    let came = fill(&mut rt.stdin(), &mut space);
     let mut text = [0u8; TEXT];
     let n = answer::answer(&space, came, &mut text);
-    if !io::write_all(libc::STDOUT_FILENO, &text[..n]) {
-        io::write_all(
-            libc::STDERR_FILENO,
-            b"trayread: standard output did not take the answer\n",
-        );
+    if rt.write_all(&text[..n]).is_err() {
+        let _ = rt.eprintln("trayread: standard output did not take the answer");
     }
 }

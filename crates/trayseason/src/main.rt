@@ -10,26 +10,24 @@ mod date;
 
 use answer::{ROOM, TEXT};
 use date::DATE_BYTES;
+use std::rt::Env;
+use text::{fill, has_argument};
 
-fn main() {
+fn main(rt: HostRuntime) {
     // an argument that is missing or longer than a date is taken for an empty one
     let mut word = [0u8; DATE_BYTES];
-    let length = os::arg(1, &mut word);
-    if (os::arg_count() != 2) | !date::is_dated(&word[..length]) {
-        io::write_all(
-            libc::STDERR_FILENO,
-            b"usage: trayseason YYYY-MM-DD < windows\nprints the season of the date, by a file of windows; see man trayseason\n",
+    let length = rt.arg(1, &mut word).unwrap_or(0);
+    if has_argument(&rt, 2) | !date::is_dated(&word[..length]) {
+        let _ = rt.eprintln(
+            "usage: trayseason YYYY-MM-DD < windows\nprints the season of the date, by a file of windows; see man trayseason",
         );
         return;
     }
     let mut space = [0u8; ROOM];
-    let came = io::read_full(libc::STDIN_FILENO, &mut space);
+    let came = fill(&mut rt.stdin(), &mut space);
     let mut text = [0u8; TEXT];
     let n = answer::answer(&word[..length], &space, came, &mut text);
-    if !io::write_all(libc::STDOUT_FILENO, &text[..n]) {
-        io::write_all(
-            libc::STDERR_FILENO,
-            b"trayseason: standard output did not take the answer\n",
-        );
+    if rt.write_all(&text[..n]).is_err() {
+        let _ = rt.eprintln("trayseason: standard output did not take the answer");
     }
 }

@@ -4,9 +4,6 @@ use mathlib.Core.Bool.{cond}
 use Rattle.calendar.proofs.Real.{other_month}
 use Rattle.calendar.proofs.days_in.Goals as goal
 
-pub returns-then-month-eq2 : goal.returns-then-month-eq2
-returns-then-month-eq2 c = rw c.if-month-eq2.true c.february.ensures
-
 pub returns-then-is_short : goal.returns-then-is_short
 returns-then-is_short c =
     let e = sym c.is_short.ensures ∙ c.if-is_short.true in

@@ -1,5 +1,5 @@
 -- `votes::cast` meets its contract: the photographs before k are counted. Assumes nothing.
-use mathlib.Core.Path.{◌≡◌, refl}
+use mathlib.Core.Path.{refl}
 use native.Mathlib.Omega.{arith}
 use Rattle.votes.specs.Votes.{cast}
 use Rattle.votes.proofs.Voting.{cast-next}
@@ -11,6 +11,3 @@ loop-k-init c = (omega arith, refl, omega arith)
 
 pub loop-k-preserved : goal.loop-k-preserved
 loop-k-preserved c = (omega arith, cast-next _ _ c.loop-k.invariant.1 c.unless-n.ensures.0, omega arith)
-
-pub returns : goal.returns
-returns c = let e : c.loop-k.k ≡ 9 = omega arith in rw e at c.loop-k.invariant.1

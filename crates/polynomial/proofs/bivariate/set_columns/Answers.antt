@@ -2,13 +2,10 @@
 use mathlib.Core.Path.{◌≡◌}
 use Prim.Native.Nat.{suc, ◌<◌}
 use native.Mathlib.Omega.{arith}
-use Rattle.field.proofs.Loop.{upto_start, upto_step, upto_put}
+use Rattle.field.proofs.Loop.{upto_step, upto_put}
 use Rattle.polynomial.proofs.Powers.{powers-less}
 use Rattle.polynomial.proofs.Columns.{coefficients-row, column-values}
 use Rattle.polynomial.proofs.bivariate.set_columns.Goals as goal
-
-pub loop-t-init : goal.loop-t-init
-loop-t-init c = (omega arith, c.requires.4, λ x P. upto_start c.requires.4.size)
 
 pub values-requires : goal.values-requires
 values-requires c =

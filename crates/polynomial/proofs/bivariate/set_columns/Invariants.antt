@@ -12,7 +12,8 @@ use Rattle.polynomial.proofs.bivariate.set_columns.Given as goal
 abbrev pub invariant-loop-t : goal.invariant-loop-t
 invariant-loop-t l =
     (l.t ≤ l.d + 1) × Rows l.p l.columns
-    × ((x : List ℕ) → Powers l.p x l.d l.powers → Upto 16 [] (λ t w. w ≡ row λ r. column l.d (coef l.message) t (at x r) % l.p) l.columns l.t)
+    × ((x : List ℕ) → Powers l.p x l.d l.powers →
+    Upto 16 [] (λ t w. w ≡ row λ r. column l.d (coef l.message) t (at x r) % l.p) l.columns l.t)
 
 abbrev pub decreases-loop-t : goal.decreases-loop-t
 decreases-loop-t l = l.d + 1 - l.t

@@ -19,11 +19,6 @@ loop-t-init c =
       rw (start-points x m.least X R) (powers-start x m.least X R),
     )
 
-pub multiply-requires : goal.multiply-requires
-multiply-requires c =
-    let rows = c.loop-t.invariant.2 in
-    (c.requires.0, rows.done _ (omega arith), rows.done _ (omega arith))
-
 pub loop-t-preserved : goal.loop-t-preserved
 loop-t-preserved c =
     let l = c.loop-t in

@@ -11,7 +11,8 @@ use Rattle.polynomial.proofs.evaluation.set_powers.Given as goal
 
 abbrev pub invariant-loop-t : goal.invariant-loop-t
 invariant-loop-t l =
-    (2 ≤ l.t) × (l.t ≤ 16) × Rows l.p l.rows × Upto 16 [] (λ t x. x ≡ row λ j. at (get_or l.initial.rows 1 []) j ^ t % l.p) l.rows l.t
+    (2 ≤ l.t) × (l.t ≤ 16) × Rows l.p l.rows
+    × Upto 16 [] (λ t x. x ≡ row λ j. at (get_or l.initial.rows 1 []) j ^ t % l.p) l.rows l.t
 
 abbrev pub decreases-loop-t : goal.decreases-loop-t
 decreases-loop-t l = 16 - l.t

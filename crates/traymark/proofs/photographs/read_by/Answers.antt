@@ -17,15 +17,15 @@ use Rattle.traymark.proofs.Answer.{read-refuses, read_takes}
 use Rattle.traymark.proofs.photographs.read_by.Goals as goal
 
 -- a reading of what the buffers hold, once the cells are combined, is that of the combination
-of_set : (S B : List ℕ) {plan : Plan} → Says (set_plan S) plan → {n : ℕ} → n ≡ cells oblong (set_plan S) →
-    {s u : List ℕ} → s ≡ tab n (λ c. symbol_of (column S c) 9) → u ≡ tab n (λ c. doubt_of plan.grid.full (column S c) 9) →
-    (r : Reading) (b : List ℕ) → Reads oblong (set_plan S) s u B r b →
+of_set : (S B : List ℕ) {plan : Plan} → Says (set_plan S) plan → {n : ℕ} {s u : List ℕ} →
+    s ≡ tab n (λ c. symbol_of (column S c) 9) → u ≡ tab n (λ c. doubt_of plan.grid.full (column S c) 9) →
+    n ≡ cells oblong (set_plan S) → (r : Reading) (b : List ℕ) → Reads oblong (set_plan S) s u B r b →
     Reads oblong (set_plan S) (combined_symbols S) (combined_doubts S) B r b
 unfolding combined_symbols combined_doubts
-of_set S B says {n} l {s} {u} e f r b h =
+of_set S B says {n} {s} {u} e f l r b h =
     let symbols_are : s ≡ combined_symbols S = e ∙ ap (λ n. tab n λ c. symbol_of (column S c) 9) l in
-    let doubts_are : u ≡ combined_doubts S =
-    f ∙ ap₂ (λ n f. tab n λ c. doubt_of f (column S c) 9) l (ap (λ plan. plan.grid.full) says.fields) in
+    let full_is = ap (λ plan. plan.grid.full) says.fields in
+    let doubts_are : u ≡ combined_doubts S = f ∙ ap₂ (λ n f. tab n λ c. doubt_of f (column S c) 9) l full_is in
     rw (symbols_are, doubts_are) at h
 
 pub overflow_cast-plan : goal.overflow_cast-plan
@@ -34,16 +34,17 @@ overflow_cast-plan c = omega (arith, (ready c.requires.0).byte)
 pub cells-requires : goal.cells-requires
 cells-requires c =
     let pre = c.requires in
-    (pre.1, omega (arith, pre.2, cells-most oblong pre.0.sound), pre.3)
+    (pre.1, omega (arith, pre.2, pre.3, cells-most oblong pre.0.sound), omega (arith, pre.3))
 
 pub photo_refusal-number-requires : goal.photo_refusal-number-requires
 photo_refusal-number-requires c = ready c.requires.0
 
 pub returns-then-number-ne0 : goal.returns-then-number-ne0
 returns-then-number-ne0 c =
-    let says = c.requires.0 in
-    let h = of_set c.args.set.now c.args.«record».now says c.requires.2 c.cells.ensures.symbols c.cells.ensures.doubts _ _
-    (read-refuses _ _ _ _ _ (c.photo_refusal-number.ensures _ says) c.if-number-ne0.true) in
+    let pre = c.requires in
+    let says = pre.0 in
+    let read = read-refuses _ _ _ _ _ (c.photo_refusal-number.ensures _ says) c.if-number-ne0.true in
+    let h = of_set _ _ says c.cells.ensures.symbols c.cells.ensures.doubts (omega (arith, pre.2, pre.3)) _ _ read in
     record { reading = c.refused.ensures ∙ h.reading; bytes = h.buffer }
 
 pub read_mark-requires : goal.read_mark-requires
@@ -53,8 +54,9 @@ read_mark-requires c =
 
 pub returns : goal.returns
 returns c =
-    let says = c.requires.0 in
+    let pre = c.requires in
+    let says = pre.0 in
     let taken = read_takes _ _ _ _ _ (c.photo_refusal-number.ensures _ says) c.if-number-ne0.false in
-    let h = of_set c.args.set.now c.args.«record».now says c.requires.2 c.cells.ensures.symbols c.cells.ensures.doubts _ _
-    (c.read_mark.ensures _ says taken) in
+    let read = c.read_mark.ensures _ says taken in
+    let h = of_set _ _ says c.cells.ensures.symbols c.cells.ensures.doubts (omega (arith, pre.2, pre.3)) _ _ read in
     record { reading = h.reading; bytes = h.buffer }
