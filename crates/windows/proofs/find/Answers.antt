@@ -36,25 +36,6 @@ found c =
 within : (file : List ℕ) (t : Date) {k : ℕ} → k ≡ first_with file t → (k ≡ windows file → ⊥) → k < windows file
 within file t e n = rw e (index-within _ _ (index-some _ _ λ i. n (e ∙ i)))
 
-pub returns-then-file-ne0 : goal.returns-then-file-ne0
-unfolding season_rows
-returns-then-file-ne0 c =
-    let e = season-at _ _ 0 (unequal _ _ c.if-file-ne0.true) in
-    record { number = e; season = sym (no-season _ _ λ z. omega (arith, e, z)) }
-
-pub returns-then-n-gt-MOST_WINDOWS : goal.returns-then-n-gt-MOST_WINDOWS
-unfolding season_rows
-returns-then-n-gt-MOST_WINDOWS c =
-    let e = season-at _ _ 1 (equal _ _ c.if-file-ne0.false & lt-ltb _ _ c.if-n-gt-MOST_WINDOWS.true) in
-    record { number = e; season = sym (no-season _ _ λ z. omega (arith, e, z)) }
-
-pub returns-then-is_any_faulty : goal.returns-then-is_any_faulty
-unfolding season_rows
-returns-then-is_any_faulty c =
-    let e = season-at _ _ 2 (equal _ _ c.if-file-ne0.false & le-ltb _ _ c.if-n-gt-MOST_WINDOWS.false
-    & answered c.is_any_faulty.ensures c.if-is_any_faulty.true) in
-    record { number = e; season = sym (no-season _ _ λ z. omega (arith, e, z)) }
-
 pub fill_keys-requires : goal.fill_keys-requires
 fill_keys-requires c =
     let clear = answered c.is_any_faulty.ensures c.if-is_any_faulty.false in
@@ -64,34 +45,6 @@ pub fill_keys-requires-2 : goal.fill_keys-requires-2
 fill_keys-requires-2 c =
     let clear = answered c.is_any_faulty.ensures c.if-is_any_faulty.false in
     (omega arith, omega arith, lit< tt, (λ k l. (all_windows _ _ clear k l).last), search rules)
-
-pub returns-then-is_clashing : goal.returns-then-is_clashing
-unfolding season_rows
-returns-then-is_clashing c =
-    let e = season-at _ _ 3 (equal _ _ c.if-file-ne0.false & le-ltb _ _ c.if-n-gt-MOST_WINDOWS.false
-    & answered c.is_any_faulty.ensures c.if-is_any_faulty.false
-    & answered (clashes (goal.at.returns-then-is_clashing c).After-is_clashing) c.if-is_clashing.true) in
-    record { number = e; season = sym (no-season _ _ λ z. omega (arith, e, z)) }
-
-pub returns-then-not-is_real : goal.returns-then-not-is_real
-unfolding season_rows
-returns-then-not-is_real c =
-    let e = season-at _ _ 4 (equal _ _ c.if-file-ne0.false & le-ltb _ _ c.if-n-gt-MOST_WINDOWS.false
-    & answered c.is_any_faulty.ensures c.if-is_any_faulty.false
-    & answered (clashes (goal.at.returns-then-not-is_real c).After-is_clashing) c.if-is_clashing.false
-    & turned_true (answered c.is_real.ensures c.if-not-is_real.true)) in
-    record { number = e; season = sym (no-season _ _ λ z. omega (arith, e, z)) }
-
-pub returns-then-k-n : goal.returns-then-k-n
-unfolding season_rows
-returns-then-k-n c =
-    let none = found (goal.at.returns-then-k-n c).After-place-k in
-    let e = season-at _ _ 5 (equal _ _ c.if-file-ne0.false & le-ltb _ _ c.if-n-gt-MOST_WINDOWS.false
-    & answered c.is_any_faulty.ensures c.if-is_any_faulty.false
-    & answered (clashes (goal.at.returns-then-k-n c).After-is_clashing) c.if-is_clashing.false
-    & not-true (answered c.is_real.ensures c.if-not-is_real.false)
-    & turned_true (index-end _ _ (sym none ∙ c.if-k-n.true))) in
-    record { number = e; season = sym (no-season _ _ λ z. omega (arith, e, z)) }
 
 pub overflow_mul-at : goal.overflow_mul-at
 overflow_mul-at c = omega (arith, within _ _ (found (goal.at.overflow_mul-at c).After-place-k) c.if-k-n.false)
@@ -105,11 +58,58 @@ overflow_add-at c = omega (arith, within _ _ (found (goal.at.overflow_add-at c).
 pub bounds-file-at-2 : goal.bounds-file-at-2
 bounds-file-at-2 c = omega (arith, within _ _ (found (goal.at.bounds-file-at-2 c).After-place-k) c.if-k-n.false)
 
+pub returns-then-file-ne0 : goal.returns-then-file-ne0
+unfolding season_rows
+returns-then-file-ne0 c =
+    let e = season-at _ _ 0 (unequal _ _ c.if-file-ne0.true) in
+    record { number = e; season = sym (no-season _ _ λ z. omega (arith, e, z)) }
+
+pub returns-then-n-gt-MOST_WINDOWS : goal.returns-then-n-gt-MOST_WINDOWS
+unfolding season_rows
+returns-then-n-gt-MOST_WINDOWS c =
+    let e = season-at _ _ 1 (equal _ _ c.if-file-ne0.false & lt-ltb _ _ (omega arith)) in
+    record { number = e; season = sym (no-season _ _ λ z. omega (arith, e, z)) }
+
+pub returns-then-is_any_faulty : goal.returns-then-is_any_faulty
+unfolding season_rows
+returns-then-is_any_faulty c =
+    let e = season-at _ _ 2 (equal _ _ c.if-file-ne0.false & le-ltb _ _ (omega arith)
+    & answered c.is_any_faulty.ensures c.if-is_any_faulty.true) in
+    record { number = e; season = sym (no-season _ _ λ z. omega (arith, e, z)) }
+
+pub returns-then-is_clashing : goal.returns-then-is_clashing
+unfolding season_rows
+returns-then-is_clashing c =
+    let e = season-at _ _ 3 (equal _ _ c.if-file-ne0.false & le-ltb _ _ (omega arith)
+    & answered c.is_any_faulty.ensures c.if-is_any_faulty.false
+    & answered (clashes (goal.at.returns-then-is_clashing c).After-is_clashing) c.if-is_clashing.true) in
+    record { number = e; season = sym (no-season _ _ λ z. omega (arith, e, z)) }
+
+pub returns-then-not-is_real : goal.returns-then-not-is_real
+unfolding season_rows
+returns-then-not-is_real c =
+    let e = season-at _ _ 4 (equal _ _ c.if-file-ne0.false & le-ltb _ _ (omega arith)
+    & answered c.is_any_faulty.ensures c.if-is_any_faulty.false
+    & answered (clashes (goal.at.returns-then-not-is_real c).After-is_clashing) c.if-is_clashing.false
+    & turned_true (answered c.is_real.ensures c.if-not-is_real.true)) in
+    record { number = e; season = sym (no-season _ _ λ z. omega (arith, e, z)) }
+
+pub returns-then-k-n : goal.returns-then-k-n
+unfolding season_rows
+returns-then-k-n c =
+    let none = found (goal.at.returns-then-k-n c).After-place-k in
+    let e = season-at _ _ 5 (equal _ _ c.if-file-ne0.false & le-ltb _ _ (omega arith)
+    & answered c.is_any_faulty.ensures c.if-is_any_faulty.false
+    & answered (clashes (goal.at.returns-then-k-n c).After-is_clashing) c.if-is_clashing.false
+    & not-true (answered c.is_real.ensures c.if-not-is_real.false)
+    & turned_true (index-end _ _ (sym none ∙ c.if-k-n.true))) in
+    record { number = e; season = sym (no-season _ _ λ z. omega (arith, e, z)) }
+
 pub returns : goal.returns
 unfolding season_rows
 returns c =
     let one = found (goal.at.returns c).After-place-k in
-    let e = season-at _ _ 6 (equal _ _ c.if-file-ne0.false & le-ltb _ _ c.if-n-gt-MOST_WINDOWS.false
+    let e = season-at _ _ 6 (equal _ _ c.if-file-ne0.false & le-ltb _ _ (omega arith)
     & answered c.is_any_faulty.ensures c.if-is_any_faulty.false
     & answered (clashes (goal.at.returns c).After-is_clashing) c.if-is_clashing.false
     & not-true (answered c.is_real.ensures c.if-not-is_real.false)
