@@ -5,56 +5,59 @@
 #![tactic(auto)]
 
 use definitions::Reading;
-use text::magnitude;
+use std::io;
 use traymark::measure::{traymark_measure_mark, traymark_measure_strip};
 use traymark::write::{traymark_write_mark, traymark_write_strip};
 
-fn main() {
+fn main(rt: HostRuntime) -> io::Result<()> {
     let record = [3u8, 1, 2];
     let mut mark = [9u8; 9];
-    write(b"a write 3 1 2", &record, &mut mark);
-    measure(b"measure it", &record, &mark);
+    write(&rt, "a write 3 1 2", &record, &mut mark)?;
+    measure(&rt, "measure it", &record, &mark)?;
     let mut photo = mark;
     photo[0] = 0;
     photo[1] = 0;
     photo[2] = 0;
-    measure(b"k first three cells 0", &record, &photo);
-    measure(b"measure 0 0 0", &[0u8; 3], &mark);
-    strips();
-    finer_doubts();
-    half_tray();
-    refusals();
+    measure(&rt, "k first three cells 0", &record, &photo)?;
+    measure(&rt, "measure 0 0 0", &[0u8; 3], &mark)?;
+    strips(&rt)?;
+    finer_doubts(&rt)?;
+    half_tray(&rt)?;
+    refusals(&rt)
 }
 
 // The same on one row: the record 3 1 at the row points 1 2 4.
-fn strips() {
+fn strips(rt: &impl Print) -> io::Result<()> {
     let plan = plan_a();
     let record = [3u8, 1];
     let mut strip = [9u8; 3];
     let number = traymark_write_strip(&plan, &record, &mut strip);
-    written(b"write the strip 3 1", number, &strip);
+    written(rt, "write the strip 3 1", number, &strip)?;
     measured(
-        b"measure it",
+        rt,
+        "measure it",
         traymark_measure_strip(&plan, &record, &strip, &[0u8; 3]),
-    );
+    )?;
     measured(
-        b"a cell unread, another wrong",
+        rt,
+        "a cell unread, another wrong",
         traymark_measure_strip(&plan, &record, &[255u8, 5, 1], &[100u8, 0, 0]),
-    );
+    )
 }
 
 // The strip with a cell unread and another wrong again: from season 30 on doubts are in 250ths.
-fn finer_doubts() {
+fn finer_doubts(rt: &impl Print) -> io::Result<()> {
     let mut plan = plan_a();
     plan[1] = 30;
     measured(
-        b"the same in season 30",
+        rt,
+        "the same in season 30",
         traymark_measure_strip(&plan, &[3u8, 1], &[255u8, 5, 1], &[250u8, 0, 0]),
-    );
+    )
 }
 
 // Three rows at the points 1 2 4, and two columns at 0 and 5: the same record in six cells, with a cell wrong.
-fn half_tray() {
+fn half_tray(rt: &impl Print) -> io::Result<()> {
     let mut plan = plan_a();
     plan[4] = 2;
     plan[22] = 0;
@@ -63,41 +66,43 @@ fn half_tray() {
     let record = [3u8, 1, 2];
     let mut mark = [9u8; 6];
     let number = traymark_write_mark(&plan, &record, &mut mark);
-    written(b"write 3 1 2 on a half tray", number, &mark);
+    written(rt, "write 3 1 2 on a half tray", number, &mark)?;
     mark[0] = 6;
     measured(
-        b"first cell 6",
+        rt,
+        "first cell 6",
         traymark_measure_mark(&plan, &record, &mark, &[0u8; 6]),
-    );
+    )
 }
 
 // Refusals 6 to 9. The buffers of 9s stay as they were.
-fn refusals() {
+fn refusals(rt: &impl Print) -> io::Result<()> {
     let mut short = [9u8; 8];
     let six = traymark_write_mark(&plan_a(), &[3u8, 1, 2], &mut short);
-    written(b"8 bytes for the mark", six, &short);
+    written(rt, "8 bytes for the mark", six, &short)?;
     let mut photo = [0u8; 9];
     photo[4] = 7;
-    measure(b"a symbol 7", &[3u8, 1, 2], &photo);
+    measure(rt, "a symbol 7", &[3u8, 1, 2], &photo)?;
     photo[4] = 255;
-    measure(b"unread with doubt 0", &[3u8, 1, 2], &photo);
-    measure(b"measure 3 1 7", &[3u8, 1, 7], &[0u8; 9]);
+    measure(rt, "unread with doubt 0", &[3u8, 1, 2], &photo)?;
+    measure(rt, "measure 3 1 7", &[3u8, 1, 7], &[0u8; 9])?;
     let mut mark = [9u8; 9];
-    write(b"write 3 1 7", &[3u8, 1, 7], &mut mark);
+    write(rt, "write 3 1 7", &[3u8, 1, 7], &mut mark)
 }
 
 // Writes a record under plan A.
-fn write(name: &[u8], record: &[u8; 3], mark: &mut [u8; 9]) {
+fn write(rt: &impl Print, name: &str, record: &[u8; 3], mark: &mut [u8; 9]) -> io::Result<()> {
     let number = traymark_write_mark(&plan_a(), record, mark);
-    written(name, number, mark);
+    written(rt, name, number, mark)
 }
 
 // Measures a record under plan A against a photograph with all doubts 0.
-fn measure(name: &[u8], record: &[u8; 3], photo: &[u8; 9]) {
+fn measure(rt: &impl Print, name: &str, record: &[u8; 3], photo: &[u8; 9]) -> io::Result<()> {
     measured(
+        rt,
         name,
         traymark_measure_mark(&plan_a(), record, photo, &[0u8; 9]),
-    );
+    )
 }
 
 // Plan A: season 12, p 7, three rows, three columns, degree 1, points 1 2 4 each way.
@@ -118,38 +123,24 @@ fn plan_a() -> [u8; 40] {
 }
 
 // A line: the number and the bytes of the buffer.
-fn written(name: &[u8], number: u32, bytes: &[u8]) {
-    io::write_all(1, name);
-    text(b": ", number);
-    io::write_all(1, b",");
-    for i in 0..bytes.len() {
-        text(b" ", wide(bytes[i]));
+fn written(rt: &impl Print, name: &str, number: u32, bytes: &[u8]) -> io::Result<()> {
+    print!(rt; "{name}: {number},")?;
+    for byte in bytes {
+        print!(rt; " {byte}")?;
     }
-    io::write_all(1, b"\n");
-}
-
-fn wide(byte: u8) -> u32 {
-    byte as u32
+    rt.println("")
 }
 
 // A line: the number and the reading.
-fn measured(name: &[u8], reading: Reading) {
-    io::write_all(1, name);
-    text(b": ", reading.number);
-    text(b", D ", reading.cost);
-    let margin = reading.margin;
-    if margin < 0 {
-        text(b", margin -", magnitude(margin));
-    } else {
-        text(b", margin ", magnitude(margin));
-    }
-    text(b", changed ", reading.changed);
-    text(b", unread ", reading.unread);
-    text(b", class ", reading.class);
-    io::write_all(1, b"\n");
-}
-
-fn text(name: &[u8], number: u32) {
-    io::write_all(1, name);
-    io::print_decimal(1, number as u64);
+fn measured(rt: &impl Print, name: &str, reading: Reading) -> io::Result<()> {
+    let Reading {
+        number,
+        cost,
+        margin,
+        changed,
+        unread,
+        class,
+    } = reading;
+    print!(rt; "{name}: {number}, D {cost}, margin {margin}")?;
+    println!(rt; ", changed {changed}, unread {unread}, class {class}")
 }

@@ -5,21 +5,22 @@
 
 ghost use Rattle.std.specs.Prelude.{◌<◌};
 
+use std::io;
 use traymark::plans::{find_plan, traymark_check_plan, traymark_find_plan, traymark_widen_plans};
 
-fn main() {
-    line(b"plan A", traymark_check_plan(&plan_a()));
-    line(b"39 bytes", traymark_check_plan(&[0u8; 39]));
-    changed(b"byte 39 is 1", 39, 1);
-    changed(b"l p 9", 2, 9);
-    changed(b"no row", 3, 0);
-    changed(b"no column", 4, 0);
-    changed(b"l d 3", 5, 3);
-    changed(b"l row points 1 1 4", 7, 1);
-    changed(b"column points 1 1 4", 23, 1);
-    changed(b"byte 21 is 1", 21, 1);
-    changed(b"byte 37 is 1", 37, 1);
-    half_trays();
+fn main(rt: HostRuntime) -> io::Result<()> {
+    line(&rt, "plan A", traymark_check_plan(&plan_a()))?;
+    line(&rt, "39 bytes", traymark_check_plan(&[0u8; 39]))?;
+    changed(&rt, "byte 39 is 1", 39, 1)?;
+    changed(&rt, "l p 9", 2, 9)?;
+    changed(&rt, "no row", 3, 0)?;
+    changed(&rt, "no column", 4, 0)?;
+    changed(&rt, "l d 3", 5, 3)?;
+    changed(&rt, "l row points 1 1 4", 7, 1)?;
+    changed(&rt, "column points 1 1 4", 23, 1)?;
+    changed(&rt, "byte 21 is 1", 21, 1)?;
+    changed(&rt, "byte 37 is 1", 37, 1)?;
+    half_trays(&rt)?;
 
     // Four records: season 11; 12 corrected, p 2 with the one point 0 each way; 12 as it was, with all else 0; 12 corrected once
     // more.
@@ -34,12 +35,12 @@ fn main() {
     file[122] = 2;
     file[123] = 1;
     file[124] = 1;
-    find(b"season 12", &file, 12);
-    find(b"season 13", &file, 13);
-    find(b"season 12 in 159 bytes", &file[..159], 12);
-    found(b"season 12 with the corrected plan on top", &file);
-    found(b"season 12 with the faulty plan on top", &file[80..]);
-    widen();
+    find(&rt, "season 12", &file, 12)?;
+    find(&rt, "season 13", &file, 13)?;
+    find(&rt, "season 12 in 159 bytes", &file[..159], 12)?;
+    found(&rt, "season 12 with the corrected plan on top", &file)?;
+    found(&rt, "season 12 with the faulty plan on top", &file[80..])?;
+    widen(&rt)
 }
 
 // Plan A: season 12, p 7, three rows, three columns, degree 1, points 1 2 4 each way.
@@ -60,60 +61,56 @@ fn plan_a() -> [u8; 40] {
 }
 
 // Plan A with two columns at the points 1 and 2, and degrees below and at the smaller side.
-fn half_trays() {
+fn half_trays(rt: &impl Print) -> io::Result<()> {
     let mut plan = plan_a();
     plan[4] = 2;
     plan[24] = 0;
-    line(b"two columns", traymark_check_plan(&plan));
+    line(rt, "two columns", traymark_check_plan(&plan))?;
     plan[5] = 2;
-    line(b"two columns, d 2", traymark_check_plan(&plan));
+    line(rt, "two columns, d 2", traymark_check_plan(&plan))
 }
 
 // Plan A in 24 bytes: one n, one list of points. Widened it is plan A, and sound; half of it is refused.
-fn widen() {
+fn widen(rt: &impl Print) -> io::Result<()> {
     let old = [
         0u8, 12, 7, 3, 1, 1, 2, 4, 0, 0, 0, 0, 0, 0, 0, 0, 0, 0, 0, 0, 0, 0, 0, 0,
     ];
     let mut plan = [0u8; 40];
-    line(b"plan A widened", traymark_widen_plans(&old, &mut plan));
-    line(b"its check", traymark_check_plan(&plan));
+    line(rt, "plan A widened", traymark_widen_plans(&old, &mut plan))?;
+    line(rt, "its check", traymark_check_plan(&plan))?;
     line(
-        b"half of it widened",
+        rt,
+        "half of it widened",
         traymark_widen_plans(&old[..12], &mut plan),
-    );
+    )
 }
 
 // Plan A with one byte changed.
-fn changed(name: &[u8], i: usize, byte: u8)
+fn changed(rt: &impl Print, name: &str, i: usize, byte: u8) -> io::Result<()>
     requires { i < 40 }
 {
     let mut plan = plan_a();
     plan[i] = byte;
-    line(name, traymark_check_plan(&plan));
+    line(rt, name, traymark_check_plan(&plan))
 }
 
 // The number and the offset that C gets.
-fn find(name: &[u8], file: &[u8], season: u16) {
+fn find(rt: &impl Print, name: &str, file: &[u8], season: u16) -> io::Result<()> {
     let mut offset: usize = 0;
     let number = traymark_find_plan(file, season, &mut offset);
-    text(name, number as u64);
-    text(b", offset", offset as u64);
-    io::write_all(1, b"\n");
+    println!(rt; "{name}: {number}, offset: {offset}")
 }
 
 // What the check says of the plan of season 12 that is found; where none is, of an empty part, 1.
-fn found(name: &[u8], file: &[u8]) {
+fn found(rt: &impl Print, name: &str, file: &[u8]) -> io::Result<()> {
     let mut number: u32 = 0;
-    line(name, traymark_check_plan(find_plan(file, 12, &mut number)));
+    line(
+        rt,
+        name,
+        traymark_check_plan(find_plan(file, 12, &mut number)),
+    )
 }
 
-fn line(name: &[u8], number: u32) {
-    text(name, number as u64);
-    io::write_all(1, b"\n");
-}
-
-fn text(name: &[u8], number: u64) {
-    io::write_all(1, name);
-    io::write_all(1, b": ");
-    io::print_decimal(1, number);
+fn line(rt: &impl Print, name: &str, number: u32) -> io::Result<()> {
+    println!(rt; "{name}: {number}")
 }

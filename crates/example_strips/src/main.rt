@@ -6,77 +6,77 @@
 
 ghost use Rattle.std.specs.Prelude.{◌≡◌, length};
 
+use definitions::Reading;
+use std::io;
+use text::fill;
 use traymark::read::traymark_read_strip;
 
 const SIZE: usize = 72;
 
-fn main() {
-    let mut i: u32 = 0;
-    while i < 1000 {
+fn main(rt: HostRuntime) -> io::Result<()> {
+    for _ in 0..1000 {
         let mut space = [0u8; SIZE];
-        let got = io::read_full(0, &mut space);
-        if got < SIZE {
-            return;
+        if fill(&mut rt.stdin(), &mut space) < SIZE {
+            return Ok(());
         }
         let mut record = [0u8; 16];
-        read(&space, &mut record);
-        i += 1;
+        read(&rt, &space, &mut record)?;
     }
+    Ok(())
 }
 
 // One case. A plan of more than sixteen rows, or of a degree above 15, has no record of at most sixteen bytes.
-fn read(case: &[u8], record: &mut [u8])
+fn read(rt: &impl Print, case: &[u8], record: &mut [u8]) -> io::Result<()>
     requires { (length case.now ≡ 72) × (length «record».old ≡ 16) }
 {
-    let n = wide(case[3]) as usize;
-    let d = wide(case[5]) as usize;
+    let p = case[2];
+    let n = usize::from(case[3]);
+    let d = usize::from(case[5]);
     if n > 16 {
-        return;
+        return Ok(());
     }
     if d > 15 {
-        return;
+        return Ok(());
     }
     let symbols = 40 + n;
     let doubts = 56 + n;
     let size = d + 1;
-    number(b"p ", wide(case[2]));
-    number(b" n ", wide(case[3]));
-    number(b" d ", wide(case[5]));
-    io::write_all(1, b": ");
+    print!(rt; "p {p} n {n} d {d}: ")?;
     tell(
+        rt,
         &case[0..40],
         &case[40..symbols],
         &case[56..doubts],
         &mut record[0..size],
-    );
+    )
 }
 
 // Reads a strip and prints its line.
-fn tell(plan: &[u8], symbols: &[u8], doubts: &[u8], record: &mut [u8]) {
-    let reading = traymark_read_strip(plan, symbols, doubts, record);
-    number(b"number ", reading.number);
-    number(b", D ", reading.cost);
-    number(b", margin ", text::magnitude(reading.margin));
-    number(b", changed ", reading.changed);
-    number(b", unread ", reading.unread);
-    number(b", class ", reading.class);
-    io::write_all(1, b",");
-    coefficients(record);
+fn tell(
+    rt: &impl Print,
+    plan: &[u8],
+    symbols: &[u8],
+    doubts: &[u8],
+    record: &mut [u8],
+) -> io::Result<()> {
+    let Reading {
+        number,
+        cost,
+        margin,
+        changed,
+        unread,
+        class,
+    } = traymark_read_strip(plan, symbols, doubts, record);
+    let margin = text::magnitude(margin);
+    print!(rt; "number {number}, D {cost}, margin {margin}")?;
+    print!(rt; ", changed {changed}, unread {unread}, class {class},")?;
+    coefficients(rt, record)
 }
 
 // The rest of a line: the bytes of the record's buffer.
-fn coefficients(record: &[u8]) {
-    for i in 0..record.len() {
-        number(b" ", wide(record[i]));
+fn coefficients(rt: &impl Print, record: &[u8]) -> io::Result<()> {
+    for byte in record {
+        print!(rt; " {byte}")?;
     }
-    io::write_all(1, b"\n");
-}
-
-fn number(name: &[u8], value: u32) {
-    io::write_all(1, name);
-    io::print_decimal(1, value as u64);
-}
-
-fn wide(byte: u8) -> u32 {
-    byte as u32
+    rt.println("")
 }

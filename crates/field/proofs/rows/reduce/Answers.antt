@@ -18,4 +18,4 @@ pub returns : goal.returns
 returns c =
     let a = c.args in
     let l = quotient_low a.t a.p a.m c.requires in
-    (remainder_is a.t a.p (a.t * a.m / 65536) _ c.if-r-p.false (omega arith), c.if-r-p.false)
+    (remainder_is a.t a.p (a.t * a.m / 65536) _ (omega arith) (omega arith), omega arith)

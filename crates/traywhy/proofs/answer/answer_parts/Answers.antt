@@ -71,7 +71,8 @@ start-size-requires c =
 pub overflow_add-symbols : goal.overflow_add-symbols
 overflow_add-symbols c =
     let i = c.args.input.now in
-    omega (arith, size_is i c.parse-said.ensures c.start-size.ensures, size-most i c.requires.0)
+    let says = c.parse-said.ensures in
+    omega (arith, size_is i says c.start-size.ensures, size-most i c.requires.0, cells-most i says)
 
 pub overflow_add-doubts : goal.overflow_add-doubts
 overflow_add-doubts c =
