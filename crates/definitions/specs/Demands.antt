@@ -58,7 +58,7 @@
 --                           check gives what document 01's check gave Q with bytes 21 to 23 put to 0
 --   WidenedInOrder old      plan k of all that are widened is plan k of the bytes old, widened
 --
--- Signed numbers are the kit's (lib.IntN, lib.Signed): pos n is n, neg_ℤ (pos n) is -n, ≤ℤ their order.
+-- Signed numbers are those of std: pos n is n, neg_ℤ (pos n) is -n, ≤ℤ their order.
 -- What this file is for: the sentences that a user relies on, each as one statement whose parts are named.
 use Rattle.std.specs.Prelude.{◌≡◌, true, false, cond, List, [], ◌∷◌, ◌++◌, ◌≢◌, ◌↔◌, ◌⊎◌, eqb, length, take, drop}
 use Rattle.std.specs.Prelude.{ℕ, ◌+◌, ◌*◌, ◌-◌, ◌/◌, ◌%◌, ◌^◌, ◌≤◌, ◌<◌, min, max, ℤ, pos, neg_ℤ, ◌-ℤ◌, ◌≤ℤ◌}

@@ -4,20 +4,18 @@
 --   upto_step      element i is set, and T holds up to i + 1
 --   upto_put       an element is set anew, anywhere
 --   upto_less      what holds up to i holds up to less
---   passed_start   before the first element the array is as it was
 --   passed_step    element i is changed where it stands
 --   passed_over    element i is as it should be already
---   passed_zeros   before the first element all are zeros
 --   passed_rest    those that stay zeros are as they should be too
 --
 -- What this file is for: one law a step for every loop over one array; the facts T and U are the loop's own. Assumes nothing.
 use mathlib.Core.Logic.{◌≢◌}
-use mathlib.Core.Path.{◌≡◌, refl, ◌∙◌}
+use mathlib.Core.Path.{◌≡◌, ◌∙◌}
 use mathlib.Core.List.{List}
 use Prim.Native.Nat.{ℕ, ◌+◌, ◌≤◌, ◌<◌}
 use native.Mathlib.Omega.{arith}
 use native.Mathlib.Decide.{ℕ_discrete, dec_lt}
-use lib.ListN.{length, get_or, set, replicate, length-set, length-replicate, get_or-replicate}
+use lib.ListN.{length, get_or, set, length-set}
 use lib.Seq.{get_or-set_same, get_or-set_other}
 use Rattle.field.specs.Loop.{Upto, Passed}
 
@@ -46,10 +44,6 @@ module _ {A : Type 0} {n : ℕ} {z : A} {T : ℕ → A → Type 0} where
   pub upto_less : {l : List A} {i m : ℕ} → m ≤ i → Upto n z T l i → Upto n z T l m
   upto_less h p = record { size = p.size; done = λ j k. p.done j (omega arith) }
 
-pub passed_start : {A : Type 0} {n : ℕ} {z : A} {T : ℕ → A → Type 0} {l : List A} → length l ≡ 16 →
-    Passed n z (λ j v. v ≡ get_or l j z) T l 0
-passed_start e = record { size = e; done = λ j k. absurd (omega arith); todo = λ j k m. refl }
-
 module _ {A : Type 0} {n : ℕ} {z : A} {U T : ℕ → A → Type 0} where
   pub passed_step : {l : List A} {i : ℕ} (v : A) → i < 16 → T i v → Passed n z U T l i → Passed n z U T (set l i v) (i + 1)
   passed_step {l} {i} v b t p = record {
@@ -71,13 +65,6 @@ module _ {A : Type 0} {n : ℕ} {z : A} {U T : ℕ → A → Type 0} where
 
 -- an array of zeros, of which the first are set; a row of zeros is the zero of an array of rows
 module _ {A : Type 0} {z zero : A} {T : ℕ → A → Type 0} where
-  pub passed_zeros : Passed 16 z (λ j v. v ≡ zero) T (replicate 16 zero) 0
-  passed_zeros = record {
-    size = length-replicate {A = A} 16 zero;
-    done = λ j l. absurd (omega arith);
-    todo = λ j _ l. get_or-replicate {A = A} 16 j zero z l;
-  }
-
   pub passed_rest : {l : List A} {i : ℕ} → Passed 16 z (λ j v. v ≡ zero) T l i → ((j : ℕ) → i ≤ j → T j zero) → Upto 16 z T l 16
   passed_rest {i} p h = record {
     size = p.size;

@@ -4,7 +4,6 @@
 --   quotient_high   and less than 2 p from it
 --   remainder_is    what is left below p is the remainder
 --   product_fits    the product of a number up to p and a residue is at most 251 * 250
---   sum_fits        and with a residue added at most 63,000
 --   fold_is         a number of three bytes by its high two, with c for 256, and its low one
 --
 -- What this file is for: `reduce`, and the bounds by which no 16-bit number overflows. Assumes nothing.
@@ -35,10 +34,6 @@ remainder_is t p q r h e = sym (ap (λ x. x % p) (e ∙ omega arith) ∙ add-mul
 -- a product of two residues, and of one with the modulus itself, fits 16 bits
 pub product_fits : {p x y : ℕ} → p ≤ 251 → x ≤ p → y < p → x * y ≤ 62750
 product_fits {p} {x} {y} h a b = mul-le-mul {n₁ = x} {m₁ = y} {n₂ = 251} {m₂ = 250} (omega arith) (omega arith)
-
--- and so does one with a residue added
-pub sum_fits : {p v x y : ℕ} → p ≤ 251 → v < p → x ≤ p → y < p → v + x * y ≤ 63000
-sum_fits h l a b = omega (arith, product_fits h a b)
 
 -- a number of three bytes by its high two and its low one
 pub fold_is : {p : ℕ} (t h c : ℕ) → 0 < p → h ≡ t / 256 % p → c ≡ 256 % p → (h * c + t % 256) % p ≡ t % p

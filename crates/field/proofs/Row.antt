@@ -11,7 +11,7 @@
 --   making_start, making_more   no place, and one more
 --   making_done                 all of them: l is the row of f
 --   Filled f l j                the same in a row of zeros: the places from j on are 0
---   filled-start, filled_row    no place; and all where f is other than 0
+--   filled_row                  all of them where f is other than 0
 --
 -- What this file is for: a function on rows returns a row of remainders, which is read place by place. Assumes nothing.
 use mathlib.Core.Path.{◌≡◌, refl, sym, ◌∙◌}
@@ -20,7 +20,7 @@ use Prim.Native.Nat.{ℕ, zero, suc, ◌+◌, ◌-◌, ◌%◌, ◌≤◌, ◌<�
 use native.Mathlib.Omega.{arith}
 use native.Mathlib.Nat.{mod-lt}
 use native.Mathlib.Decide.{ℕ_discrete, dec_lt}
-use lib.ListN.{length, set, replicate, length-set}
+use lib.ListN.{length, set, length-set}
 use lib.Seq.{get_or-set_same, get_or-set_other}
 use Rattle.bounded.specs.Bounded.{at}
 use Rattle.bounded.proofs.Tab.{length-tab, tab-at, tab-is}
@@ -28,7 +28,7 @@ use Rattle.field.specs.Congruence.{Cong, Agree}
 use Rattle.field.specs.Loop.{Upto, Passed}
 use Rattle.field.specs.Row.{row, Row}
 use Rattle.field.proofs.Congruence.{same, mod_cong, ◌⨾◌}
-use Rattle.field.proofs.Loop.{upto_start, upto_step, upto_less, passed_zeros, passed_rest}
+use Rattle.field.proofs.Loop.{upto_start, upto_step, upto_less, passed_rest}
 
 pub row_at : (f : ℕ → ℕ) (j : ℕ) → j < 16 → at (row f) j ≡ f j
 row_at f j l = tab-at 16 f j l
@@ -98,8 +98,5 @@ abbrev pub Filled : (f : ℕ → ℕ) (l : List ℕ) (j : ℕ) → Type 0
 Filled f l j = Passed 16 0 (λ k v. v ≡ 0) (λ k v. v ≡ f k) l j
 
 module _ {f : ℕ → ℕ} where
-  pub filled-start : Filled f (replicate 16 0) 0
-  filled-start = passed_zeros
-
   pub filled_row : {l : List ℕ} {j : ℕ} → ((k : ℕ) → j ≤ k → f k ≡ 0) → Filled f l j → l ≡ row f
   filled_row h p = upto_row (passed_rest p λ k m. sym (h k m))

@@ -3,7 +3,6 @@
 --   value-strip   the value of a record in X is that of the polynomial with its bytes as coefficients
 --   value-rows    the value of a record in X and Y is that, at y, of the polynomial in Y that x leaves
 --   value-places  the same by the places of the coefficients
---   start_fits    the product in `start` fits in 64 bits
 --   start-next    the groups follow one another
 --   start-below   a group's places are before those of a higher degree
 --   start_up      a record of a lower degree has no more places
@@ -19,7 +18,7 @@ use Prim.Native.Nat.{ℕ, zero, suc, ◌+◌, ◌*◌, ◌-◌, ◌%◌, ◌^◌
 use native.Mathlib.Omega.{arith}
 use native.Mathlib.Decide.{ℕ_discrete, dec_lt}
 use native.Mathlib.Numerals.{add-one}
-use native.Mathlib.Nat.{le_of_eq, mul-le-mul}
+use native.Mathlib.Nat.{le_of_eq}
 use Rattle.bounded.specs.Bounded.{at, sum}
 use Rattle.bounded.proofs.Sum.{sum-eq, sum_const}
 use Rattle.polynomial.specs.Eval.{eval}
@@ -46,12 +45,6 @@ unfolding value_xy
 value-places p d F x y = ap (λ v. v % p) (sum-eq (d + 1) λ k l. sum-eq (k + 1) λ j m.
     let e : k - j + j ≡ k = omega arith in
     rw e)
-
-pub start_fits : (k : ℕ) → k < 4294967296 → k * (k + 1) ≤ 4294967295 * 4294967296
-start_fits k l =
-    let h : k ≤ 4294967295 = omega arith in
-    let g : k + 1 ≤ 4294967296 = omega arith in
-    mul-le-mul h g
 
 -- the groups follow one another
 pub start-next : (k : ℕ) → start (suc k) ≡ start k + suc k
