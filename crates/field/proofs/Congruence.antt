@@ -1,7 +1,7 @@
 -- The laws of congruence modulo suc q.
 --
 --   to-mod, of-mod           congruent numbers are those that leave the same remainder
---   same, ~sym, _⨾_          it is an equality: equal numbers, the other way round, one after the other
+--   same, ~sym, ◌⨾◌          it is an equality: equal numbers, the other way round, one after the other
 --   ~add, ~mul, ~mul-right   sums and products keep it
 --   less                     a multiple of the modulus does not count
 --   remainder                a number and its remainder
