@@ -177,6 +177,6 @@ pub fn fill<R: Read>(reader: &mut R, room: &mut [u8]) -> usize
 }
 
 // Whether the program has an argument of this number; the first after its name is 1.
-pub fn has_argument(rt: &impl Env, number: usize) -> bool {
+pub fn has_argument(rt: &HostRuntime, number: usize) -> bool {
     !matches!(rt.arg(number, &mut [0u8; 1]), Err(FillError::NotPresent))
 }

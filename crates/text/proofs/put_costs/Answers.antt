@@ -12,13 +12,11 @@ use Rattle.text.proofs.Signed.{abs_small}
 use Rattle.text.proofs.put_costs.Goals as goal
 use Rattle.text.proofs.put_costs.Goals.{Start}
 
--- what a reading's fields tell: number, cost, margin, changed, unread, class
 margin-fits : (s : Start) → SFits w32 s.args.reading.margin
-margin-fits s = record { sfits = s.well_formed.1.1.0.1.1.1.1.0.1 }
+margin-fits s = record { sfits = omega arith }
 
 line : (s : Start) → length (costs s.args.reading) ≤ 24
-line s = costs-length s.args.reading s.well_formed.1.1.0.1.1.1.0.1
-    (abs_small s.args.reading.margin (margin-fits s).sfits)
+line s = costs-length s.args.reading (omega arith) (abs_small s.args.reading.margin (omega arith))
 
 pub put_spaced-at-requires : goal.put_spaced-at-requires
 unfolding costs
