@@ -6,7 +6,7 @@
 mod answer;
 
 use answer::{ROOM, TEXT};
-use text::{fill, has_argument};
+use text::{deliver, fill, has_argument};
 
 fn main(rt: HostRuntime) {
     if has_argument(&rt, 1) {
@@ -19,7 +19,5 @@ fn main(rt: HostRuntime) {
     let came = fill(&mut rt.stdin(), &mut space);
     let mut text = [0u8; TEXT];
     let n = answer::answer(&space, came, &mut text);
-    if rt.write_all(&text[..n]).is_err() {
-        let _ = rt.eprintln("planwiden: standard output did not take the answer");
-    }
+    deliver(&rt, "planwiden", &text[..n]);
 }

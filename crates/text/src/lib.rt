@@ -1,6 +1,7 @@
 // Text put into a lent buffer, piece after piece: each function puts its bytes from `at` on, changes no other byte, and returns
 // the place after them. The caller sees to it that they fit. The lines that more than one program prints are here. And what the
-// programs are given: whether there is an argument, a room that is filled, and the part of it that holds what came.
+// programs are given, whether there is an argument, a room that is filled, and the part of it that holds what came; and how they
+// hand their answer over.
 #![tactic(auto)]
 
 ghost use Rattle.std.specs.Prelude.{◌≡◌, [], ◌∷◌, ◌+◌, ◌*◌, ◌≤◌, ◌<◌, nat_abs, length, take};
@@ -179,4 +180,14 @@ pub fn fill<R: Read>(reader: &mut R, room: &mut [u8]) -> usize
 // Whether the program has an argument of this number; the first after its name is 1.
 pub fn has_argument(rt: &HostRuntime, number: usize) -> bool {
     !matches!(rt.arg(number, &mut [0u8; 1]), Err(FillError::NotPresent))
+}
+
+// Writes the answer to standard output, at once. Where that does not take it, one line on standard error says so; where it is a
+// pipe that nobody reads any more, nothing is said.
+pub fn deliver(rt: &HostRuntime, program: &str, answer: &[u8]) {
+    if let Err(e) = rt.write_all(answer) {
+        if e.kind() != ErrorKind::BrokenPipe {
+            let _ = eprintln!(rt; "{program}: standard output did not take the answer");
+        }
+    }
 }

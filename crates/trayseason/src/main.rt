@@ -11,7 +11,7 @@ mod date;
 use answer::{ROOM, TEXT};
 use date::DATE_BYTES;
 use std::rt::Env;
-use text::{fill, has_argument};
+use text::{deliver, fill, has_argument};
 
 fn main(rt: HostRuntime) {
     // an argument that is missing or longer than a date is taken for an empty one
@@ -27,7 +27,5 @@ fn main(rt: HostRuntime) {
     let came = fill(&mut rt.stdin(), &mut space);
     let mut text = [0u8; TEXT];
     let n = answer::answer(&word[..length], &space, came, &mut text);
-    if rt.write_all(&text[..n]).is_err() {
-        let _ = rt.eprintln("trayseason: standard output did not take the answer");
-    }
+    deliver(&rt, "trayseason", &text[..n]);
 }

@@ -7,13 +7,9 @@ use std::fs::{File, OpenOptions};
 use std::io::{pipe, Result};
 use std::os::fd::OwnedFd;
 use std::os::unix::net::UnixDatagram;
-use std::os::unix::process::ExitStatusExt;
 use std::process::{Command, Output, Stdio};
 use std::thread::sleep;
 use std::time::Duration;
-
-/// The signal that ends what writes into a pipe that nobody reads.
-const SIGPIPE: i32 = 13;
 
 impl Program {
     /// The answer comes in one write: on a socket that keeps messages apart it is one message.
@@ -45,12 +41,12 @@ impl Program {
         output.status.success() && output.stderr == said.as_bytes()
     }
 
-    /// Where nobody reads the answer any more, the system ends the program, and nothing is said.
+    /// Where nobody reads the answer any more, the program ends, and nothing is said.
     pub(super) fn ends_at_a_closed_pipe(&self, input: &Input) -> Result<bool> {
         let (reader, writer) = pipe()?;
         drop(reader);
         let output = self.run(input, writer.into())?;
-        Ok(output.status.signal() == Some(SIGPIPE) && output.stderr.is_empty())
+        Ok(output.status.success() && output.stderr.is_empty())
     }
 
     /// Arguments get the usage on standard error and nothing on standard output, while standard input is open and empty.
