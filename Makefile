@@ -21,7 +21,7 @@ help:
 read_by = $(shell find $(1) \( -name must-fail -o -name out \) -prune -o -type f -print) crates.txt $(shell command -v rt)
 LIBRARIES = $(patsubst %/src/lib.rt,%,$(wildcard crates/*/src/lib.rt))
 
-## make example         4 min         1 s             reads a tray end to end by the program: case c of document 01, with its plan
+## make example         8 min         1 s             reads a tray end to end by the program: case c of document 01, with its plan
 ##                                                    of 40 bytes, and with that of the old form, widened; then tells why
 ##                                                    another record did not come up, and which season a date is in
 example: program
@@ -35,7 +35,7 @@ example: program
 	target/bin/trayseason $(shell cat crates/trayseason/args) < crates/trayseason/stdin | tee target/example.printed
 	diff crates/trayseason/stdout target/example.printed
 
-## make program         4 min         1 s             the proved programs, in target/bin: trayread, traywhy, planwiden and
+## make program         8 min         1 s             the proved programs, in target/bin: trayread, traywhy, planwiden and
 ##                                                    trayseason
 program: target/bin/trayread target/bin/traywhy target/bin/planwiden target/bin/trayseason
 
@@ -47,7 +47,7 @@ target/bin/%: $(call read_by,$(LIBRARIES) $(wildcard crates/tray*/src crates/pla
 	diff crates/$*/stdout target/$*.printed
 	cp crates/$*/out/$* $@
 
-## make lib             4 min         1 s             the proved library for C and Rust: target/staticlib/libtraymark.a
+## make lib             8 min         1 s             the proved library for C and Rust: target/staticlib/libtraymark.a
 lib: target/staticlib/libtraymark.a
 
 # A crate is a library or a static library: traymark_c is the static library, thin over traymark, and has the archive's old name.
@@ -56,7 +56,7 @@ target/staticlib/libtraymark.a: $(call read_by,$(LIBRARIES))
 	cd crates/traymark_c && rt lib
 	cp crates/traymark_c/out/libtraymark_c.a $@
 
-## make tests           6 min         80 s            the calls and the programs against an independent decoder and calendar,
+## make tests           10 min        80 s            the calls and the programs against an independent decoder and calendar,
 ##                                                    from Rust and C; the wrapper's and their own tests, the benchmark's
 ##                                                    ports and the two examples
 tests: lib program
@@ -96,8 +96,9 @@ wrong-programs:
 	tools/wrong-programs > target/WRONG-PROGRAMS.md
 	cp target/WRONG-PROGRAMS.md docs/WRONG-PROGRAMS.md
 
-## make test            20 to 25 min  the same        THE GATE: `quick`, every proof from nothing, every wrong program, which
-##                                                    must be refused, and `tests`; its last line is 'N passed, 0 failed'
+## make test            20 min        5 min           THE GATE: `quick`, every proof, every wrong program, which must be
+##                                                    refused, and `tests`; its last line is 'N passed, 0 failed'. What rt ci
+##                                                    has proved on a machine it does not prove there again
 # An edit that is bad, since its text fits nothing or can't be read, shows nothing of a contract: it fails the gate too.
 test: quick
 	mkdir -p target
