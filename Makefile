@@ -96,7 +96,7 @@ wrong-programs:
 	tools/wrong-programs > target/WRONG-PROGRAMS.md
 	cp target/WRONG-PROGRAMS.md docs/WRONG-PROGRAMS.md
 
-## make test            20 min        5 min           THE GATE: `quick`, every proof, every wrong program, which must be
+## make test            20 min        2 min           THE GATE: `quick`, every proof, every wrong program, which must be
 ##                                                    refused, and `tests`; its last line is 'N passed, 0 failed'. What rt ci
 ##                                                    has proved on a machine it does not prove there again
 # An edit that is bad, since its text fits nothing or can't be read, shows nothing of a contract: it fails the gate too.
