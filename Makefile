@@ -37,11 +37,13 @@ example: program
 
 ## make program         8 min         1 s             the proved programs, in target/bin: trayread, traywhy, planwiden and
 ##                                                    trayseason
-program: target/bin/trayread target/bin/traywhy target/bin/planwiden target/bin/trayseason
+PROGRAMS = $(addprefix target/bin/,trayread traywhy planwiden trayseason)
+program: $(PROGRAMS)
 
 # A program is proved and built by the run that its own crate's input gets, and taken once it has printed what its file stdout
-# has.
-target/bin/%: $(call read_by,$(LIBRARIES) $(wildcard crates/tray*/src crates/planwiden/src))
+# has. What it stands on is known when its name is.
+.SECONDEXPANSION:
+$(PROGRAMS): target/bin/%: $$(call read_by,$$(LIBRARIES) crates/$$*)
 	mkdir -p target/bin
 	cd crates/$* && rt run -- $$(cat args 2> /dev/null) < stdin > ../../target/$*.printed
 	diff crates/$*/stdout target/$*.printed
