@@ -1,20 +1,19 @@
-// What calls answer of a record: how many cells are unread, the class of a changed count, the margin, the readings that they
-// return, and what C is handed of a reason.
+// What calls answer of a record: how many cells are unread, the class of a changed count, the margin, and the readings that they
+// return.
 #![tactic(auto)]
 
 ghost use Rattle.std.specs.Prelude.{◌≡◌, ◌≤◌, ◌<◌, length};
-ghost use Rattle.definitions.specs.Calls.{refused as refused_with};
-ghost use Rattle.definitions.specs.Explaining.{values_of};
+ghost use Rattle.definitions.specs.Numbers.{answered as answer_of};
 ghost use Rattle.definitions.specs.Cost.{unread_cell, margin as margin_of, class};
 ghost use Rattle.answers.specs.Summary.{unread_in, summary};
 
-use definitions::{Explanation, Reason, UNREAD};
+use definitions::{Reading, Refusal, UNREAD};
 
 // 1 for a cell that was not read.
 fn cell_unread(symbol: u8) -> u16
     ensures { (result ≡ unread_cell symbol) × (result ≤ 1) }
 {
-    if symbol == UNREAD { 1 } else { 0 }
+    u16::from(symbol == UNREAD)
 }
 
 // How many cells were not read. 16 bits have the count, which takes half the work of 32.
@@ -23,10 +22,10 @@ fn unread_cells(symbols: &[u8]) -> u32
     ensures { result ≡ unread_in symbols.now }
 {
     let mut count = 0u16;
-    for i in 0..symbols.len() {
-        count += cell_unread(symbols[i]);
+    for symbol in symbols {
+        count += cell_unread(*symbol);
     }
-    count as u32
+    u32::from(count)
 }
 
 // The class of a changed count.
@@ -52,7 +51,7 @@ pub fn margin(radius: u32, cost: u32) -> i32
 
 // The reading of a record with this cost, where so many cells differ from its mark. Those that were not read are counted apart;
 // the others are changed.
-pub fn reading(radius: u32, cost: u32, differing: u32, symbols: &[u8]) -> definitions::Reading
+pub fn reading(radius: u32, cost: u32, differing: u32, symbols: &[u8]) -> Reading
     requires { (radius < 2147483648) × (cost < 2147483648) × (length symbols.now ≤ 65535)
         × (unread_in symbols.now ≤ differing) }
     ensures { result ≡ summary radius cost differing symbols.now }
@@ -61,7 +60,7 @@ pub fn reading(radius: u32, cost: u32, differing: u32, symbols: &[u8]) -> defini
     let unread = unread_cells(symbols);
     let changed = differing - unread;
     let class = class_of(changed);
-    definitions::Reading {
+    Reading {
         number: 0,
         cost,
         margin,
@@ -71,48 +70,19 @@ pub fn reading(radius: u32, cost: u32, differing: u32, symbols: &[u8]) -> defini
     }
 }
 
-// A refusal: the number and zeros.
-pub fn refused(number: u32) -> definitions::Reading
-    ensures { result ≡ refused_with number }
+// The reading of an outcome: of a refusal the number and zeros.
+pub fn answered(outcome: Result<Reading, Refusal>) -> Reading
+    ensures { result ≡ answer_of outcome }
 {
-    definitions::Reading {
-        number,
-        cost: 0,
-        margin: 0,
-        changed: 0,
-        unread: 0,
-        class: 0,
-    }
-}
-
-// The number, reason, place and excess of each case.
-pub fn values(reason: Reason) -> Explanation
-    ensures { result ≡ values_of reason }
-{
-    match reason {
-        Reason::Refused(number) => Explanation {
-            number,
-            reason: 0,
-            place: 0,
-            excess: 0,
-        },
-        Reason::Answer => Explanation {
-            number: 0,
-            reason: 1,
-            place: 0,
-            excess: 0,
-        },
-        Reason::Other { place } => Explanation {
-            number: 0,
-            reason: 2,
-            place,
-            excess: 0,
-        },
-        Reason::Nothing { excess } => Explanation {
-            number: 0,
-            reason: 3,
-            place: 0,
-            excess,
+    match outcome {
+        Ok(reading) => reading,
+        Err(refusal) => Reading {
+            number: refusal.number(),
+            cost: 0,
+            margin: 0,
+            changed: 0,
+            unread: 0,
+            class: 0,
         },
     }
 }

@@ -6,18 +6,20 @@
 --   tab_part      a part of a table is a table
 --   row_in        row r of a rows of n bytes ends within them
 --   row_more      one row more, written in its own part of the lent bytes
+--   chunk-at      chunk k of c chunks of n bytes
 --
 -- What this file is for: what a callee says of the part is said of the list. Assumes nothing.
 use mathlib.Core.Path.{◌≡◌, sym, ap, ◌∙◌}
 use mathlib.Core.Bool.{Bool}
-use mathlib.Core.List.{List, ◌++◌, append_assoc}
-use Prim.Native.Nat.{ℕ, ◌+◌, ◌*◌, ◌-◌, ◌≤◌, ◌<◌}
+use mathlib.Core.List.{List, [], ◌++◌, append_assoc}
+use Prim.Native.Nat.{ℕ, zero, suc, ◌+◌, ◌*◌, ◌-◌, ◌≤◌, ◌<◌}
 use native.Mathlib.Numerals.{add-one}
 use native.Mathlib.Omega.{arith}
-use native.Mathlib.Nat.{suc-mul, add-sub_cancel_left, mul-le-mul_right}
-use lib.ListN.{length, take, drop, length-drop}
+use native.Mathlib.Nat.{add_comm, suc-mul, add-sub_cancel_left, mul-le-mul_right}
+use lib.ListN.{length, get_or, take, drop, length-drop}
 use lib.Seq.{get_or-take, get_or-drop, length-take-le, take_at, drop_at, drop-drop}
 use borrow.Rule.Slice.PartMut.{put_mid}
+use Rattle.std.specs.Simd.{first_chunks}
 use Rattle.bounded.specs.Bounded.{at, any, tab}
 use Rattle.bounded.proofs.Any.{any-eq}
 use Rattle.bounded.proofs.Tab.{length-tab, tab-at, tab-is, tab-append}
@@ -58,3 +60,11 @@ row_more n r f d mark last e h =
       tab-append (r * n) n f,
     )
     (sym (append_assoc (tab (r * n) f) (tab n λ j. f (r * n + j)) (drop (r * n + n) d)))
+
+-- chunk k of a list that is cut into c chunks of n bytes
+pub chunk-at : (n c k : ℕ) (s : List ℕ) → k < c → get_or (first_chunks n c s) k [] ≡ take n (drop (k * n) s)
+chunk-at n zero k s l = absurd (omega arith)
+chunk-at n (suc c) zero s l = let e : 0 * n ≡ 0 = omega arith in rw e
+chunk-at n (suc c) (suc k) s l =
+    chunk-at n c k (drop n s) (omega arith)
+    ∙ ap (take n) (drop-drop (k * n) n s ∙ ap (λ a. drop a s) (add_comm n (k * n) ∙ sym (suc-mul k n)))

@@ -16,19 +16,11 @@ pub struct Date {
 pub fn is_real(date: Date) -> bool
     ensures { result ≡ real date }
 {
-    if date.year < 1900 {
-        return false;
-    }
-    if 2199 < date.year {
-        return false;
-    }
-    if date.month < 1 {
-        return false;
-    }
-    if 12 < date.month {
-        return false;
-    }
-    (1 <= date.day) & (date.day <= days_in(date.year, date.month))
+    let is_month = (1900 <= date.year)
+        & (date.year <= 2199)
+        & (1 <= date.month)
+        & (date.month <= 12);
+    is_month && (1 <= date.day) & (date.day <= days_in(date.year, date.month))
 }
 
 // How many days a month has.
@@ -37,12 +29,12 @@ fn days_in(year: u32, month: u32) -> u32
     ensures { result ≡ days_in year month }
 {
     if month == 2 {
-        return february(year);
+        february(year)
+    } else if is_short(month) {
+        30
+    } else {
+        31
     }
-    if is_short(month) {
-        return 30;
-    }
-    31
 }
 
 // Whether the month is April, June, September or November. All four are asked for at once: a jump by month can't be foreseen.
@@ -56,10 +48,7 @@ fn is_short(month: u32) -> bool
 fn february(year: u32) -> u32
     ensures { result ≡ days_in year 2 }
 {
-    if is_leap(year) {
-        return 29;
-    }
-    28
+    if is_leap(year) { 29 } else { 28 }
 }
 
 // Whether the year has a 29 February.
@@ -70,6 +59,8 @@ fn is_leap(year: u32) -> bool
 }
 
 // A number that is the smaller of two dates' for the earlier one. A month has less than 32 days, and a year less than 16 months.
+// `Date` derives no order: windows compare these numbers, many at a time.
+#[tactic(auto, using(crate::proofs::Real::is_real))]
 pub fn key(date: Date) -> u32
     requires { real date ≡ true }
     ensures { result ≡ key_of date }

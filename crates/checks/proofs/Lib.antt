@@ -1,2 +1,2 @@
 -- What the proofs share.
-pub mod Kind
+pub mod Tests

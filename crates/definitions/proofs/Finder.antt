@@ -4,7 +4,6 @@
 --   find_at           a search that stops at row i of its refusals has that row's number
 --   find-exactly      which number is given, by the bytes of the file
 --   nowhere           the offset and the bytes of a refusal
---   offset-found      a search that comes to plan k, and to none of the season before it, gives its offset
 --   first_of-season   what is found is the first plan of the season
 --   found_part        the 40 bytes at its offset are in the file, and are its bytes
 --
@@ -12,7 +11,6 @@
 -- they say to a user. Assumes nothing.
 use mathlib.Core.Path.{◌≡◌, sym, ap, ap₂, ◌∙◌}
 use mathlib.Core.Logic.{◌≢◌}
-use mathlib.Core.Bool.{false}
 use mathlib.Core.List.{List, []}
 use Prim.Native.Nat.{ℕ, ◌+◌, ◌*◌, ◌-◌, ◌≤◌, ◌<◌}
 use native.Mathlib.Omega.{arith}
@@ -21,9 +19,9 @@ use lib.Dec.{lit<}
 use lib.ListN.{length, take, drop}
 use lib.Seq.{get_or-take, get_or-drop}
 use borrow.Author.Tests.{eq-eqb, ne_eqb, eqb-true, eqb-false, not-false as passed}
-use Rattle.bounded.specs.Bounded.{at, any}
+use Rattle.bounded.specs.Bounded.{at}
 use Rattle.bounded.proofs.Any.{some-any, none_any}
-use Rattle.bounded.proofs.Index.{index-before, index-holds, index-within, index_is}
+use Rattle.bounded.proofs.Index.{index-before, index-holds, index-within}
 use Rattle.definitions.specs.Plan.{plan_bytes, pair, season}
 use Rattle.definitions.specs.Finder.{plans, plan_at, of_season, first_plan, find_rows, find_number, find_offset, find_bytes}
 use Rattle.definitions.specs.Demands.{FoundExactly, FirstOfSeason}
@@ -69,11 +67,6 @@ module _ (file : List ℕ) (y : ℕ) where
   pub nowhere : find_number file y ≢ 0 → (find_offset file y ≡ 0) × (find_bytes file y ≡ [])
   unfolding find_offset find_bytes
   nowhere h = (otherwise (find_number file y) _ _ h, otherwise (find_number file y) _ _ h)
-
-  pub offset-found : (k : ℕ) → k < plans file → any k (of_season file y) ≡ false → season (plan_at file k) ≡ y →
-      0 ≡ find_number file y → k * plan_bytes ≡ find_offset file y
-  unfolding find_offset
-  offset-found k l h s e = rw (← e, index_is (plans file) (of_season file y) k l h (eq-eqb _ _ s))
 
   pub first_of-season : find_number file y ≡ 0 → FirstOfSeason file y
   unfolding find_number find_rows find_offset find_bytes

@@ -4,6 +4,7 @@ pub mod SeasonCases
 pub mod MaskCases
 pub mod SetCases
 pub mod Refusals
+pub mod Numbers
 pub mod Search
 pub mod Sound
 pub mod Plan

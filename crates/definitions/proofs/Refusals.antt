@@ -13,7 +13,7 @@
 --   absent k rows, first_absent   a number that no row has is not the first
 --   otherwise                     what a refused call does: `accepted`, where the number is not 0
 --   equal, unequal                a code's test of two numbers
---   answered, answered-not        a test that a function has answered
+--   answered                      a test that a function has answered
 --   holds                         a test that is not false is true
 --   not-true, turned_true         a test turned round
 --
@@ -180,9 +180,6 @@ unequal a b e = rw (ne_eqb a b e)
 
 pub answered : {r b t : Bool} → r ≡ b → r ≡ t → b ≡ t
 answered e h = sym e ∙ h
-
-pub answered-not : {r b t : Bool} → r ≡ b → not r ≡ t → not b ≡ t
-answered-not e h = sym (ap not e) ∙ h
 
 -- a test that is not false is true
 pub holds : (b : Bool) → (b ≡ false → ⊥) → b ≡ true

@@ -6,6 +6,7 @@ pub mod Cost
 pub mod Published
 pub mod Search
 pub mod Calls
+pub mod Numbers
 pub mod Explaining
 pub mod Masking
 pub mod Sets

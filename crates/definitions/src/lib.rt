@@ -3,6 +3,77 @@
 
 #![tactic(auto)]
 
+ghost use Rattle.std.specs.Prelude.{◌≡◌, true, false, MatchResult};
+ghost use Rattle.definitions.specs.Explaining.{values_of};
+ghost use Rattle.definitions.specs.Numbers.{number as number_in_table, number_of};
+
+// Why a call does nothing: the rows of the table "What is returned", by their numbers there.
+#[derive(Clone, Copy, Debug, PartialEq, Eq)]
+pub enum Refusal {
+    // the plan is not 40 bytes, or one of its last two is not 0
+    PlanBytes = 1,
+    // p is no prime from 2 to 251
+    Modulus = 2,
+    // the rows are none, above 16, or above p
+    Rows = 3,
+    // the columns are, of the same
+    Columns = 13,
+    // the degree is not below the smaller side
+    Degree = 4,
+    // a point is not below p or not above the one before it, or an unused byte is not 0
+    Points = 5,
+    // a record or a buffer has another length than the plan says
+    Length = 6,
+    // a photograph's number is held, or is none
+    Held = 17,
+    // a photograph's number is not held
+    NotHeld = 18,
+    // a symbol is p or more, and not that of an unread cell
+    Symbol = 7,
+    // a doubt is above the full doubt, or an unread cell's is another
+    Doubt = 8,
+    // a coefficient is p or more
+    Coefficient = 9,
+    // no record costs under the radius
+    NoneNear = 10,
+    // the length of a file of plans is wrong, or it has too many
+    PlanFile = 11,
+    // no plan in the file is of the season
+    NoPlan = 12,
+    // a file of windows has a wrong length, too many, or a faulty one
+    WindowFile = 14,
+    // two windows share a day
+    SharedDay = 15,
+    // the date is unreal, or in no window
+    NoWindow = 16,
+}
+
+impl Refusal {
+    // Its number in the table.
+    pub fn number(self) -> u32
+        ensures { result ≡ number_in_table self }
+    {
+        self as u32
+    }
+
+    // This refusal where it applies: a row of the table.
+    pub fn when(self, applies: bool) -> Result<(), Refusal>
+        ensures { MatchResult result (λ _. applies ≡ false) (λ refusal. (refusal ≡ self) × (applies ≡ true)) }
+    {
+        if applies { Err(self) } else { Ok(()) }
+    }
+}
+
+// The number that a call answers for C: 0 where it refuses nothing.
+pub fn number(outcome: Result<(), Refusal>) -> u32
+    ensures { result ≡ number_of outcome }
+{
+    match outcome {
+        Ok(()) => 0,
+        Err(refusal) => refusal.number(),
+    }
+}
+
 // What measuring and reading answer. Of a refusal all but the number is 0.
 #[repr(C)]
 #[derive(Clone, Copy)]
@@ -44,6 +115,34 @@ pub struct Explanation {
     pub reason: u32,
     pub place: u32,
     pub excess: u32,
+}
+
+// The number, reason, place and excess of each case.
+impl From<Reason> for Explanation {
+    ghost from_gives = { λ reason values. values ≡ values_of reason };
+
+    fn from(reason: Reason) -> Explanation {
+        let none = Explanation {
+            number: 0,
+            reason: 0,
+            place: 0,
+            excess: 0,
+        };
+        match reason {
+            Reason::Refused(number) => Explanation { number, ..none },
+            Reason::Answer => Explanation { reason: 1, ..none },
+            Reason::Other { place } => Explanation {
+                reason: 2,
+                place,
+                ..none
+            },
+            Reason::Nothing { excess } => Explanation {
+                reason: 3,
+                excess,
+                ..none
+            },
+        }
+    }
 }
 
 // The length of a plan.

@@ -28,10 +28,8 @@ pub fn word_cost(
     ensures { (result ≡ cost full n (at symbols) (at doubts) (at values)) × (result ≤ 131072 * n) }
 {
     let mut sum = 0;
-    let mut i = 0;
-    while i < n {
+    for i in 0..n {
         sum += cell_cost(symbols[i], doubts[i], values[i], full);
-        i += 1;
     }
     sum
 }
@@ -40,10 +38,7 @@ pub fn word_cost(
 pub fn differs(v: u16, w: u16) -> u32
     ensures { (result ≡ differ v w) × (result ≤ 1) }
 {
-    if v == w {
-        return 0;
-    }
-    1
+    u32::from(v != w)
 }
 
 // In how many of n cells two words differ.
@@ -52,10 +47,8 @@ pub fn differing(n: usize, v: [u16; 16], w: [u16; 16]) -> u32
     ensures { (result ≡ hamming n (at v) (at w)) × (result ≤ n) }
 {
     let mut count = 0;
-    let mut i = 0;
-    while i < n {
+    for i in 0..n {
         count += differs(v[i], w[i]);
-        i += 1;
     }
     count
 }

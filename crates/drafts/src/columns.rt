@@ -1,77 +1,62 @@
 // The columns through the cells of a grid, and through its lines.
-ghost use Rattle.std.specs.Prelude.{◌≤◌, ◌<◌};
+ghost use Rattle.std.specs.Prelude.{ℕ, ◌≤◌, ◌<◌};
 ghost use Rattle.field.specs.Prime.{Inverses};
 ghost use Rattle.field.specs.Row.{Row};
 ghost use Rattle.polynomial.specs.Powers.{Rows};
-ghost use Rattle.polynomial.specs.Fit.{Fit};
 ghost use Rattle.drafts.specs.Redrawn.{Redrawn};
 
 use crate::newton;
 use distance::word;
-use grid::lines;
 use polynomial::Grid;
 use polynomial::bivariate::place_of_each;
 
 // Meant: the first k places of the rows become the first k columns. The other columns stay.
-fn exchange(f: &[[u16; 16]; 16], k: usize, p: u16, columns: &mut [[u16; 16]; 16])
-    requires { (0 < p) × Rows p f.now × Rows p columns.old × (k ≤ 16) }
-    ensures { Redrawn p k columns.old columns.new }
+fn exchange(f: &[[u16; 16]; 16], k: usize, columns: &mut [[u16; 16]; 16])
+    requires { k ≤ 16 }
+    ensures { (p : ℕ) → 0 < p → Rows p f.now → Rows p columns.old → Redrawn p k columns.old columns.new }
 {
-    let mut t = 0;
-    while t < k {
-        let line = place_of_each(f, t);
-        columns[t] = line;
-        t += 1;
+    for t in 0..k {
+        columns[t] = place_of_each(f, t);
     }
 }
 
 // Meant: the columns of the polynomial through the cells of the first d + 1 rows and columns. False is meant to say that its
-// degree in X and Y is above d, so that one of these cells is wrong and the columns are of no use.
+// degree in X and Y is above d, so that one of these cells is wrong and the columns are of no use. The columns are lent, since a
+// table that is handed back is copied.
 pub fn from_cells(
     g: Grid,
     inverses: &[u16; 251],
     cells: &[[u16; 16]; 16],
     columns: &mut [[u16; 16]; 16],
 ) -> bool
-    requires { Fit g × Inverses g.p inverses.now × Rows g.p cells.now × Rows g.p columns.old }
-    ensures { Rows g.p columns.new }
+    requires { Inverses g.modulus.p inverses.now × Rows g.modulus.p cells.now × Rows g.modulus.p columns.old }
+    ensures { Rows g.modulus.p columns.new }
 {
-    let p = g.p;
-    let m = g.m;
-    let d = g.d;
-    let x = g.x;
-    let y = g.y;
     let mut f = *cells;
-    newton::divide_differences(&mut f, x, d, p, m, inverses);
-    let highest = f[d];
-    let same = [highest[0]; 16];
-    if word::differing(d + 1, highest, same) != 0 {
+    newton::divide_differences(&mut f, g.x, g.d, g.modulus, inverses);
+    let highest = f[g.d];
+    if word::differing(g.d + 1, highest, [highest[0]; 16]) != 0 {
         return false;
     }
-    newton::change_to_powers(&mut f, x, d, p, m);
-    exchange(&f, d + 1, p, columns);
-    newton::divide_differences(columns, y, d, p, m, inverses);
-    newton::change_to_powers(columns, y, d, p, m);
+    newton::change_to_powers(&mut f, g.x, g.d, g.modulus);
+    exchange(&f, g.d + 1, columns);
+    newton::divide_differences(columns, g.y, g.d, g.modulus, inverses);
+    newton::change_to_powers(columns, g.y, g.d, g.modulus);
     true
 }
 
 // Meant: the lines whose answers are known, and their points, come first; how many they are.
-fn gather(g: Grid, known: [u32; 16], f: &mut [[u16; 16]; 16], z: &mut [u16; 16]) -> usize
-    requires { Fit g × Rows g.p f.old × Row g.p z.old }
-    ensures { Rows g.p f.new × Row g.p z.new × (result ≤ 16) }
+fn gather(g: Grid, known: [Option<u32>; 16], f: &mut [[u16; 16]; 16], z: &mut [u16; 16]) -> usize
+    requires { Rows g.modulus.p f.old × Row g.modulus.p z.old }
+    ensures { Rows g.modulus.p f.new × Row g.modulus.p z.new × (result ≤ 16) }
 {
-    let a = g.a;
-    let x = g.x;
     let mut i = 0;
-    let mut r = 0;
-    while r < a {
-        if known[r] != lines::UNKNOWN {
-            let line = f[r];
-            f[i] = line;
-            z[i] = x[r];
+    for r in 0..g.a {
+        if known[r].is_some() {
+            f[i] = f[r];
+            z[i] = g.x[r];
             i += 1;
         }
-        r += 1;
     }
     i
 }
@@ -83,32 +68,25 @@ pub fn from_lines(
     inverses: &[u16; 251],
     t: usize,
     messages: &[[u16; 16]; 16],
-    known: [u32; 16],
+    known: [Option<u32>; 16],
     columns: &mut [[u16; 16]; 16],
 ) -> bool
-    requires { Fit g × Inverses g.p inverses.now × (t ≤ g.d) × Rows g.p messages.now × Rows g.p columns.old }
-    ensures { Redrawn g.p t columns.old columns.new }
+    requires { Inverses g.modulus.p inverses.now × (t ≤ g.d) × Rows g.modulus.p messages.now ×
+        Rows g.modulus.p columns.old }
+    ensures { Redrawn g.modulus.p t columns.old columns.new }
 {
-    let p = g.p;
-    let m = g.m;
-    let d = g.d;
     let mut f = *messages;
     let mut z = g.x;
     let count = gather(g, known, &mut f, &mut z);
-    if count <= d {
+    if count <= g.d {
         return false;
     }
-    let mut last = d;
-    if count > d + 1 {
-        last = d + 1;
+    let last = (count - 1).min(g.d + 1);
+    newton::divide_differences(&mut f, z, last, g.modulus, inverses);
+    if last > g.d && word::differing(t, f[last], [0; 16]) != 0 {
+        return false;
     }
-    newton::divide_differences(&mut f, z, last, p, m, inverses);
-    if last > d {
-        if word::differing(t, f[last], [0; 16]) != 0 {
-            return false;
-        }
-    }
-    newton::change_to_powers(&mut f, z, d, p, m);
-    exchange(&f, t, p, columns);
+    newton::change_to_powers(&mut f, z, g.d, g.modulus);
+    exchange(&f, t, columns);
     true
 }

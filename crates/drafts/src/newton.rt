@@ -1,65 +1,44 @@
 // Interpolation of sixteen polynomials at once, by Newton's form.
 ghost use Rattle.std.specs.Prelude.{◌<◌};
 ghost use Rattle.field.specs.Prime.{Inverses};
-ghost use Rattle.field.specs.Row.{Row, Reciprocal};
+ghost use Rattle.field.specs.Row.{Row};
 ghost use Rattle.polynomial.specs.Powers.{Rows};
 
-use field::rows;
-
-// Meant: c (a - b).
-fn quotient(a: [u16; 16], b: [u16; 16], c: u16, p: u16, m: u16) -> [u16; 16]
-    requires { Reciprocal p m × Row p a × Row p b × (c < p) }
-    ensures { Row p result }
-{
-    let difference = rows::subtract(a, b, p);
-    rows::scale(c, difference, p, m)
-}
+use field::modulus::Modulus;
 
 // Meant: Newton's coefficients of sixteen polynomials at once, from their values at the first d + 1 points.
 pub fn divide_differences(
     f: &mut [[u16; 16]; 16],
     x: [u16; 16],
     d: usize,
-    p: u16,
-    m: u16,
+    modulus: Modulus,
     inverses: &[u16; 251],
 )
-    requires { Reciprocal p m × Inverses p inverses.now × Rows p f.old × Row p x × (d < 16) }
-    ensures { Rows p f.new }
+    requires { Inverses modulus.p inverses.now × Rows modulus.p f.old × Row modulus.p x × (d < 16) }
+    ensures { Rows modulus.p f.new }
 {
-    let mut k = 0;
-    while k < d {
+    for k in 0..d {
         let base = f[k];
-        let mut j = k + 1;
-        while j <= d {
-            let difference = rows::reduce(x[j] + (p - x[k]), p, m);
-            let c = rows::reduce(inverses[difference as usize], p, m);
-            let row = f[j];
-            let next = quotient(row, base, c, p, m);
-            f[j] = next;
-            j += 1;
+        for j in k + 1..d + 1 {
+            let difference = modulus.reduce(x[j] + (modulus.p - x[k]));
+            let c = modulus.reduce(inverses[usize::from(difference)]);
+            f[j] = modulus.scale(c, modulus.subtract(f[j], base));
         }
-        k += 1;
     }
 }
 
 // Meant: their coefficients by powers, from Newton's. From the highest on each is freed of a multiple of the one above it, as
 // just made, so that the compiler doesn't work across rows.
-pub fn change_to_powers(f: &mut [[u16; 16]; 16], x: [u16; 16], d: usize, p: u16, m: u16)
-    requires { Reciprocal p m × Rows p f.old × Row p x × (d < 16) }
-    ensures { Rows p f.new }
+pub fn change_to_powers(f: &mut [[u16; 16]; 16], x: [u16; 16], d: usize, modulus: Modulus)
+    requires { Rows modulus.p f.old × Row modulus.p x × (d < 16) }
+    ensures { Rows modulus.p f.new }
 {
-    let mut i = 0;
-    while i < d {
+    for i in 0..d {
         let mut high = f[d];
-        let mut j = d;
-        while j > i {
-            j -= 1;
-            let row = f[j];
-            let next = rows::add_multiple(row, p - x[j - i], high, p, m);
+        for j in (i..d).rev() {
+            let next = modulus.add_multiple(f[j], modulus.p - x[j - i], high);
             f[j] = next;
             high = next;
         }
-        i += 1;
     }
 }

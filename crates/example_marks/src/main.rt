@@ -9,17 +9,22 @@ use std::io;
 use traymark::measure::{traymark_measure_mark, traymark_measure_strip};
 use traymark::write::{traymark_write_mark, traymark_write_strip};
 
+// Plan A: season 12, p 7, three rows, three columns, degree 1, points 1 2 4 each way. `example_plans` has it too, since each
+// example is to be read alone.
+const PLAN_A: [u8; 40] = [
+    0, 12, 7, 3, 3, 1, 1, 2, 4, 0, 0, 0, 0, 0, 0, 0, 0, 0, 0, 0, 0, 0, 1, 2, 4, 0, 0, 0, 0, 0, 0,
+    0, 0, 0, 0, 0, 0, 0, 0, 0,
+];
+
 fn main(rt: HostRuntime) -> io::Result<()> {
-    let record = [3u8, 1, 2];
-    let mut mark = [9u8; 9];
+    let record = [3, 1, 2];
+    let mut mark = [9; 9];
     write(&rt, "a write 3 1 2", &record, &mut mark)?;
     measure(&rt, "measure it", &record, &mark)?;
     let mut photo = mark;
-    photo[0] = 0;
-    photo[1] = 0;
-    photo[2] = 0;
+    photo[..3].fill(0);
     measure(&rt, "k first three cells 0", &record, &photo)?;
-    measure(&rt, "measure 0 0 0", &[0u8; 3], &mark)?;
+    measure(&rt, "measure 0 0 0", &[0; 3], &mark)?;
     strips(&rt)?;
     finer_doubts(&rt)?;
     half_tray(&rt)?;
@@ -28,71 +33,68 @@ fn main(rt: HostRuntime) -> io::Result<()> {
 
 // The same on one row: the record 3 1 at the row points 1 2 4.
 fn strips(rt: &impl Print) -> io::Result<()> {
-    let plan = plan_a();
-    let record = [3u8, 1];
-    let mut strip = [9u8; 3];
-    let number = traymark_write_strip(&plan, &record, &mut strip);
+    let record = [3, 1];
+    let mut strip = [9; 3];
+    let number = traymark_write_strip(&PLAN_A, &record, &mut strip);
     written(rt, "write the strip 3 1", number, &strip)?;
     measured(
         rt,
         "measure it",
-        traymark_measure_strip(&plan, &record, &strip, &[0u8; 3]),
+        traymark_measure_strip(&PLAN_A, &record, &strip, &[0; 3]),
     )?;
     measured(
         rt,
         "a cell unread, another wrong",
-        traymark_measure_strip(&plan, &record, &[255u8, 5, 1], &[100u8, 0, 0]),
+        traymark_measure_strip(&PLAN_A, &record, &[255, 5, 1], &[100, 0, 0]),
     )
 }
 
 // The strip with a cell unread and another wrong again: from season 30 on doubts are in 250ths.
 fn finer_doubts(rt: &impl Print) -> io::Result<()> {
-    let mut plan = plan_a();
+    let mut plan = PLAN_A;
     plan[1] = 30;
     measured(
         rt,
         "the same in season 30",
-        traymark_measure_strip(&plan, &[3u8, 1], &[255u8, 5, 1], &[250u8, 0, 0]),
+        traymark_measure_strip(&plan, &[3, 1], &[255, 5, 1], &[250, 0, 0]),
     )
 }
 
 // Three rows at the points 1 2 4, and two columns at 0 and 5: the same record in six cells, with a cell wrong.
 fn half_tray(rt: &impl Print) -> io::Result<()> {
-    let mut plan = plan_a();
+    let mut plan = PLAN_A;
     plan[4] = 2;
-    plan[22] = 0;
-    plan[23] = 5;
-    plan[24] = 0;
-    let record = [3u8, 1, 2];
-    let mut mark = [9u8; 6];
+    plan[22..25].copy_from_slice(&[0, 5, 0]);
+    let record = [3, 1, 2];
+    let mut mark = [9; 6];
     let number = traymark_write_mark(&plan, &record, &mut mark);
     written(rt, "write 3 1 2 on a half tray", number, &mark)?;
     mark[0] = 6;
     measured(
         rt,
         "first cell 6",
-        traymark_measure_mark(&plan, &record, &mark, &[0u8; 6]),
+        traymark_measure_mark(&plan, &record, &mark, &[0; 6]),
     )
 }
 
 // Refusals 6 to 9. The buffers of 9s stay as they were.
 fn refusals(rt: &impl Print) -> io::Result<()> {
-    let mut short = [9u8; 8];
-    let six = traymark_write_mark(&plan_a(), &[3u8, 1, 2], &mut short);
+    let mut short = [9; 8];
+    let six = traymark_write_mark(&PLAN_A, &[3, 1, 2], &mut short);
     written(rt, "8 bytes for the mark", six, &short)?;
-    let mut photo = [0u8; 9];
+    let mut photo = [0; 9];
     photo[4] = 7;
-    measure(rt, "a symbol 7", &[3u8, 1, 2], &photo)?;
+    measure(rt, "a symbol 7", &[3, 1, 2], &photo)?;
     photo[4] = 255;
-    measure(rt, "unread with doubt 0", &[3u8, 1, 2], &photo)?;
-    measure(rt, "measure 3 1 7", &[3u8, 1, 7], &[0u8; 9])?;
-    let mut mark = [9u8; 9];
-    write(rt, "write 3 1 7", &[3u8, 1, 7], &mut mark)
+    measure(rt, "unread with doubt 0", &[3, 1, 2], &photo)?;
+    measure(rt, "measure 3 1 7", &[3, 1, 7], &[0; 9])?;
+    let mut mark = [9; 9];
+    write(rt, "write 3 1 7", &[3, 1, 7], &mut mark)
 }
 
 // Writes a record under plan A.
 fn write(rt: &impl Print, name: &str, record: &[u8; 3], mark: &mut [u8; 9]) -> io::Result<()> {
-    let number = traymark_write_mark(&plan_a(), record, mark);
+    let number = traymark_write_mark(&PLAN_A, record, mark);
     written(rt, name, number, mark)
 }
 
@@ -101,25 +103,8 @@ fn measure(rt: &impl Print, name: &str, record: &[u8; 3], photo: &[u8; 9]) -> io
     measured(
         rt,
         name,
-        traymark_measure_mark(&plan_a(), record, photo, &[0u8; 9]),
+        traymark_measure_mark(&PLAN_A, record, photo, &[0; 9]),
     )
-}
-
-// Plan A: season 12, p 7, three rows, three columns, degree 1, points 1 2 4 each way.
-fn plan_a() -> [u8; 40] {
-    let mut plan = [0u8; 40];
-    plan[1] = 12;
-    plan[2] = 7;
-    plan[3] = 3;
-    plan[4] = 3;
-    plan[5] = 1;
-    plan[6] = 1;
-    plan[7] = 2;
-    plan[8] = 4;
-    plan[22] = 1;
-    plan[23] = 2;
-    plan[24] = 4;
-    plan
 }
 
 // A line: the number and the bytes of the buffer.

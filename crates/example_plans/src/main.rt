@@ -8,9 +8,16 @@ ghost use Rattle.std.specs.Prelude.{◌<◌};
 use std::io;
 use traymark::plans::{find_plan, traymark_check_plan, traymark_find_plan, traymark_widen_plans};
 
+// Plan A: season 12, p 7, three rows, three columns, degree 1, points 1 2 4 each way. `example_marks` has it too, since each
+// example is to be read alone.
+const PLAN_A: [u8; 40] = [
+    0, 12, 7, 3, 3, 1, 1, 2, 4, 0, 0, 0, 0, 0, 0, 0, 0, 0, 0, 0, 0, 0, 1, 2, 4, 0, 0, 0, 0, 0, 0,
+    0, 0, 0, 0, 0, 0, 0, 0, 0,
+];
+
 fn main(rt: HostRuntime) -> io::Result<()> {
-    line(&rt, "plan A", traymark_check_plan(&plan_a()))?;
-    line(&rt, "39 bytes", traymark_check_plan(&[0u8; 39]))?;
+    line(&rt, "plan A", traymark_check_plan(&PLAN_A))?;
+    line(&rt, "39 bytes", traymark_check_plan(&[0; 39]))?;
     changed(&rt, "byte 39 is 1", 39, 1)?;
     changed(&rt, "l p 9", 2, 9)?;
     changed(&rt, "no row", 3, 0)?;
@@ -24,17 +31,11 @@ fn main(rt: HostRuntime) -> io::Result<()> {
 
     // Four records: season 11; 12 corrected, p 2 with the one point 0 each way; 12 as it was, with all else 0; 12 corrected once
     // more.
-    let mut file = [0u8; 160];
+    let mut file = [0; 160];
     file[1] = 11;
-    file[41] = 12;
-    file[42] = 2;
-    file[43] = 1;
-    file[44] = 1;
+    file[40..45].copy_from_slice(&[0, 12, 2, 1, 1]);
     file[81] = 12;
-    file[121] = 12;
-    file[122] = 2;
-    file[123] = 1;
-    file[124] = 1;
+    file[120..125].copy_from_slice(&[0, 12, 2, 1, 1]);
     find(&rt, "season 12", &file, 12)?;
     find(&rt, "season 13", &file, 13)?;
     find(&rt, "season 12 in 159 bytes", &file[..159], 12)?;
@@ -43,26 +44,9 @@ fn main(rt: HostRuntime) -> io::Result<()> {
     widen(&rt)
 }
 
-// Plan A: season 12, p 7, three rows, three columns, degree 1, points 1 2 4 each way.
-fn plan_a() -> [u8; 40] {
-    let mut plan = [0u8; 40];
-    plan[1] = 12;
-    plan[2] = 7;
-    plan[3] = 3;
-    plan[4] = 3;
-    plan[5] = 1;
-    plan[6] = 1;
-    plan[7] = 2;
-    plan[8] = 4;
-    plan[22] = 1;
-    plan[23] = 2;
-    plan[24] = 4;
-    plan
-}
-
 // Plan A with two columns at the points 1 and 2, and degrees below and at the smaller side.
 fn half_trays(rt: &impl Print) -> io::Result<()> {
-    let mut plan = plan_a();
+    let mut plan = PLAN_A;
     plan[4] = 2;
     plan[24] = 0;
     line(rt, "two columns", traymark_check_plan(&plan))?;
@@ -73,9 +57,9 @@ fn half_trays(rt: &impl Print) -> io::Result<()> {
 // Plan A in 24 bytes: one n, one list of points. Widened it is plan A, and sound; half of it is refused.
 fn widen(rt: &impl Print) -> io::Result<()> {
     let old = [
-        0u8, 12, 7, 3, 1, 1, 2, 4, 0, 0, 0, 0, 0, 0, 0, 0, 0, 0, 0, 0, 0, 0, 0, 0,
+        0, 12, 7, 3, 1, 1, 2, 4, 0, 0, 0, 0, 0, 0, 0, 0, 0, 0, 0, 0, 0, 0, 0, 0,
     ];
-    let mut plan = [0u8; 40];
+    let mut plan = [0; 40];
     line(rt, "plan A widened", traymark_widen_plans(&old, &mut plan))?;
     line(rt, "its check", traymark_check_plan(&plan))?;
     line(
@@ -89,21 +73,21 @@ fn widen(rt: &impl Print) -> io::Result<()> {
 fn changed(rt: &impl Print, name: &str, i: usize, byte: u8) -> io::Result<()>
     requires { i < 40 }
 {
-    let mut plan = plan_a();
+    let mut plan = PLAN_A;
     plan[i] = byte;
     line(rt, name, traymark_check_plan(&plan))
 }
 
 // The number and the offset that C gets.
 fn find(rt: &impl Print, name: &str, file: &[u8], season: u16) -> io::Result<()> {
-    let mut offset: usize = 0;
+    let mut offset = 0;
     let number = traymark_find_plan(file, season, &mut offset);
     println!(rt; "{name}: {number}, offset: {offset}")
 }
 
 // What the check says of the plan of season 12 that is found; where none is, of an empty part, 1.
 fn found(rt: &impl Print, name: &str, file: &[u8]) -> io::Result<()> {
-    let mut number: u32 = 0;
+    let mut number = 0;
     line(
         rt,
         name,

@@ -4,50 +4,42 @@
 // from 30 on; the file stdout is what another decoder makes of it.
 #![tactic(auto)]
 
-ghost use Rattle.std.specs.Prelude.{◌≡◌, length};
-
 use definitions::Reading;
 use std::io;
-use text::fill;
+use text::program::fill;
 use traymark::read::traymark_read_strip;
 
 const SIZE: usize = 72;
 
 fn main(rt: HostRuntime) -> io::Result<()> {
     for _ in 0..1000 {
-        let mut space = [0u8; SIZE];
-        if fill(&mut rt.stdin(), &mut space) < SIZE {
+        let mut case = [0; SIZE];
+        if fill(&mut rt.stdin(), &mut case) < SIZE {
             return Ok(());
         }
-        let mut record = [0u8; 16];
-        read(&rt, &space, &mut record)?;
+        read(&rt, &case)?;
     }
     Ok(())
 }
 
 // One case. A plan of more than sixteen rows, or of a degree above 15, has no record of at most sixteen bytes.
-fn read(rt: &impl Print, case: &[u8], record: &mut [u8]) -> io::Result<()>
-    requires { (length case.now ≡ 72) × (length «record».old ≡ 16) }
-{
+fn read(rt: &impl Print, case: &[u8; SIZE]) -> io::Result<()> {
     let p = case[2];
     let n = usize::from(case[3]);
     let d = usize::from(case[5]);
-    if n > 16 {
-        return Ok(());
-    }
-    if d > 15 {
+    if n > 16 || d > 15 {
         return Ok(());
     }
     let symbols = 40 + n;
     let doubts = 56 + n;
-    let size = d + 1;
+    let mut record = [0; 16];
     print!(rt; "p {p} n {n} d {d}: ")?;
     tell(
         rt,
-        &case[0..40],
+        &case[..40],
         &case[40..symbols],
         &case[56..doubts],
-        &mut record[0..size],
+        &mut record[..=d],
     )
 }
 
@@ -67,7 +59,7 @@ fn tell(
         unread,
         class,
     } = traymark_read_strip(plan, symbols, doubts, record);
-    let margin = text::magnitude(margin);
+    let margin = margin.unsigned_abs();
     print!(rt; "number {number}, D {cost}, margin {margin}")?;
     print!(rt; ", changed {changed}, unread {unread}, class {class},")?;
     coefficients(rt, record)

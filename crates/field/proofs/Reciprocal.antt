@@ -14,18 +14,18 @@ use native.Mathlib.Nat.{mod-lt, mod-eq_of_lt, div-add-mod, mul-le-mul, mul-le-mu
 use Rattle.field.specs.Row.{Reciprocal}
 use Rattle.field.proofs.Congruence.{same, ◌⨾◌, ~add, ~mul, ~mul-right, mod_cong, cong_mod}
 
-module _ (t p m : ℕ) (r : Reciprocal p m) where
-  pub quotient_low : t * m / 65536 * p ≤ t
+module _ (t : ℕ) {p m s : ℕ} (r : Reciprocal p m) (e : s ≡ t * m) where
+  pub quotient_low : s / 65536 * p ≤ t
   quotient_low = omega (arith, mul-le-mul_right p fits, mul-le-mul_left t r.low)
     where
-      fits : t * m / 65536 * 65536 ≤ t * m
-      fits = omega (arith, div-add-mod (t * m) 65536)
+      fits : s / 65536 * 65536 ≤ t * m
+      fits = omega (arith, div-add-mod s 65536)
 
-  pub quotient_high : t < 65536 → t < t * m / 65536 * p + p + p
+  pub quotient_high : t < 65536 → t < s / 65536 * p + p + p
   quotient_high b = omega (arith, mul-le-mul_right p over, mul-le-mul_left t r.high, mul-le-mul_right p b, r.least)
     where
-      over : t * m < t * m / 65536 * 65536 + 65536
-      over = omega (arith, div-add-mod (t * m) 65536, mod-lt (t * m) {m = 65536} (omega arith))
+      over : t * m < s / 65536 * 65536 + 65536
+      over = omega (arith, div-add-mod s 65536, mod-lt s {m = 65536} (omega arith))
 
 -- what is left below p is the remainder
 pub remainder_is : (t p q r : ℕ) → r < p → t ≡ q * p + r → r ≡ t % p

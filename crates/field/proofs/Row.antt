@@ -6,12 +6,13 @@
 --   set-row                     a row with one place set is one
 --   row_reduced, row_cong       remainders are a row, which stands for the numbers themselves
 --   result_row, result_cong     the same of what a function on rows returns
---   upto_row, passed_row        the row that a loop has set
+--   upto_row, passed_done       the row that a loop has set
 --   Making f l j                a loop makes the row of f in l, and has set the places below j
---   making_start, making_more   no place, and one more
 --   making_done                 all of them: l is the row of f
 --   Filled f l j                the same in a row of zeros: the places from j on are 0
 --   filled_row                  all of them where f is other than 0
+--   filled_list                 all elements of a list, as f, which is 0 beyond them
+--   row_from_fn                 the row that a closure makes place by place
 --
 -- What this file is for: a function on rows returns a row of remainders, which is read place by place. Assumes nothing.
 use mathlib.Core.Path.{◌≡◌, refl, sym, ◌∙◌}
@@ -20,15 +21,17 @@ use Prim.Native.Nat.{ℕ, zero, suc, ◌+◌, ◌-◌, ◌%◌, ◌≤◌, ◌<�
 use native.Mathlib.Omega.{arith}
 use native.Mathlib.Nat.{mod-lt}
 use native.Mathlib.Decide.{ℕ_discrete, dec_lt}
+use denote.Param.Members.{Mut, Called}
 use lib.ListN.{length, set, length-set}
 use lib.Seq.{get_or-set_same, get_or-set_other}
+use Rattle.std.specs.Array.{IsFromFnResultFrom, IsFromFnResult}
 use Rattle.bounded.specs.Bounded.{at}
 use Rattle.bounded.proofs.Tab.{length-tab, tab-at, tab-is}
 use Rattle.field.specs.Congruence.{Cong, Agree}
 use Rattle.field.specs.Loop.{Upto, Passed}
 use Rattle.field.specs.Row.{row, Row}
 use Rattle.field.proofs.Congruence.{same, mod_cong, ◌⨾◌}
-use Rattle.field.proofs.Loop.{upto_start, upto_step, upto_less, passed_rest}
+use Rattle.field.proofs.Loop.{upto_less, passed_rest}
 
 pub row_at : (f : ℕ → ℕ) (j : ℕ) → j < 16 → at (row f) j ≡ f j
 row_at f j l = tab-at 16 f j l
@@ -76,22 +79,16 @@ module _ {p : ℕ} {l : List ℕ} (f : ℕ → ℕ) (z : 0 < p) (e : l ≡ row �
 pub upto_row : {f : ℕ → ℕ} {l : List ℕ} → Upto 16 0 (λ j v. v ≡ f j) l 16 → l ≡ row f
 upto_row {f} {l} h = tab-is 16 f l h.size h.done
 
-pub passed_row : {U : ℕ → ℕ → Type 0} {f : ℕ → ℕ} {l : List ℕ} → Passed 16 0 U (λ j v. v ≡ f j) l 16 → l ≡ row f
-passed_row {f} {l} h = tab-is 16 f l h.size h.done
+pub passed_done : {U : ℕ → ℕ → Type 0} {f : ℕ → ℕ} {l : List ℕ} {j : ℕ} → 16 ≤ j → Passed 16 0 U (λ k v. v ≡ f k) l j → l ≡ row f
+passed_done {f = f} {l} h p = tab-is 16 f l p.size λ k i. p.done k (omega arith)
 
--- a loop that makes the row of f: the places below j are set
+-- a loop that makes the row of f: the places below j are set, by `upto_step`
 abbrev pub Making : (f : ℕ → ℕ) (l : List ℕ) (j : ℕ) → Type 0
-Making f l j = (j ≤ 16) × Upto 16 0 (λ k v. v ≡ f k) l j
+Making f l j = Upto 16 0 (λ k v. v ≡ f k) l j
 
 module _ {f : ℕ → ℕ} {l : List ℕ} where
-  pub making_start : length l ≡ 16 → Making f l 0
-  making_start e = (omega arith, upto_start e)
-
-  pub making_more : {j v : ℕ} → j < 16 → v ≡ f j → Making f l j → Making f (set l j v) (j + 1)
-  making_more h e m = (omega arith, upto_step _ h e m.1)
-
   pub making_done : {j : ℕ} → 16 ≤ j → Making f l j → l ≡ row f
-  making_done h m = upto_row (upto_less h m.1)
+  making_done h m = upto_row (upto_less h m)
 
 -- a loop that fills a row of zeros with f: the places below j are set, by `passed_step`
 abbrev pub Filled : (f : ℕ → ℕ) (l : List ℕ) (j : ℕ) → Type 0
@@ -100,3 +97,22 @@ Filled f l j = Passed 16 0 (λ k v. v ≡ 0) (λ k v. v ≡ f k) l j
 module _ {f : ℕ → ℕ} where
   pub filled_row : {l : List ℕ} {j : ℕ} → ((k : ℕ) → j ≤ k → f k ≡ 0) → Filled f l j → l ≡ row f
   filled_row h p = upto_row (passed_rest p λ k m. sym (h k m))
+
+-- the same of a list, which reads as 0 beyond its end
+pub filled_list : (bytes : List ℕ) {l : List ℕ} {j : ℕ} → length bytes ≤ j → Filled (at bytes) l j → l ≡ row (at bytes)
+filled_list bytes h = filled_row λ k m. beyond bytes k (omega arith)
+
+-- a row made place by place by a closure that gives h j at the place j, and leaves itself as it was
+module _ {F : Type 0} {m : Mut F (ℕ × Unit {0}) ℕ} (h : ℕ → ℕ) {f : F}
+    (k : (j v : ℕ) (g : F) → j < 16 → Called m f (j, tt) v g → (g ≡ f) × (v ≡ h j)) where
+  from_place : (l : List ℕ) (n i : ℕ) → i + n ≡ 16 → IsFromFnResultFrom m f l i n → (j : ℕ) → i ≤ j → j < 16 → at l j ≡ h j
+  from_place l zero i e R j a b = absurd (omega arith)
+  from_place l (suc n) i e (g, v, E, C, R) j a b =
+      let t = k i v g (omega arith) C in
+      elim (ℕ_discrete j i) [
+        | yes d ↦ rw d (E.1 0 ∙ t.1)
+        | no d ↦ from_place l n (i + 1) (omega arith) (rw t.0 at R) j (omega arith) b
+      ]
+
+  pub row_from_fn : {l : List ℕ} → IsFromFnResult m f l 16 → l ≡ row h
+  row_from_fn {l} r = tab-is 16 h l r.long λ j b. from_place l 16 0 (omega arith) r.each j (omega arith) b

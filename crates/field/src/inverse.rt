@@ -1,7 +1,7 @@
 // Inverses modulo a prime of at most 251.
-ghost use Rattle.std.specs.Prelude.{◌≤◌};
 ghost use Rattle.field.specs.Prime.{Prime, Inverses};
-ghost use Rattle.field.specs.Row.{Reciprocal};
+
+use crate::modulus::Modulus;
 
 // The inverses modulo 251 by the number; 0 has none, and entry 0 is 0.
 const INVERSES: [u16; 251] = [
@@ -30,21 +30,20 @@ fn table() -> [u16; 251]
 // The inverses modulo p by the number, from 1 to p - 1; entry 0 is 0, the entries from p are any. At 251, the largest
 // modulus and the usual one, by the table; else each of the lower half from one before it: p = k a + r makes 1 / a the same
 // as -k / r, and r is less than a; and each of the upper half from its mirror in the lower: 1 / (p - a) is -1 / a.
-pub fn inverses(p: u16, m: u16) -> [u16; 251]
-    requires { Prime p × (p ≤ 251) × Reciprocal p m }
-    ensures { Inverses p result }
+pub fn inverses(modulus: Modulus) -> [u16; 251]
+    requires { Prime modulus.p }
+    ensures { Inverses modulus.p result }
 {
+    let p = modulus.p;
     let mut out = table();
     if p == 251 {
         return out;
     }
     out[(p - 1) as usize] = p - 1;
-    let mut a: u16 = 2;
-    while a + a < p {
-        let inverse = crate::rows::reduce((p - p / a) * out[(p % a) as usize], p, m);
+    for a in 2..p.div_ceil(2) {
+        let inverse = modulus.reduce((p - p / a) * out[(p % a) as usize]);
         out[a as usize] = inverse;
         out[(p - a) as usize] = p - inverse;
-        a += 1;
     }
     out
 }

@@ -3,5 +3,5 @@
 
 pub mod bytes;
 pub mod inverse;
-pub mod rows;
+pub mod modulus;
 pub mod scalar;

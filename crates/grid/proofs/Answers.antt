@@ -9,10 +9,10 @@
 --   answered-kept           so is one whose answer was kept
 --
 -- What this file is for: after the loop over the lines each of them hands on a cell. Assumes nothing.
-use mathlib.Core.Logic.{◌≢◌}
 use mathlib.Core.Path.{◌≡◌, refl}
 use mathlib.Core.Bool.{false}
 use mathlib.Core.List.{List}
+use Rattle.std.specs.Prelude.{Option, Some}
 use Prim.Native.Nat.{ℕ, suc, ◌*◌, ◌-◌, ◌≤◌, ◌<◌}
 use native.Mathlib.Omega.{arith}
 use native.Mathlib.Nat.{mod-eq_of_lt, mul-le-mul}
@@ -24,13 +24,12 @@ use Rattle.field.proofs.Row.{row_at, row_of}
 use Rattle.distance.specs.Doubts.{Doubts}
 use Rattle.polynomial.specs.Powers.{Rows}
 use Rattle.polynomial.specs.declared.Grid.{Grid}
-use Rattle.polynomial.specs.Fit.{Fit}
 use Rattle.reed_solomon.specs.declared.axis.Axis.{Axis}
 use Rattle.reed_solomon.specs.Axis.{Valid, strip_radius}
 use Rattle.reed_solomon.specs.Strip.{Strip}
 use Rattle.grid.specs.Axes.{line_axis, strip_axis}
 use Rattle.grid.specs.Loops.{cell_at}
-use Rattle.grid.specs.Answers.{unknown, Answer, Known, Answered}
+use Rattle.grid.specs.Answers.{Answer, Known, Answered}
 use Rattle.grid.proofs.Line.{line-answered, line_unanswered}
 
 pub row-zeros : {p : ℕ} → 0 < p → Row p (replicate 16 0)
@@ -42,51 +41,50 @@ pub column-row : {p : ℕ} {rows : List (List ℕ)} {l : List ℕ} (t : ℕ) →
 column-row {rows} t z R e =
     rw e (row_of z (length-tab 16 _) λ r k. rw (row_at (λ r. cell_at rows r t) r k) ((R.done r k).small t))
 
-pub positive : {g : Grid} → Fit g → 0 < g.p
-positive f = omega (arith, f.prime.least)
+pub positive : (g : Grid) → 0 < g.modulus.p
+positive g = omega (arith, g.fit.prime.least)
 
 -- the full doubt of a line at the degree t
-pub line-full : {g : Grid} (t : ℕ) → Fit g → g.full * (g.b - t) < 65536
-line-full {g} t f =
-    let low : g.full ≤ 4095 = omega (arith, f.full) in
-    let short : g.b - t ≤ 16 = omega (arith, f.columns) in
+pub line-full : (g : Grid) (t : ℕ) → g.full * (g.b - t) < 65536
+line-full g t =
+    let low : g.full ≤ 4095 = omega (arith, g.fit.full) in
+    let short : g.b - t ≤ 16 = omega (arith, g.fit.columns) in
     omega (arith, mul-le-mul low short)
 
 -- the axis of a line, read at the degree t, and that of what the lines hand on
-module _ {g : Grid} {t : ℕ} (f : Fit g) (low : t ≤ g.d) where
+module _ (g : Grid) {t : ℕ} (low : t ≤ g.d) where
   pub line-valid : Valid (line_axis g t)
   line-valid = record {
-    prime = f.prime;
-    reciprocal = f.reciprocal;
-    points = f.column_points;
-    apart = f.columns_apart;
-    most = f.columns;
-    low = omega (arith, f.narrow);
-    full = omega (arith, f.full);
+    prime = g.fit.prime;
+    points = g.fit.column_points;
+    apart = g.fit.columns_apart;
+    most = g.fit.columns;
+    low = omega (arith, g.fit.narrow);
+    full = omega (arith, g.fit.full);
   }
 
   pub strip-valid : Valid (strip_axis g t (g.full * (g.b - t)))
   strip-valid = record {
-    prime = f.prime;
-    reciprocal = f.reciprocal;
-    points = f.row_points;
-    apart = f.rows_apart;
-    most = f.rows;
-    low = omega (arith, f.low);
-    full = line-full t f;
+    prime = g.fit.prime;
+    points = g.fit.row_points;
+    apart = g.fit.rows_apart;
+    most = g.fit.rows;
+    low = omega (arith, g.fit.low);
+    full = line-full g t;
   }
 
 module _ {c : Axis} {s u : List ℕ} (valid : Valid c) where
-  pub answered-found : {w : List ℕ} {v : ℕ} → Doubts c.full c.n (at u) → Row c.p w → Answer c s u w v →
+  pub answered-found : {w : List ℕ} {v : ℕ} → Doubts c.full c.n (at u) → Row c.modulus.p w → Answer c s u w v →
       Answered c s u w v
   answered-found {w} du good A =
-      let small : at w c.k < suc (c.p - 1) = omega (arith, good.small c.k) in
+      let small : at w c.k < suc (c.modulus.p - 1) = omega (arith, good.small c.k) in
       record { good = good; handed = rw (mod-eq_of_lt small) at (line-answered valid.apart du A); strip = λ _. A }
 
-  pub answered-kept : {w : List ℕ} {v : ℕ} → Doubts c.full c.n (at u) → v ≢ unknown → Known c s u w v → Answered c s u w v
-  answered-kept du h K = answered-found du K.good (K.strip h)
+  pub answered-kept : {w : List ℕ} {v : Option ℕ} {n : ℕ} → Doubts c.full c.n (at u) → v ≡ Some n → Known c s u w v →
+      Answered c s u w n
+  answered-kept {n} du h K = answered-found du K.good (K.strip n h)
 
-  pub answered-none : {w : ℕ → ℕ} {v : ℕ} → Strip (c.p - 1) c.full c.n c.k (at c.x) (at s) (at u) false w v →
+  pub answered-none : {w : ℕ → ℕ} {v : ℕ} → Strip (c.modulus.p - 1) c.full c.n c.k (at c.x) (at s) (at u) false w v →
       Answered c s u (replicate 16 0) (strip_radius c)
   answered-none S = record {
     good = row-zeros (omega (arith, valid.prime.least));

@@ -21,7 +21,6 @@ use Rattle.distance.specs.Cost.{cell, cost}
 use Rattle.polynomial.specs.Eval.{eval}
 use Rattle.polynomial.specs.Powers.{Rows}
 use Rattle.polynomial.specs.declared.Grid.{Grid}
-use Rattle.polynomial.specs.Fit.{Fit}
 use Rattle.grid.specs.Cost.{remaining}
 use Rattle.grid.specs.Loops.{cell_at, line}
 use Rattle.grid.specs.Drawn.{Lessened, Drawn, Without}
@@ -41,33 +40,33 @@ added-again {p} {l'} {l} {v} {w} {e} {f} h pos c d g =
     whole : suc (p - 1) ≡ p
     whole = omega arith
 
-grid-modulus : {g : Grid} → Fit g → suc (g.p - 1) ≡ g.p
-grid-modulus f = omega (arith, f.prime.least)
+grid-modulus : (g : Grid) → suc (g.modulus.p - 1) ≡ g.modulus.p
+grid-modulus g = omega (arith, positive g)
 
 -- the column's value times the power of the column point is subtracted
-module _ {g : Grid} (t : ℕ) (f : Fit g) (left left' : List (List ℕ)) (column : List ℕ) {z w : List ℕ} (sq : Rows g.p left)
-    (values : z ≡ row λ j. eval (suc (g.d - t)) (at column) (at g.x j) % g.p) (power : w ≡ row λ c. at g.y c ^ t % g.p)
-    (W : Without g left z w left') where
+module _ {g : Grid} (t : ℕ) (left left' : List (List ℕ)) (column : List ℕ) {z w : List ℕ} (sq : Rows g.modulus.p left)
+    (values : z ≡ row λ j. eval (suc (g.d - t)) (at column) (at g.x j) % g.modulus.p)
+    (power : w ≡ row λ c. at g.y c ^ t % g.modulus.p) (W : Without g left z w left') where
   pub without_subtracted : (r : ℕ) → r < g.a → Lessened g t column left left' r
   without_subtracted r l =
-      let h : r < 16 = omega (arith, f.rows) in record {
-        before = λ c m. rw (grid-modulus f) ((sq.done r h).small c);
-        after = λ c m. rw (grid-modulus f) ((W.rows.done r h).small c);
+      let h : r < 16 = omega (arith, g.fit.rows) in record {
+        before = λ c m. rw (grid-modulus g) ((sq.done r h).small c);
+        after = λ c m. rw (grid-modulus g) ((W.rows.done r h).small c);
         term = λ c m.
-            let k : c < 16 = omega (arith, f.columns) in
-            added-again (omega (arith, (result_row _ (positive f) values).small r)) (positive f)
-            (result_cong _ (positive f) (W.each r l) c k) (result_cong _ (positive f) values r h)
-            (result_cong _ (positive f) power c k);
+            let k : c < 16 = omega (arith, g.fit.columns) in
+            added-again (omega (arith, (result_row _ (positive g) values).small r)) (positive g)
+            (result_cong _ (positive g) (W.each r l) c k) (result_cong _ (positive g) values r h)
+            (result_cong _ (positive g) power c k);
       }
 
 -- nothing is subtracted
-pub drawn_start : {g : Grid} {s u columns : List (List ℕ)} → Rows g.p s → Rows g.p columns →
+pub drawn_start : {g : Grid} {s u columns : List (List ℕ)} → Rows g.modulus.p s → Rows g.modulus.p columns →
     Drawn g (suc g.d) s u s columns
 drawn_start rows coefficients = record { rows = rows; coefficients = coefficients; costs = costs-start _ _; rest = rest-start _ }
 
 -- one column more
 pub drawn_next : {g : Grid} {t : ℕ} {s u left left' columns : List (List ℕ)} → t ≤ g.d → Drawn g (suc t) s u left columns →
-    Rows g.p left' →
+    Rows g.modulus.p left' →
     ((r : ℕ) → r < g.a → Lessened g t (line columns t) left left' r) → Drawn g t s u left' columns
 drawn_next {g} {t} {columns} td D rows sub = record {
   rows = rows;

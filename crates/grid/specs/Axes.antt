@@ -15,14 +15,14 @@ use Rattle.reed_solomon.specs.declared.axis.Axis.{Axis}
 use Rattle.grid.specs.Loops.{cell_at}
 
 abbrev pub line_axis : Grid → ℕ → Axis
-line_axis g t = record { p = g.p; m = g.m; x = g.y; n = g.b; k = t; full = g.full }
+line_axis g t = record { modulus = g.modulus; x = g.y; n = g.b; k = t; full = g.full }
 
 abbrev pub strip_axis : Grid → (t R : ℕ) → Axis
-strip_axis g t R = record { p = g.p; m = g.m; x = g.x; n = g.a; k = g.d - t; full = R }
+strip_axis g t R = record { modulus = g.modulus; x = g.x; n = g.a; k = g.d - t; full = R }
 
 abbrev pub DoubtRows : Grid → List (List ℕ) → Type 0
 DoubtRows g u = (r : ℕ) → r < g.a → Doubts g.full g.b (cell_at u r)
 
 pub record ColumnPowers (g : Grid) (ys : List (List ℕ)) : Type 0 where
-  pub rows : Rows g.p ys
-  pub powers : Powers g.p g.y g.d ys
+  pub rows : Rows g.modulus.p ys
+  pub powers : Powers g.modulus.p g.y g.d ys

@@ -9,11 +9,11 @@
 --                       the columns of Y^k and higher are subtracted, whatever they are
 --   left-over g u left  what is left, measured
 --   Completed g t u columns left left' cost
---                       under the radius: what all columns leave costs so much, if those of Y^t and higher were subtracted; else
---                       what is left is as it was
+--                       where there is a cost, under the radius: what all columns leave costs so much, if those of Y^t and higher
+--                       were subtracted; else what is left is as it was
 --
 -- What this file is for: columns are subtracted one by one, and what they leave decides whether they are the answer.
-use Rattle.std.specs.Prelude.{◌≡◌, List, ℕ, suc, ◌+◌, ◌*◌, ◌-◌, ◌%◌, ◌≤◌, ◌<◌}
+use Rattle.std.specs.Prelude.{◌≡◌, Option, Some, None, List, ℕ, suc, ◌+◌, ◌*◌, ◌-◌, ◌%◌, ◌<◌}
 use Rattle.bounded.specs.Bounded.{at}
 use Rattle.field.specs.Row.{row}
 use Rattle.polynomial.specs.Eval.{eval}
@@ -29,25 +29,25 @@ abbrev pub found : List (List ℕ) → ℕ → ℕ → ℕ
 found columns i t = cell_at columns t i
 
 pub record Without (g : Grid) (left : List (List ℕ)) (z w : List ℕ) (left' : List (List ℕ)) : Type 0 where
-  pub rows : Rows g.p left'
-  pub each : (r : ℕ) → r < g.a → line left' r ≡ row λ c. (cell_at left r c + (g.p - at z r) * at w c) % g.p
+  pub rows : Rows g.modulus.p left'
+  pub each : (r : ℕ) → r < g.a → line left' r ≡ row λ c. (cell_at left r c + (g.modulus.p - at z r) * at w c) % g.modulus.p
 
 abbrev pub Lessened : (g : Grid) (t : ℕ) (column : List ℕ) (left left' : List (List ℕ)) (r : ℕ) → Type 0
-Lessened g t column left left' r = Subtracted (g.p - 1) g.b t (at g.y) (eval (suc (g.d - t)) (at column) (at g.x r))
+Lessened g t column left left' r = Subtracted (g.modulus.p - 1) g.b t (at g.y) (eval (suc (g.d - t)) (at column) (at g.x r))
     (cell_at left r) (cell_at left' r)
 
 pub record Drawn (g : Grid) (k : ℕ) (s u left columns : List (List ℕ)) : Type 0 where
-  pub rows : Rows g.p left
-  pub coefficients : Rows g.p columns
-  pub costs : GridCosts (g.p - 1) g.full g.a g.b g.d (at g.x) (at g.y) (cell_at u) k (cell_at s) (cell_at left)
+  pub rows : Rows g.modulus.p left
+  pub coefficients : Rows g.modulus.p columns
+  pub costs : GridCosts (g.modulus.p - 1) g.full g.a g.b g.d (at g.x) (at g.y) (cell_at u) k (cell_at s) (cell_at left)
       (found columns)
-  pub rest : Rest (g.p - 1) g.a g.b g.d (at g.y) k (cell_at s) (cell_at left)
+  pub rest : Rest (g.modulus.p - 1) g.a g.b g.d (at g.y) k (cell_at s) (cell_at left)
       (lines g.d (at g.x) (found columns))
 
 abbrev pub left_over : Grid → (u left : List (List ℕ)) → ℕ
 left_over g u left = remaining g.full g.a g.b (cell_at u) (cell_at left)
 
-pub record Completed (g : Grid) (t : ℕ) (u columns left left' : List (List ℕ)) (cost : ℕ) : Type 0 where
-  pub under : cost < grid_radius g → (cost ≡ left_over g u left') ×
+pub record Completed (g : Grid) (t : ℕ) (u columns left left' : List (List ℕ)) (cost : Option ℕ) : Type 0 where
+  pub under : (n : ℕ) → cost ≡ Some n → (n < grid_radius g) × (n ≡ left_over g u left') ×
       ((s : List (List ℕ)) → Drawn g t s u left columns → Drawn g 0 s u left' columns)
-  pub over : grid_radius g ≤ cost → left' ≡ left
+  pub over : cost ≡ None → left' ≡ left

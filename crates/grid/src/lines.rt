@@ -1,10 +1,9 @@
 // The lines of a mark: each row of what is left, read as a strip over the column points.
-ghost use Rattle.std.specs.Prelude.{◌≡◌, ◌≤◌, ◌<◌, length};
+ghost use Rattle.std.specs.Prelude.{◌≡◌, ◌≤◌};
 ghost use Rattle.bounded.specs.Bounded.{at};
+ghost use Rattle.field.specs.Loop.{Upto};
 ghost use Rattle.field.specs.Prime.{Inverses};
-ghost use Rattle.field.specs.Row.{row};
 ghost use Rattle.polynomial.specs.Powers.{Rows};
-ghost use Rattle.polynomial.specs.Fit.{Fit};
 ghost use Rattle.reed_solomon.specs.Axis.{Received};
 ghost use Rattle.grid.specs.Axes.{DoubtRows};
 ghost use Rattle.grid.specs.Answers.{Answered, KnownRows, AnsweredRows, kept};
@@ -12,6 +11,7 @@ ghost use Rattle.grid.specs.Answers.{Answered, KnownRows, AnsweredRows, kept};
 use distance::word;
 use polynomial::Grid;
 use reed_solomon::axis::Axis;
+use reed_solomon::decoder;
 
 // A line's message and its cost. The line hands on the message's leading coefficient, with the cost for its doubt.
 #[derive(Clone, Copy)]
@@ -20,25 +20,24 @@ pub struct Line {
     pub cost: u32,
 }
 
-// The cost of a line whose answer is not known. No cost is as large.
-pub const UNKNOWN: u32 = 4294967295;
-
 // A line read as a strip. Where it has no answer it counts as unread, with the full doubt.
 fn read(axis: Axis, inverses: &[u16; 251], symbols: [u16; 16], doubts: [u32; 16]) -> Line
-    requires { Received axis symbols doubts × Inverses axis.p inverses.now }
+    requires { Received axis symbols doubts × Inverses axis.modulus.p inverses.now }
     ensures { Answered axis symbols doubts result.message result.cost }
 {
-    let strip = reed_solomon::decoder::decode(axis, inverses, symbols, doubts);
-    if strip.found {
-        let w = strip.message;
-        return Line {
-            message: w,
-            cost: strip.cost,
-        };
-    }
-    Line {
-        message: [0; 16],
-        cost: word::radius(axis.full, 1, axis.n, axis.k),
+    match decoder::decode(axis, inverses, symbols, doubts) {
+        Some(strip) => {
+            // by a variable, since no proof is made where an array goes straight from one struct into another
+            let message = strip.message;
+            Line {
+                message,
+                cost: strip.cost,
+            }
+        }
+        None => Line {
+            message: [0; 16],
+            cost: word::radius(axis.full, 1, axis.n, axis.k),
+        },
     }
 }
 
@@ -48,61 +47,58 @@ pub fn answer(
     inverses: &[u16; 251],
     t: usize,
     messages: &mut [[u16; 16]; 16],
-    known: [u32; 16],
+    known: [Option<u32>; 16],
     left: &[[u16; 16]; 16],
     doubts: &[[u32; 16]; 16],
 ) -> [u32; 16]
-    requires { Fit g × (t ≤ g.d) × Rows g.p left.now × DoubtRows g doubts.now ×
-        KnownRows g t left.now doubts.now messages.old known × Inverses g.p inverses.now }
+    requires { (t ≤ g.d) × Rows g.modulus.p left.now × DoubtRows g doubts.now ×
+        KnownRows g t left.now doubts.now messages.old known × Inverses g.modulus.p inverses.now }
     ensures { AnsweredRows g t left.now doubts.now messages.new result }
 {
-    let a = g.a;
-    let y = g.y;
     let axis = Axis {
-        p: g.p,
-        m: g.m,
-        x: y,
+        modulus: g.modulus,
+        x: g.y,
         n: g.b,
         k: t,
         full: g.full,
     };
-    let mut costs = known;
-    let mut r = 0;
-    while r < a {
-        if costs[r] == UNKNOWN {
-            let line = read(axis, inverses, left[r], doubts[r]);
-            let w = line.message;
-            messages[r] = w;
-            costs[r] = line.cost;
-        }
-        r += 1;
+    let mut costs = [0; 16];
+    for r in 0..g.a {
+        costs[r] = match known[r] {
+            Some(cost) => cost,
+            None => {
+                let line = read(axis, inverses, left[r], doubts[r]);
+                messages[r] = line.message;
+                line.cost
+            }
+        };
     }
     costs
 }
 
-// The cost of an answer whose leading coefficient e is the one that was found, z; else the line is to be read again.
-fn keep(e: u16, z: u16, cost: u32, radius: u32) -> u32
+// The cost of an answer under the radius whose leading coefficient e is the one that was found, z; else the line is to be read
+// again.
+fn keep(e: u16, z: u16, cost: u32, radius: u32) -> Option<u32>
     ensures { result ≡ kept e z cost radius }
 {
-    if e != z {
-        return UNKNOWN;
+    if e == z && cost < radius {
+        return Some(cost);
     }
-    if cost < radius {
-        return cost;
-    }
-    UNKNOWN
+    None
 }
 
 // The costs that are carried to the next degree step.
-pub fn carry(leading: [u16; 16], found: [u16; 16], costs: [u32; 16], radius: u32) -> [u32; 16]
-    requires { length costs ≡ 16 }
-    ensures { result ≡ row (λ j. kept (at leading j) (at found j) (at costs j) radius) }
+pub fn carry(
+    leading: [u16; 16],
+    found: [u16; 16],
+    costs: [u32; 16],
+    radius: u32,
+) -> [Option<u32>; 16]
+    ensures { Upto 16 None (λ j v. v ≡ kept (at leading j) (at found j) (at costs j) radius) result 16 }
 {
-    let mut out = costs;
-    let mut r = 0;
-    while r < 16 {
+    let mut out = [None; 16];
+    for r in 0..16 {
         out[r] = keep(leading[r], found[r], costs[r], radius);
-        r += 1;
     }
     out
 }

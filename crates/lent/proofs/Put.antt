@@ -4,7 +4,6 @@
 --   length-put                       the memory stays as long
 --   at_before, at-within, at_behind  its bytes before what was put there, those that were put, and those behind
 --   put_parts                        three parts one after another that are the whole memory
---   tab_fill                         a table of one number, as filling a part leaves it
 --
 -- What this file is for: the memory after a call, byte by byte. Assumes nothing.
 use mathlib.Core.Path.{◌≡◌, sym, ap, ◌∙◌}
@@ -12,11 +11,9 @@ use mathlib.Core.List.{List, ◌++◌, append-nil, append_assoc}
 use Prim.Native.Nat.{ℕ, ◌+◌, ◌≤◌, ◌<◌}
 use native.Mathlib.Omega.{arith}
 use lib.ListN.{length, take, drop, length-append, length-drop, drop_of_length-le, get_or-append}
-use lib.ListN.{replicate, length-replicate, get_or-replicate}
 use lib.Seq.{take_at, drop_at, drop-drop, length-take-le, get_or-append-add, get_or-drop, get_or-take}
 use borrow.Rule.Slice.PartMut.{put_mid}
-use Rattle.bounded.specs.Bounded.{at, tab}
-use Rattle.bounded.proofs.Tab.{tab-is}
+use Rattle.bounded.specs.Bounded.{at}
 use Rattle.lent.specs.Put.{put}
 
 pub put_back : (S s : List ℕ) (a n : ℕ) → n ≡ length s → put_mid a n S s ≡ put S a s
@@ -65,7 +62,3 @@ put_parts S p z u a b e f h =
 
     none : length (drop (length z) rest) ≤ length u
     none = simp length-drop (omega arith)
-
--- a table of one number
-pub tab_fill : (n v : ℕ) → tab n (λ _. v) ≡ replicate n v
-tab_fill n v = sym (tab-is n (λ _. v) (replicate n v) (length-replicate n v) λ i l. get_or-replicate n i v 0 l)

@@ -3,11 +3,9 @@
 
 ghost use Rattle.std.specs.Prelude.{◌≡◌, length, replicate};
 
-// Writes v into all bytes of the part.
+// Writes v into all bytes of the part, by the slice's own `fill`, which promises this of bytes in more words.
 pub fn fill(part: &mut [u8], v: u8)
     ensures { part.new ≡ replicate (length part.old) v }
 {
-    for i in 0..part.len() {
-        part[i] = v;
-    }
+    part.fill(v);
 }

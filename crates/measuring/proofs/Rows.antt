@@ -21,9 +21,9 @@ use Rattle.definitions.specs.Plan.{rows}
 use Rattle.definitions.specs.Code.{strip, oblong, cells, value}
 use Rattle.definitions.specs.Cost.{full}
 use Rattle.definitions.specs.Photograph.{Photograph}
-use Rattle.plan.specs.declared.Plan.{Plan}
+use Rattle.plan.specs.declared.season.Plan.{Plan}
 use Rattle.plan.specs.Says.{Says}
-use Rattle.plan.proofs.Values.{mark-value}
+use Rattle.plan.proofs.Values.{mark_cells_lem, mark-value}
 use Rattle.measuring.specs.Measured.{Measured}
 
 pub measured-eq : {f n D k : ℕ} {s s' u u' v v' : ℕ → ℕ} → ((i : ℕ) → i < n → s i ≡ s' i) → ((i : ℕ) → i < n → u i ≡ u' i) →
@@ -51,11 +51,11 @@ measured-more {f} n r s u v a b = rw (add-one r, suc-mul r n) (record {
 pub strip-measured : {P s u : List ℕ} {plan : Plan} {v w : ℕ → ℕ} {D k : ℕ} → Photograph strip P s u → Says P plan →
     ((i : ℕ) → i < rows P → v i ≡ w i) → Measured plan.grid.full (length s) (at s) (at u) v D k →
     Measured (full P) (rows P) (at s) (at u) w D k
-strip-measured photo says e m = measured-eq (λ i l. refl) (λ i l. refl) e (rw (says.fields, photo.symbols) at m)
+strip-measured photo says e m = measured-eq (λ i l. refl) (λ i l. refl) e (simp (says.full, photo.symbols) at m)
 
 pub mark-measured : {P : List ℕ} {plan : Plan} {s u : ℕ → ℕ} {D k : ℕ} → Says P plan → (F : List ℕ) →
     Measured plan.grid.full (plan.grid.a * plan.grid.b) s u
-    (grid_value plan.grid.p plan.grid.d plan.grid.b (at plan.grid.x) (at plan.grid.y) F) D k →
+    (grid_value plan.grid.modulus.p plan.grid.d plan.grid.b (at plan.grid.x) (at plan.grid.y) F) D k →
     Measured (full P) (cells oblong P) s u (value oblong P F) D k
 mark-measured says F m =
-    measured-eq (λ i l. refl) (λ i l. refl) (λ i l. rw says.fields at (mark-value says F i l)) (rw says.fields at m)
+    measured-eq (λ i l. refl) (λ i l. refl) (mark-value says F) (simp (says.full, ← mark_cells_lem says) at m)

@@ -5,50 +5,50 @@ ghost use Rattle.std.specs.Prelude.{◌≡◌, List, ℕ, ◌*◌, ◌≤◌, �
 ghost use Rattle.bounded.specs.Bounded.{at};
 ghost use Rattle.polynomial.specs.Record.{grid_value};
 ghost use Rattle.polynomial.specs.Powers.{Rows, Powers, Columns};
-ghost use Rattle.polynomial.specs.Fit.{Fit};
 ghost use Rattle.distance.specs.Doubts.{Doubts};
-ghost use Rattle.definitions.specs.Code.{strip, oblong, IsRecord};
+ghost use Rattle.definitions.specs.Code.{IsRecord};
 ghost use Rattle.definitions.specs.Calls.{reading_of};
 ghost use Rattle.definitions.specs.Photograph.{Photograph};
-ghost use Rattle.plan.specs.Says.{Says};
+ghost use Rattle.plan.specs.Says.{bytes_of};
 ghost use Rattle.measuring.specs.Measured.{Measured};
 
 use definitions::Reading;
 use distance::word;
 use field::bytes;
 use plan::Plan;
-use polynomial::{Grid, bivariate, evaluation, limit};
+use plan::kind::{Kind, Mark, Strip};
+use polynomial::{Grid, bivariate, evaluation};
 
-// The reading of a record against a mark.
-pub fn measure_mark(plan: Plan, record: &[u8], symbols: &[u8], doubts: &[u8]) -> Reading
-    requires { (P : List ℕ) × Says P plan × Photograph oblong P symbols.now doubts.now
-        × IsRecord oblong P «record».now }
-    ensures { (P : List ℕ) → Says P plan → Photograph oblong P symbols.now doubts.now →
-        result ≡ reading_of oblong P symbols.now doubts.now «record».now }
-{
-    let g = plan.grid;
-    let mut columns = [[0u16; 16]; 16];
-    let mut ys = [[0u16; 16]; 16];
-    bivariate::prepare(record, g, &mut columns, &mut ys);
-    let tally = measure_rows(g, &columns, &ys, symbols, doubts);
-    let radius = limit::radius(g);
-    answers::reading(radius, tally.cost, tally.differing, symbols)
+// A kind of code whose records can be measured.
+pub trait Measure: Kind {
+    // The reading of a record.
+    fn measure(plan: Plan, record: &[u8], symbols: &[u8], doubts: &[u8]) -> Reading
+        requires { Photograph Self.code (bytes_of plan) symbols.now doubts.now
+            × IsRecord Self.code (bytes_of plan) «record».now }
+        ensures { result ≡ reading_of Self.code (bytes_of plan) symbols.now doubts.now «record».now };
 }
 
-// The same against a strip, over the row points.
-pub fn measure_strip(plan: Plan, record: &[u8], symbols: &[u8], doubts: &[u8]) -> Reading
-    requires { (P : List ℕ) × Says P plan × Photograph strip P symbols.now doubts.now
-        × IsRecord strip P «record».now }
-    ensures { (P : List ℕ) → Says P plan → Photograph strip P symbols.now doubts.now →
-        result ≡ reading_of strip P symbols.now doubts.now «record».now }
-{
-    let g = plan.grid;
-    let points = g.x;
-    let powers = evaluation::powers(points, g.d, g.p, g.m);
-    let values = evaluation::values(&powers, g.d, bytes::row(record), g.p, g.m);
-    let tally = measure_row(symbols, doubts, values, g.full);
-    let radius = word::radius(g.full, 1, g.a, g.d);
-    answers::reading(radius, tally.cost, tally.differing, symbols)
+impl Measure for Mark {
+    fn measure(plan: Plan, record: &[u8], symbols: &[u8], doubts: &[u8]) -> Reading {
+        let g = plan.grid;
+        let mut columns = [[0u16; 16]; 16];
+        let mut ys = [[0u16; 16]; 16];
+        bivariate::prepare(record, g, &mut columns, &mut ys);
+        let tally = measure_rows(g, &columns, &ys, symbols, doubts);
+        answers::reading(Mark::radius(plan), tally.cost, tally.differing, symbols)
+    }
+}
+
+// A strip has its values at the row points.
+impl Measure for Strip {
+    fn measure(plan: Plan, record: &[u8], symbols: &[u8], doubts: &[u8]) -> Reading {
+        let g = plan.grid;
+        let points = g.x;
+        let powers = evaluation::powers(points, g.d, g.modulus);
+        let values = evaluation::values(&powers, g.d, bytes::row(record), g.modulus);
+        let tally = measure_row(symbols, doubts, values, g.full);
+        answers::reading(Strip::radius(plan), tally.cost, tally.differing, symbols)
+    }
 }
 
 // The cost of some cells, and how many of them differ from the record's mark, as an unread cell does.
@@ -58,7 +58,7 @@ struct Tally {
     differing: u32,
 }
 
-// Those of the mark's cells, row by row: at most sixteen rows, each of a cost of at most 2,097,152. X was put in for all rows at
+// Those of a mark's cells, row by row: at most sixteen rows, each of a cost of at most 2,097,152. X was put in for all rows at
 // once, which gave the columns.
 fn measure_rows(
     g: Grid,
@@ -67,18 +67,18 @@ fn measure_rows(
     symbols: &[u8],
     doubts: &[u8],
 ) -> Tally
-    requires { Fit g × Rows g.p columns.now × Rows g.p ys.now × (length symbols.now ≡ g.a * g.b)
+    requires { Rows g.modulus.p columns.now × Rows g.modulus.p ys.now × (length symbols.now ≡ g.a * g.b)
         × (length doubts.now ≡ g.a * g.b) × Doubts g.full (g.a * g.b) (at doubts.now) }
-    ensures { (result.cost ≤ 33554432) × ((x y F : List ℕ) → Columns g.p g.d x F columns.now →
-        Powers g.p y g.d ys.now → Measured g.full (g.a * g.b) (at symbols.now)
-        (at doubts.now) (grid_value g.p g.d g.b (at x) (at y) F) result.cost result.differing) }
+    ensures { (result.cost ≤ 33554432) × ((x y F : List ℕ) → Columns g.modulus.p g.d x F columns.now →
+        Powers g.modulus.p y g.d ys.now → Measured g.full (g.a * g.b) (at symbols.now)
+        (at doubts.now) (grid_value g.modulus.p g.d g.b (at x) (at y) F) result.cost result.differing) }
 {
     let a = g.a;
     let b = g.b;
     let mut cost = 0;
     let mut differing = 0;
     for r in 0..a {
-        let values = bivariate::row_values(columns, ys, r, g.d, g.p, g.m);
+        let values = bivariate::row_values(columns, ys, r, g.d, g.modulus);
         let at = r * b;
         let end = at + b;
         let tally = measure_row(&symbols[at..end], &doubts[at..end], values, g.full);
@@ -98,9 +98,9 @@ fn measure_row(symbols: &[u8], doubts: &[u8], values: [u16; 16], full: u32) -> T
 {
     let mut cost = 0;
     let mut differing = 0;
-    for j in 0..symbols.len() {
-        let symbol = symbols[j] as u16;
-        cost += word::cell_cost(symbol, doubts[j] as u32, values[j], full);
+    for (j, symbol) in symbols.iter().enumerate() {
+        let symbol = u16::from(*symbol);
+        cost += word::cell_cost(symbol, u32::from(doubts[j]), values[j], full);
         differing += word::differs(symbol, values[j]);
     }
     Tally { cost, differing }

@@ -1,5 +1,6 @@
 -- The laws of what a plan says.
 pub mod Reached
 pub mod Residues
-pub mod Ready
+pub mod Said
 pub mod Values
+pub mod Records

@@ -1,20 +1,19 @@
 -- The tests of a plan P, asked of its parts.
 --
---   low, high       a number compared with what a function has answered
 --   spare-reached   bytes 38 and 39
 --   wrong_pair      byte i of the sixteen from byte a on, by its own value and that of the byte after it
 --   pairs_tell      one is wrong so exactly where a point is misplaced
 --
 -- What this file is for: what a function answered of parts of the plan is the answer to the definition's test. Assumes nothing.
 use mathlib.Core.Path.{◌≡◌, refl, sym, ◌∙◌}
-use mathlib.Core.Bool.{Bool, true, false, cond, ◌&&◌, ◌||◌, true≢false}
+use mathlib.Core.Bool.{Bool, true, false, not, cond, ◌&&◌, ◌||◌, true≢false}
 use mathlib.Core.List.{List}
 use Prim.Native.Nat.{ℕ, ◌+◌, ◌-◌, ◌≤◌, ◌<◌}
 use native.Mathlib.Omega.{arith}
 use native.Mathlib.Decide.{dec_lt}
-use lib.Dec.{leb, ltb}
+use lib.Dec.{eqb, leb, ltb}
 use lib.ListN.{length, take, drop}
-use borrow.Author.Tests.{leb-false, le-leb, lt-leb, lt-ltb, le-ltb}
+use borrow.Author.Tests.{eqb-true, not-false, leb-false, lt-leb, lt-ltb, le-ltb}
 use Rattle.bounded.specs.Bounded.{at, any}
 use Rattle.bounded.proofs.Any.{any_none, none_any}
 use Rattle.bounded.proofs.Parts.{neither, nor}
@@ -22,18 +21,13 @@ use Rattle.bounded.proofs.Part.{part_any}
 use Rattle.field.specs.Word.{reached}
 use Rattle.definitions.specs.Plan.{plan_bytes, modulus, filled, misplaced}
 use Rattle.definitions.specs.Sound.{PointsFrom}
-use Rattle.definitions.proofs.Refusals.{answered}
 use Rattle.definitions.proofs.Sound.{placed, in_place}
 
-pub low : {r m x : ℕ} → r ≡ m → r ≤ x → leb m x ≡ true
-low {m} {x} e h = le-leb m x (omega arith)
-
-pub high : {r m x : ℕ} → r ≡ m → x < r → leb m x ≡ false
-high {m} {x} e h = lt-leb m x (omega arith)
-
-pub spare-reached : (P : List ℕ) {r t : Bool} → length P ≡ plan_bytes → r ≡ reached 1 (take (40 - 38) (drop 38 P)) → r ≡ t →
-    filled P 38 2 ≡ t
-spare-reached P l e = answered (e ∙ part_any 38 2 P (leb 1) (omega arith))
+pub spare-reached : (P : List ℕ) {r : Bool} → not (eqb (length P) plan_bytes) ≡ false →
+    r ≡ reached 1 (take (40 - 38) (drop 38 P)) → filled P 38 2 ≡ r
+spare-reached P w e =
+    let whole : length P ≡ plan_bytes = eqb-true _ _ (not-false _ w) in
+    sym (e ∙ part_any 38 2 P (leb 1) (omega arith))
 
 -- byte i of the sixteen from byte a on is not below its limit, or the next one is a point too and not above it
 abbrev pub wrong_pair : List ℕ → (a n i : ℕ) → Bool

@@ -32,22 +32,22 @@ use Rattle.definitions.specs.Plan.{modulus, rows, columns, side, degree, row_poi
 use Rattle.definitions.specs.Code.{strip, oblong, cells, value, mark, IsRecord}
 use Rattle.definitions.specs.Cost.{radius}
 use Rattle.definitions.proofs.Plan.{strip_size_lem, mark_size_lem}
-use Rattle.plan.specs.declared.Plan.{Plan}
+use Rattle.plan.specs.declared.season.Plan.{Plan}
 use Rattle.plan.specs.Says.{Says}
-use Rattle.plan.proofs.Ready.{point_at}
+use Rattle.plan.proofs.Said.{point_at}
 
 pub mark_cells_lem : {P : List ℕ} {plan : Plan} → Says P plan → cells oblong P ≡ plan.grid.a * plan.grid.b
-mark_cells_lem says = rw says.fields refl
+mark_cells_lem says = simp (says.rows, says.columns) refl
 
 module _ {P : List ℕ} {plan : Plan} (says : Says P plan) where
   abbrev g : Grid
   g = plan.grid
 
-  pub record_word_lem : {F : List ℕ} → IsRecord oblong P F → Word g.p (start (suc g.d)) F
-  record_word_lem f = rw says.fields (rw (mark_size_lem P, add-one (degree P)) at f)
+  pub record_word_lem : {F : List ℕ} → IsRecord oblong P F → Word g.modulus.p (start (suc g.d)) F
+  record_word_lem f = simp (says.modulus, says.degree) (rw (mark_size_lem P, add-one (degree P)) at f)
 
-  pub record_row_lem : {F w : List ℕ} → IsRecord strip P F → w ≡ row (at F) → Row g.p w
-  record_row_lem {F} f e = rw (says.fields, e)
+  pub record_row_lem : {F w : List ℕ} → IsRecord strip P F → w ≡ row (at F) → Row g.modulus.p w
+  record_row_lem {F} f e = simp (says.modulus, e)
       (row_of z (length-tab 16 _) λ i l. rw (row_at (at F) i l) (residue i (dec_lt i (degree P + 1))))
     where
       z : 0 < modulus P
@@ -59,8 +59,8 @@ module _ {P : List ℕ} {plan : Plan} (says : Says P plan) where
 
   -- the value in a cell of the grid is the mark's
   pub mark-value : (F : List ℕ) (c : ℕ) → c < rows P * columns P →
-      grid_value g.p g.d g.b (at g.x) (at g.y) F c ≡ value oblong P F c
-  mark-value F c l = rw says.fields
+      grid_value g.modulus.p g.d g.b (at g.x) (at g.y) F c ≡ value oblong P F c
+  mark-value F c l = simp (says.modulus, says.degree, says.columns, says.row_points, says.column_points)
       (ap₂ (value_xy (modulus P) (degree P) F) (point_at says.sound 0 (c / columns P) ((div-lt_iff_lt-mul z).1 l))
       (point_at says.sound 1 (c % columns P) (mod-lt c z)))
       ∙ sym (value_cell (modulus P) (degree P) F (side P) (point P) c)
@@ -68,25 +68,25 @@ module _ {P : List ℕ} {plan : Plan} (says : Says P plan) where
       z : 0 < columns P
       z = omega (arith, says.sound.wide.some)
 
-  pub mark-is : (F : List ℕ) → tab (g.a * g.b) (grid_value g.p g.d g.b (at g.x) (at g.y) F) ≡ mark oblong P F
+  pub mark-is : (F : List ℕ) → tab (g.a * g.b) (grid_value g.modulus.p g.d g.b (at g.x) (at g.y) F) ≡ mark oblong P F
   unfolding mark
   mark-is F = rw (← mark_cells_lem says) (tab-eq (rows P * columns P) (mark-value F))
 
   -- how far a record may be
   pub mark-radius : {R : ℕ} → R ≡ g.full * grid_distance g.a g.b g.d → R ≡ radius oblong P
-  mark-radius e = rw says.fields at e
+  mark-radius e = simp (says.full, says.rows, says.columns, says.degree) at e
 
   pub strip_radius_lem : {R : ℕ} → R ≡ g.full * 1 * (g.a - g.d) → R ≡ radius strip P
-  strip_radius_lem e = rw says.fields at e ∙ omega arith
+  strip_radius_lem e = simp (says.full, says.rows, says.degree) at e ∙ omega arith
 
   -- the values v of the polynomial with the coefficients w
-  pub strip-values : (F : List ℕ) {w v : List ℕ} → w ≡ row (at F) → v ≡ row (λ j. eval (suc g.d) (at w) (at g.x j) % g.p) →
-      (j : ℕ) → j < rows P → at v j ≡ value strip P F j
+  pub strip-values : (F : List ℕ) {w v : List ℕ} → w ≡ row (at F) →
+      v ≡ row (λ j. eval (suc g.d) (at w) (at g.x j) % g.modulus.p) → (j : ℕ) → j < rows P → at v j ≡ value strip P F j
   strip-values F {w} f e j l =
       let k : j < 16 = omega (arith, says.sound.tall.most) in
       let small : degree P < 16 = omega (arith, says.sound.low, says.sound.tall.most) in
       rw (
-        rw says.fields at e,
+        simp (says.modulus, says.degree, says.row_points) at e,
         row_at (λ j. eval (suc (degree P)) (at w) (at (row (row_point P)) j) % modulus P) j k,
         point_at says.sound 0 j l,
       )

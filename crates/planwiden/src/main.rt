@@ -5,8 +5,8 @@
 
 mod answer;
 
-use answer::{ROOM, TEXT};
-use text::{deliver, fill, has_argument};
+use answer::{ROOM, answer};
+use text::program::{deliver, fill, has_argument};
 
 fn main(rt: HostRuntime) {
     if has_argument(&rt, 1) {
@@ -15,9 +15,7 @@ fn main(rt: HostRuntime) {
         );
         return;
     }
-    let mut space = [0u8; ROOM];
+    let mut space = [0; ROOM];
     let came = fill(&mut rt.stdin(), &mut space);
-    let mut text = [0u8; TEXT];
-    let n = answer::answer(&space, came, &mut text);
-    deliver(&rt, "planwiden", &text[..n]);
+    deliver(&rt, "planwiden", answer(&space, came).as_bytes());
 }

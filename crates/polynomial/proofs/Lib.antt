@@ -13,5 +13,6 @@ pub mod Record
 pub mod Points
 pub mod Coefficients
 pub mod Powers
+pub mod Beside
 pub mod Columns
 pub mod Cells

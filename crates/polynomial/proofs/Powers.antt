@@ -5,7 +5,6 @@
 --   powers-start, start-rows, start-points
 --                               the first two rows are all ones and the points
 --   powers_step                 the product of two rows has the sum of their powers
---   product_small               a product of two numbers of a byte
 --   terms rows w i j            the first i terms at point j, by the rows and the coefficients w, not reduced
 --   terms_first, terms_more     the first, and one term more, as a loop makes them
 --   terms_row, term_fits        the sums are small, and one term more can be added
@@ -17,7 +16,7 @@ use mathlib.Core.Path.{◌≡◌, refl, sym, ap, ◌∙◌}
 use mathlib.Core.List.{List, []}
 use Prim.Native.Nat.{ℕ, zero, suc, ◌+◌, ◌*◌, ◌-◌, ◌%◌, ◌^◌, ◌≤◌, ◌<◌}
 use native.Mathlib.Omega.{arith}
-use native.Mathlib.Nat.{le_of_lt, mul-le-mul, mod-eq_of_lt, pow-zero, pow-suc}
+use native.Mathlib.Nat.{le_of_lt, mod-eq_of_lt, pow-zero, pow-suc}
 use lib.ListN.{get_or, set, replicate, length-set, get_or-replicate}
 use lib.Seq.{get_or-set_same}
 use lib.Pow.{pow-add}
@@ -72,10 +71,6 @@ pub powers_step : {p : ℕ} (h k : ℕ) (x : List ℕ) {v w l : List ℕ} → 0 
 powers_step h k x {w} z e f g = g ∙ tab-eq 16 λ j i. cong_mod z
     (~mul-right (at w j) (result_cong _ z e j i) ⨾ ~mul (at x j ^ h) (result_cong _ z f j i) ⨾ same (sym (pow-add (at x j) h k)))
 
--- a product of two numbers of a byte
-pub product_small : {a b : ℕ} → a < 256 → b < 256 → a * b ≤ 65025
-product_small {a} {b} h k = mul-le-mul {n₁ = a} {m₁ = b} {n₂ = 255} {m₂ = 255} (omega arith) (omega arith)
-
 -- the terms of the values at point j, by the rows and the coefficients w, not reduced: the first is its coefficient, since the
 -- power 0 is 1
 abbrev term : (rows : List (List ℕ)) (w : ℕ → ℕ) (t j : ℕ) → ℕ
@@ -86,14 +81,14 @@ abbrev pub terms : (rows : List (List ℕ)) (w : ℕ → ℕ) (i j : ℕ) → �
 terms rows w i j = sum i λ t. term rows w t j
 
 -- the sums at all points as a loop makes them: the first term, and one more
-pub terms_first : (rows : List (List ℕ)) (w : ℕ → ℕ) → replicate 16 (w 0) ≡ row (terms rows w 1)
-terms_first rows w = tab-is 16 (terms rows w 1) (replicate 16 (w 0)) refl λ j k.
-    omega (arith, get_or-replicate 16 j (w 0) 0 k)
+pub terms_first : (rows : List (List ℕ)) (w : ℕ → ℕ) {v : ℕ} → v ≡ w 0 → replicate 16 v ≡ row (terms rows w 1)
+terms_first rows w {v} e = tab-is 16 (terms rows w 1) (replicate 16 v) refl λ j k.
+    omega (arith, e, get_or-replicate 16 j v 0 k)
 
-pub terms_more : (rows : List (List ℕ)) (w : ℕ → ℕ) (i : ℕ) {s l : List ℕ} → 0 < i → s ≡ row (terms rows w i) →
-    l ≡ row (λ j. at s j + w i * at (get_or rows i []) j) → l ≡ row (terms rows w (i + 1))
-terms_more rows w zero h e f = absurd (omega arith)
-terms_more rows w (suc i) h e f = f ∙ rw e
+pub terms_more : (rows : List (List ℕ)) (w : ℕ → ℕ) (i : ℕ) {s l v : List ℕ} {c : ℕ} → 0 < i → s ≡ row (terms rows w i) →
+    c ≡ w i → v ≡ get_or rows i [] → l ≡ row (λ j. at s j + c * at v j) → l ≡ row (terms rows w (i + 1))
+terms_more rows w zero h e g k f = absurd (omega arith)
+terms_more rows w (suc i) h e g k f = f ∙ rw (e, g, k)
     (tab-eq 16 λ j k. omega (arith, row_at (terms rows w (suc i)) j k, sum_more (suc i) (λ t. term rows w t j)))
 
 -- each term is a residue or a product of two, so that the sums are small, and one term more can be added
@@ -110,11 +105,11 @@ module _ {p : ℕ} {rows : List (List ℕ)} {w : ℕ → ℕ} (h : p ≤ 251) (R
       (row_of (omega arith) (length-tab 16 (terms rows w i)) λ j k.
       rw (row_at (terms rows w i) j k) (omega (arith, terms_most i j l)))
 
-  pub term_fits : (i : ℕ) {s : List ℕ} → i < 16 → s ≡ row (terms rows w i) →
-      Row 16777216 s × (w i < 256) × Row 256 (get_or rows i [])
-  term_fits i l e =
+  pub term_fits : (i : ℕ) {s v : List ℕ} {c : ℕ} → i < 16 → s ≡ row (terms rows w i) → c ≡ w i → v ≡ get_or rows i [] →
+      Row 16777216 s × (c < 256) × Row 256 v
+  term_fits i l e g f =
       let r = R.done i l in
-      (terms_row i (omega arith) e, omega (arith, W i l), record { size = r.size; small = λ j. omega (arith, r.small j) })
+      (terms_row i (omega arith) e, omega (arith, W i l), rw f (record { size = r.size; small = λ j. omega (arith, r.small j) }))
 
 module _ {p d : ℕ} {rows : List (List ℕ)} (w : ℕ → ℕ) (x : List ℕ) (z : 0 < p) (P : Powers p x d rows) where
   terms_cong : (i j : ℕ) → i ≤ suc d → j < 16 → Cong (p - 1) (terms rows w i j) (eval i w (at x j))

@@ -13,6 +13,7 @@ use Rattle.field.proofs.Congruence.{same, ~sym, ◌⨾◌, ~add, ~mul, rest}
 use Rattle.polynomial.specs.Eval.{Apart}
 use Rattle.polynomial.specs.Lead.{Lead, con, up}
 use Rattle.polynomial.proofs.Lead.{divide}
+use Rattle.polynomial.proofs.Points.{cancel_apart}
 
 -- w marks some of the first m points by 1
 module _ {q n : ℕ} {x : ℕ → ℕ} (ax : Apart q n x) where
@@ -29,7 +30,7 @@ module _ {q n : ℕ} {x : ℕ → ℕ} (ax : Apart q n x) where
         let (g, D, d) = divide k m i (up a G h) in
         let t : Cong q (f m) 0 = z m (omega arith) e in
         let r = roots m w (omega arith) D (λ j l. b j (omega arith))
-        (λ j l v. ax.cancel j m (g j) l i (rest (d j (omega arith)) (z j (omega arith) v) t))
+        (λ j l v. cancel_apart ax j m (g j) l i (rest (d j (omega arith)) (z j (omega arith) v) t))
         (omega (arith, b m (omega arith))) in
         (r.0, λ j l. d j l ⨾ ~add t (~mul (x j + q * x m) (r.1 j l)) ⨾ same (omega arith))
   ]

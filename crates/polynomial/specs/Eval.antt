@@ -6,9 +6,8 @@
 --   Points p n x     the n points are below p and strictly rising, as those of a plan
 --
 -- What this file is for: strips, rows and columns are all words of such values.
-use Rattle.std.specs.Prelude.{ℕ, suc, ◌+◌, ◌*◌, ◌%◌, ◌^◌, ◌<◌}
+use Rattle.std.specs.Prelude.{◌≡◌, ℕ, suc, ◌+◌, ◌*◌, ◌%◌, ◌^◌, ◌<◌}
 use Rattle.bounded.specs.Bounded.{sum}
-use Rattle.field.specs.Congruence.{Cong}
 
 abbrev pub eval : ℕ → (ℕ → ℕ) → ℕ → ℕ
 eval k a x = sum k λ i. a i * x ^ i
@@ -17,7 +16,7 @@ abbrev pub values : (q k : ℕ) (a x : ℕ → ℕ) → ℕ → ℕ
 values q k a x j = eval k a (x j) % suc q
 
 pub record Apart (q n : ℕ) (x : ℕ → ℕ) : Type 0 where
-  pub cancel : (j r b : ℕ) → j < r → r < n → Cong q ((x j + q * x r) * b) 0 → Cong q b 0
+  pub cancel : (j r b : ℕ) → j < r → r < n → (x j + q * x r) * b % suc q ≡ 0 → b % suc q ≡ 0
 
 pub record Points (p n : ℕ) (x : ℕ → ℕ) : Type 0 where
   pub below : (i : ℕ) → i < n → x i < p

@@ -6,5 +6,6 @@ pub mod Sides
 pub mod Layout
 pub mod Poly
 pub mod Distance
+pub mod Fits
 pub mod Fit
 pub mod Powers

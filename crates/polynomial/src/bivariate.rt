@@ -2,13 +2,14 @@
 // for all rows at once, which leaves the coefficients of the powers of Y; then Y, a row at a time.
 ghost use Rattle.std.specs.Prelude.{◌≡◌, cond, List, [], ℕ, suc, ◌+◌, ◌≤◌, ◌<◌, leb, length, get_or};
 ghost use Rattle.bounded.specs.Bounded.{at};
-ghost use Rattle.field.specs.Row.{row, Row, Reciprocal};
+ghost use Rattle.field.specs.Row.{row, Row};
 ghost use Rattle.polynomial.specs.Record.{start as start_of, place as place_of, coef, value_xy};
 ghost use Rattle.field.specs.Word.{Word};
 ghost use Rattle.polynomial.specs.Powers.{Rows, Powers, Columns};
-ghost use Rattle.polynomial.specs.Fit.{Fit};
 
 use crate::{Grid, evaluation};
+use field::modulus::Modulus;
+use std::array;
 
 // The length of the longest record, that of degree 15.
 pub const LONGEST: usize = 136;
@@ -36,11 +37,8 @@ fn coefficient_of_y(message: &[u8], d: usize, t: usize) -> [u16; 16]
     ensures { result ≡ row (λ i. cond (leb (i + t) d) (coef message.now i t) 0) }
 {
     let mut out = [0u16; 16];
-    let mut i = 0;
-    while i + t <= d {
-        let at = place(i, t);
-        out[i] = message[at] as u16;
-        i += 1;
+    for i in 0..d - t + 1 {
+        out[i] = u16::from(message[place(i, t)]);
     }
     out
 }
@@ -51,35 +49,30 @@ fn set_columns(
     message: &[u8],
     powers: &[[u16; 16]; 16],
     d: usize,
-    p: u16,
-    m: u16,
+    modulus: Modulus,
 )
-    requires { Reciprocal p m × Rows p powers.now × Word p (start_of (suc d)) message.now × (d < 16)
-        × Rows p columns.old }
-    ensures { Rows p columns.new × ((x : List ℕ) → Powers p x d powers.now →
-        Columns p d x message.now columns.new) }
+    requires { Rows modulus.p powers.now × Word modulus.p (start_of (suc d)) message.now × (d < 16)
+        × Rows modulus.p columns.old }
+    ensures { Rows modulus.p columns.new × ((x : List ℕ) → Powers modulus.p x d powers.now →
+        Columns modulus.p d x message.now columns.new) }
 {
-    let mut t = 0;
-    while t <= d {
+    for t in 0..d + 1 {
         let w = coefficient_of_y(message, d, t);
-        columns[t] = evaluation::values(powers, d - t, w, p, m);
-        t += 1;
+        columns[t] = evaluation::values(powers, d - t, w, modulus);
     }
 }
 
 // What the values of a message on a grid are made of: its columns, and the powers of the column points. The tables are lent,
 // since one that is handed back is copied; that of the powers has those of the row points first, for the columns.
 pub fn prepare(message: &[u8], g: Grid, columns: &mut [[u16; 16]; 16], powers: &mut [[u16; 16]; 16])
-    requires { Fit g × Word g.p (start_of (suc g.d)) message.now × Rows g.p columns.old
-        × Rows g.p powers.old }
-    ensures { Rows g.p columns.new × Columns g.p g.d g.x message.now columns.new
-        × Rows g.p powers.new × Powers g.p g.y g.d powers.new }
+    requires { Word g.modulus.p (start_of (suc g.d)) message.now × Rows g.modulus.p columns.old
+        × Rows g.modulus.p powers.old }
+    ensures { Rows g.modulus.p columns.new × Columns g.modulus.p g.d g.x message.now columns.new
+        × Rows g.modulus.p powers.new × Powers g.modulus.p g.y g.d powers.new }
 {
-    let x = g.x;
-    evaluation::set_powers(powers, x, g.d, g.p, g.m);
-    set_columns(columns, message, powers, g.d, g.p, g.m);
-    let y = g.y;
-    evaluation::set_powers(powers, y, g.d, g.p, g.m);
+    evaluation::set_powers(powers, g.x, g.d, g.modulus);
+    set_columns(columns, message, powers, g.d, g.modulus);
+    evaluation::set_powers(powers, g.y, g.d, g.modulus);
 }
 
 // Place r of each row.
@@ -87,34 +80,25 @@ pub fn place_of_each(rows: &[[u16; 16]; 16], r: usize) -> [u16; 16]
     requires { r < 16 }
     ensures { result ≡ row (λ t. at (get_or rows.now t []) r) }
 {
-    let mut out = [0u16; 16];
-    let mut t = 0;
-    while t < 16 {
-        out[t] = rows[t][r];
-        t += 1;
-    }
-    out
+    array::from_fn(|t| rows[t][r])
 }
 
-// The values in row r: a polynomial in Y, whose coefficients are place r of the columns, at the column
-// points, whose powers are given.
+// The values in row r: a polynomial in Y, whose coefficients are place r of the columns, at the column points, whose powers are
+// given. Not by `place_of_each` and `values`: gathering the whole row first would take a quarter more time.
 pub fn row_values(
     columns: &[[u16; 16]; 16],
     powers: &[[u16; 16]; 16],
     r: usize,
     d: usize,
-    p: u16,
-    m: u16,
+    modulus: Modulus,
 ) -> [u16; 16]
-    requires { Reciprocal p m × Rows p columns.now × Rows p powers.now × (r < 16) × (d < 16) }
-    ensures { Row p result × ((x y F : List ℕ) → Columns p d x F columns.now → Powers p y d powers.now →
-        result ≡ row (λ j. value_xy p d F (at x r) (at y j))) }
+    requires { Rows modulus.p columns.now × Rows modulus.p powers.now × (r < 16) × (d < 16) }
+    ensures { Row modulus.p result × ((x y F : List ℕ) → Columns modulus.p d x F columns.now →
+        Powers modulus.p y d powers.now → result ≡ row (λ j. value_xy modulus.p d F (at x r) (at y j))) }
 {
-    let mut sum = [columns[0][r] as u32; 16];
-    let mut t = 1;
-    while t <= d {
-        evaluation::add_product(&mut sum, columns[t][r], &powers[t]);
-        t += 1;
+    let mut sum = [u32::from(columns[0][r]); 16];
+    for (column, v) in columns[1..=d].iter().zip(&powers[1..]) {
+        evaluation::add_product(&mut sum, column[r], v);
     }
-    field::rows::fold_row(sum, p, m)
+    modulus.fold_row(sum)
 }

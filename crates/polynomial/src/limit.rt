@@ -1,6 +1,6 @@
 // How far a record on a grid may be from a photograph.
 ghost use Rattle.std.specs.Prelude.{◌≡◌, ◌<◌};
-ghost use Rattle.polynomial.specs.Fit.{Fit, grid_radius};
+ghost use Rattle.polynomial.specs.Fit.{grid_radius};
 
 use crate::Grid;
 use distance::word;
@@ -8,7 +8,6 @@ use distance::word;
 // The full doubt times max(a, b) (min(a, b) - d). Two different records differ in max(a, b) (min(a, b) - d) cells or more, so at
 // most one costs less.
 pub fn radius(g: Grid) -> u32
-    requires { Fit g }
     ensures { (result ≡ grid_radius g) × (result < 2147483648) }
 {
     if g.a < g.b {

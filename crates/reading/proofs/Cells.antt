@@ -1,8 +1,6 @@
 -- Grids of loaded cells, row by row.
 --
---   product_small             where a row begins is a small number
 --   cell_at_lem               a cell of the grid is a byte of the flat photograph
---   part                      the bytes of row r
 --   part_line, no_line        a row from its own part of the bytes; below the grid there is nothing
 --   residues_part, no_residues   those of a row from its own part of the bytes; below the grid there are none
 --   differing_more            a row more of the cells that differ
@@ -18,7 +16,7 @@ use native.Mathlib.Omega.{arith}
 use native.Mathlib.Decide.{ℕ_discrete, dec_lt}
 use native.Mathlib.Nat.{mul-le-mul_right}
 use lib.Dec.{eqb}
-use lib.ListN.{length, take, drop, replicate, length-replicate, get_or-replicate}
+use lib.ListN.{length, replicate, length-replicate, get_or-replicate}
 use borrow.Author.Tests.{eqb-true, eqb-false, eq-eqb, ne_eqb, lt-ltb, le-ltb}
 use Rattle.bounded.specs.Bounded.{at}
 use Rattle.bounded.proofs.Sum.{sum-eq, sum_more}
@@ -31,24 +29,17 @@ use Rattle.definitions.specs.Cost.{unread}
 use Rattle.distance.specs.Cost.{hamming}
 use Rattle.bounded.proofs.Part.{part_at, part_length}
 use Rattle.grid.specs.Loops.{cell_at}
-use Rattle.reading.specs.Loading.{residue, grid_cell}
+use Rattle.reading.specs.Loading.{residue, grid_cell, line}
 use Rattle.reading.specs.Differing.{flag, differing_cells}
-
-pub product_small : {a b r : ℕ} → a ≤ 16 → b ≤ 16 → r < a → r * b ≤ 240
-product_small {b} {r} h i l = let k : r < 16 = omega arith in omega (arith, mul-le-mul_right b k)
 
 pub cell_at_lem : (n : ℕ) (s : List ℕ) (r c : ℕ) → c < n → grid_cell n s r c ≡ at s (r * n + c)
 cell_at_lem n s r c l = rw (lt-ltb c n l)
 
--- the bytes of row r
-abbrev pub part : (n r : ℕ) → List ℕ → List ℕ
-part n r s = take (r * n + n - r * n) (drop (r * n) s)
-
 -- row r of the grid s of n columns, from its own part of the bytes
-pub part_line : (n r : ℕ) (s : List ℕ) {l : List ℕ} → l ≡ row (at (part n r s)) → r * n + n ≤ length s → l ≡ row (grid_cell n s r)
+pub part_line : (n r : ℕ) (s : List ℕ) {l : List ℕ} → l ≡ row (at (line n r s)) → r * n + n ≤ length s → l ≡ row (grid_cell n s r)
 part_line n r s e h = e ∙ tab-eq 16 λ c _. elim (dec_lt c n) [
   | yes m ↦ part_at (r * n) n s c m ∙ sym (cell_at_lem n s r c m)
-  | no m ↦ beyond (part n r s) c (omega (arith, part_length (r * n) n s h)) ∙ sym (rw (le-ltb c n (omega arith)))
+  | no m ↦ beyond (line n r s) c (omega (arith, part_length (r * n) n s h)) ∙ sym (rw (le-ltb c n (omega arith)))
 ]
 
 -- below the grid there is nothing
@@ -69,19 +60,19 @@ no_residues a n r s h e = tab-is 16 (λ c. residue (grid_cell n s r c)) (replica
     zero ∙ ap residue (sym zero ∙ row_is (grid_cell n s r) (no_line a n r s h e) c l)
 
 -- the residues of row r, from its own part of the bytes
-pub residues_part : (n r : ℕ) (s : List ℕ) {l : List ℕ} → l ≡ row (λ j. residue (at (part n r s) j)) → r * n + n ≤ length s →
+pub residues_part : (n r : ℕ) (s : List ℕ) {l : List ℕ} → l ≡ row (λ j. residue (at (line n r s) j)) → r * n + n ≤ length s →
     l ≡ row (λ c. residue (grid_cell n s r c))
 residues_part n r s e h = e ∙ tab-eq 16 λ c m.
-    ap residue (sym (row_at (at (part n r s)) c m) ∙ row_is (grid_cell n s r) (part_line n r s refl h) c m)
+    ap residue (sym (row_at (at (line n r s)) c m) ∙ row_is (grid_cell n s r) (part_line n r s refl h) c m)
 
 -- a row more of the cells that differ, from its own part of the bytes
 pub differing_more : (n r : ℕ) (s : List ℕ) (left : List (List ℕ)) {k : ℕ} → r * n + n ≤ length s →
-    k ≡ hamming (length (part n r s)) (λ c. flag (at (part n r s) c) (cell_at left r c)) (λ _. 0) →
+    k ≡ hamming (length (line n r s)) (λ c. flag (at (line n r s) c) (cell_at left r c)) (λ _. 0) →
     differing_cells (r + 1) n s left ≡ differing_cells r n s left + k
 differing_more n r s left h e = sum_more r _ ∙ ap (λ k. differing_cells r n s left + k)
     (sum-eq n (λ c m.
     ap (λ v. cond (eqb (flag v (cell_at left r c)) 0) 0 1) (cell_at_lem n s r c m ∙ sym (part_at (r * n) n s c m)))
-    ∙ sym (e ∙ ap (λ m. hamming m (λ c. flag (at (part n r s) c) (cell_at left r c)) (λ _. 0)) (part_length (r * n) n s h)))
+    ∙ sym (e ∙ ap (λ m. hamming m (λ c. flag (at (line n r s) c) (cell_at left r c)) (λ _. 0)) (part_length (r * n) n s h)))
 
 -- a cell differs where its flag is set: its value v and what is left of it make its residue
 pub flag-differ : {p s l v : ℕ} → p ≤ 251 → (s < p) ⊎ (s ≡ unread) → l < p → v < p → Cong (p - 1) (l + v) (residue s) →

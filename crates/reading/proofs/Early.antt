@@ -11,23 +11,18 @@ use lib.ListN.{length}
 use Rattle.bounded.specs.Bounded.{at, sum}
 use Rattle.definitions.specs.Plan.{rows, columns}
 use Rattle.definitions.specs.Code.{oblong, value}
-use Rattle.definitions.specs.Cost.{full}
+use Rattle.definitions.specs.Cost.{full, radius}
 use Rattle.definitions.specs.Calls.{refused}
 use Rattle.definitions.specs.Reads.{Reads}
 use Rattle.definitions.proofs.Nearest.{cost_without, reads_none}
 use Rattle.distance.proofs.Cost.{doubts-cost}
-use Rattle.polynomial.specs.Distance.{grid_distance}
-use Rattle.plan.specs.declared.Plan.{Plan}
-use Rattle.plan.specs.Says.{Says}
-use Rattle.plan.proofs.Values.{mark-radius}
 use Rattle.reading.specs.Loading.{Taken}
 
-pub doubts_refuse : {P s u B : List ℕ} {plan : Plan} {R : ℕ} → Says P plan → Taken oblong P s u B →
-    R ≡ plan.grid.full * grid_distance plan.grid.a plan.grid.b plan.grid.d → R ≤ sum (length u) (at u) →
+pub doubts_refuse : {P s u B : List ℕ} {R : ℕ} → Taken oblong P s u B → R ≡ radius oblong P → R ≤ sum (length u) (at u) →
     Reads oblong P s u B (refused 10) B
-doubts_refuse {P} {s} {u} {B} says t e h = reads_none oblong P s u B t.clear λ F f. cost_without oblong P s u F λ l. omega (
+doubts_refuse {P} {s} {u} {B} t e h = reads_none oblong P s u B t.clear λ F f. cost_without oblong P s u F λ l. omega (
   arith,
-  mark-radius says e,
+  e,
   doubts-cost (full P) (rows P * columns P) (at s) (at u) (value oblong P F) (λ c l. (t.photo.doubt c l).0),
   rw t.photo.doubts at h,
 )

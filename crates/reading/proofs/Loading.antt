@@ -1,14 +1,13 @@
 -- Photographs as the readers take and load them.
 --
 --   taken            where the plan's refusals and 6 to 8 do not apply, a photograph was taken
---   negated          what a test `!b` says of b
 --   residue-below    a loaded symbol is below the modulus
 --   residue_loaded   and stands for the symbol that was lent
 --
 -- What this file is for: from the checks' number to what the readers ask. Assumes nothing.
-use mathlib.Core.Path.{◌≡◌, refl, ap}
+use mathlib.Core.Path.{◌≡◌, refl}
 use mathlib.Core.Logic.{◌⊎◌, inl, inr}
-use mathlib.Core.Bool.{Bool, true, false, not, cond}
+use mathlib.Core.Bool.{Bool, true, false, cond}
 use mathlib.Core.List.{List}
 use Prim.Native.Nat.{ℕ, ◌<◌}
 use lib.Dec.{eqb}
@@ -24,11 +23,6 @@ use Rattle.reading.specs.Loading.{residue, Taken}
 pub taken : (C : Code) (P s u B : List ℕ) → first (photo_rows C P s u B) ≡ 0 → Taken C P s u B
 taken C P s u B e = let h = accepted-photo C P s u B e in
     record { clear = e; photo = h; room = accepted-buffer C P s u B e }
-
--- what a test `!b` says of b
-pub negated : (b : Bool) {t : Bool} → not b ≡ t → b ≡ not t
-negated true e = ap not e
-negated false e = ap not e
 
 pub residue-below : {p v : ℕ} → 0 < p → (v < p) ⊎ (v ≡ unread) → residue v < p
 residue-below {p} {v} z h = go (eqb v unread) refl h

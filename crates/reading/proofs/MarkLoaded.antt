@@ -3,15 +3,16 @@
 --   record-room     a record has a byte at least, and at most as many as a message has numbers
 --   symbol-rows     loaded symbols are rows of residues
 --   mark_received   what is loaded is what the mark decoder takes
---   mark-refused    its outcome over the radius is refusal 10
---   message-small   under the radius the numbers of its message are bytes
+--   mark-refused    no answer of it is refusal 10
+--   mark-under      the cost of an answer is under the radius
+--   message-small   the numbers of its message are bytes
 --   mark-reading    and the message, stored, is the reading of the one record within the radius; of the cells that differ from
 --                   its mark, those that were not read are some
 --
 -- What this file is for: reading a mark is the reading that document 01 defines. Assumes nothing.
 use mathlib.Core.Path.{◌≡◌, refl, sym, ap, ◌∙◌}
 use mathlib.Core.Logic.{◌⊎◌, inl}
-use mathlib.Core.Bool.{true, cond}
+use mathlib.Core.Bool.{Bool, true, false, cond}
 use mathlib.Core.List.{List}
 use Prim.Native.Nat.{ℕ, suc, ◌+◌, ◌*◌, ◌-◌, ◌%◌, ◌^◌, ◌≤◌, ◌<◌}
 use native.Mathlib.Omega.{arith}
@@ -19,39 +20,37 @@ use native.Mathlib.Decide.{dec_lt}
 use native.Mathlib.Nat.{mul-le-mul_right, mod-lt}
 use lib.Dec.{eqb}
 use lib.ListN.{length}
-use borrow.Author.Tests.{lt-ltb, le-ltb}
+use borrow.Author.Tests.{le-ltb}
+use Rattle.std.specs.Prelude.{Option, Some, None, is_some}
 use Rattle.bounded.specs.Bounded.{at, tab}
 use Rattle.bounded.proofs.Sum.{sum-eq, sum_rows, cell_row, cell-column}
 use Rattle.bounded.proofs.Tab.{length-tab, tab-at}
-use Rattle.field.specs.Row.{row}
 use Rattle.field.proofs.Congruence.{same, ~add, mod_cong, ◌⨾◌}
 use Rattle.field.proofs.Row.{row_at, row_of, beyond}
 use Rattle.definitions.specs.Plan.{modulus, rows, columns, degree, row_point, column_point, side, point}
 use Rattle.definitions.specs.Code.{oblong, size, cells, value}
-use Rattle.polynomial.specs.Record.{place, longest}
 use Rattle.definitions.specs.Cost.{full, unread, radius}
 use Rattle.definitions.specs.Calls.{refused}
 use Rattle.definitions.specs.Reads.{Reads}
 use Rattle.polynomial.specs.Eval.{eval}
-use Rattle.polynomial.specs.Record.{coef, on_row}
-use Rattle.polynomial.specs.Distance.{grid_distance}
+use Rattle.polynomial.specs.Record.{place, longest, coef, on_row}
 use Rattle.polynomial.specs.Powers.{Rows}
 use Rattle.polynomial.specs.declared.Grid.{Grid}
-use Rattle.polynomial.specs.Fit.{grid_radius}
 use Rattle.polynomial.proofs.Record.{value-rows, place-below}
 use Rattle.polynomial.proofs.Known.{value_cell}
 use Rattle.definitions.proofs.Plan.{plan-longest, mark_size_lem}
-use Rattle.plan.specs.declared.Plan.{Plan}
-use Rattle.plan.specs.Says.{said, Says}
-use Rattle.plan.proofs.Ready.{point_at}
-use Rattle.plan.proofs.Values.{mark-radius}
+use Rattle.plan.specs.declared.season.Plan.{Plan}
+use Rattle.plan.specs.Says.{Says}
+use Rattle.plan.proofs.Said.{point_at}
 use Rattle.distance.specs.Cost.{hamming}
 use Rattle.answers.specs.Summary.{unread_in, summary}
 use Rattle.answers.proofs.Summary.{unread-within, summary-is}
 use Rattle.grid.specs.Axes.{DoubtRows}
 use Rattle.grid.specs.Loops.{cell_at}
-use Rattle.reed_muller.specs.Mark.{LoadedGrid}
-use Rattle.reed_muller.specs.Outcome.{Outcome, under}
+use Rattle.reed_muller.specs.declared.decoder.Found.{Found}
+use Rattle.reed_muller.specs.Mark.{LoadedGrid, Decoded}
+use Rattle.reed_muller.specs.Outcome.{cost, Outcome}
+use Rattle.reed_muller.specs.Rest.{Remains}
 use Rattle.reading.proofs.MarkReading.{mark-none, mark-record, mark-cost, mark-found}
 use Rattle.reading.specs.Loading.{residue, grid_cell, SymbolRows, DoubtLines, Taken}
 use Rattle.reading.specs.Differing.{flag, differing_cells}
@@ -97,9 +96,6 @@ module _ {P s u B : List ℕ} {left : List (List ℕ)} (t : Taken oblong P s u B
 
 module _ {P s u B : List ℕ} {left u' : List (List ℕ)} (t : Taken oblong P s u B)
     (es : SymbolRows (columns P) s left) (eu : DoubtLines (columns P) u u') where
-  points : (i j : ℕ) → j < side P i → at (row (point P i)) j ≡ point P i j
-  points = point_at t.photo.sound
-
   doubt-at : (r c : ℕ) → r < rows P → c < columns P → cell_at u' r c ≡ at u (r * columns P + c)
   doubt-at r c l m =
       ap (λ v. at v c) (eu.done r (omega (arith, t.photo.sound.tall.most)))
@@ -115,80 +111,71 @@ module _ {P s u B : List ℕ} {left u' : List (List ℕ)} (t : Taken oblong P s 
   doubts-most : (r c : ℕ) → r < rows P → c < columns P → cell_at u' r c ≤ full P
   doubts-most r c l m = rw (doubt-at r c l m) (t.photo.doubt (r * columns P + c) (inside t es r c l m)).0
 
-  -- what the decoder answers, and what it leaves
-  module _ {m g : ℕ} {after : List (List ℕ)} {w : List ℕ}
-      (D : Outcome (said P m).grid left u' after (under (said P m).grid g) w g) where
-    limit_is : grid_radius (said P m).grid ≡ radius oblong P
-    limit_is = refl
+  -- what the decoder answers for points that it has loaded, and what it leaves of the symbols
+  module _ {x y : ℕ → ℕ} (ex : (r : ℕ) → r < rows P → x r ≡ row_point P r) (ey : (c : ℕ) → c < columns P → y c ≡ column_point P c)
+      (w : List ℕ) where
+    abbrev Answer : Bool → ℕ → Type 0
+    Answer found n =
+        Decoded (modulus P - 1) (full P) (rows P) (columns P) (degree P) x y (cell_at left) (cell_at u') found (coef w) n
 
-    refused-said : radius oblong P ≤ g → Reads oblong P s u B (refused 10) B
-    refused-said h = mark-none P s u B t.clear (points 0) (points 1) loaded w D.decoded
-        (le-ltb g _ (omega (arith, limit_is)))
+    refused-said : (n : ℕ) → Answer false n → Reads oblong P s u B (refused 10) B
+    refused-said n D = mark-none P s u B t.clear ex ey loaded w D refl
 
-    found : g < radius oblong P → under (said P m).grid g ≡ true
-    found h = lt-ltb g _ (omega (arith, limit_is))
+    module _ {n : ℕ} (D : Answer true n) where
+      -- the message fits into bytes
+      small-said : (j : ℕ) → j < length B → at w j < 256
+      small-said j l =
+          let k : j < size oblong P = omega (arith, t.room) in
+          let m = size oblong P in
+          let F = mark-record P s u B t.clear ex ey loaded w D refl (tab m (at w)) (length-tab m (at w)) (tab-at m (at w)) in
+          omega (arith, F.below j k, tab-at m (at w) j k, t.photo.sound.small)
 
-    -- the message fits into bytes
-    small-said : g < radius oblong P → (j : ℕ) → j < length B → at w j < 256
-    small-said h j l =
-        let z = found h in
-        let k : j < size oblong P = omega (arith, t.room) in
-        let W = tab (size oblong P) (at w) in
-        let n = size oblong P in
-        let F = mark-record P s u B t.clear (points 0) (points 1) loaded w D.decoded z W (length-tab n (at w))
-        (tab-at n (at w)) in
-        omega (arith, F.below j k, tab-at (size oblong P) (at w) j k, t.photo.sound.small)
+      module _ {W : List ℕ} (stored : W ≡ tab (length B) (at w)) where
+        word-length : length W ≡ size oblong P
+        word-length = rw stored (length-tab (length B) (at w)) ∙ t.room
 
-    module _ (h : g < radius oblong P) {W : List ℕ} (stored : W ≡ tab (length B) (at w)) where
-      word-length : length W ≡ size oblong P
-      word-length = rw stored (length-tab (length B) (at w)) ∙ t.room
+        word_at : (i : ℕ) → i < size oblong P → at W i ≡ at w i
+        word_at i l = rw stored (tab-at (length B) (at w) i (omega (arith, t.room)))
 
-      word_at : (i : ℕ) → i < size oblong P → at W i ≡ at w i
-      word_at i l = rw stored (tab-at (length B) (at w) i (omega (arith, t.room)))
+        coefficients : (k i : ℕ) → i + k ≤ degree P → coef W i k ≡ coef w i k
+        coefficients k i l = word_at (place i k) (rw (mark_size_lem P) (place-below i k (degree P + 1) (omega arith)))
 
-      coefficients : (k i : ℕ) → i + k ≤ degree P → coef W i k ≡ coef w i k
-      coefficients k i l = word_at (place i k) (rw (mark_size_lem P) (place-below i k (degree P + 1) (omega arith)))
+        abbrev line-value : (r c : ℕ) → ℕ
+        line-value r c = eval (suc (degree P)) (on_row (degree P) (coef w) (x r)) (y c)
 
-      abbrev line-value : (r c : ℕ) → ℕ
-      line-value r c = eval (suc (degree P)) (on_row (degree P) (coef w) (at (row (row_point P)) r)) (at (row (column_point P)) c)
+        value-at : (r c : ℕ) → r < rows P → c < columns P → value oblong P W (r * columns P + c) ≡ line-value r c % modulus P
+        value-at r c l m =
+            value_cell (modulus P) (degree P) W (side P) (point P) (r * columns P + c)
+            ∙ rw (cell_row (columns P) r c m, cell-column (columns P) r c m, ex r l, ey c m)
+            (value-rows (modulus P) (degree P) W (row_point P r) (column_point P c) ∙ ap (λ e. e % modulus P)
+            (sum-eq (suc (degree P)) λ k a. ap (λ e. e * column_point P c ^ k)
+            (sum-eq (suc (degree P - k)) λ i b. ap (λ e. e * row_point P r ^ i) (coefficients k i (omega arith)))))
 
-      value-at : (r c : ℕ) → r < rows P → c < columns P → value oblong P W (r * columns P + c) ≡ line-value r c % modulus P
-      value-at r c l m =
-          value_cell (modulus P) (degree P) W (side P) (point P) (r * columns P + c)
-          ∙ rw (
-            cell_row (columns P) r c m,
-            cell-column (columns P) r c m,
-            points 0 r l,
-            points 1 c m,
-          )
-          (value-rows (modulus P) (degree P) W (row_point P r) (column_point P c) ∙ ap (λ e. e % modulus P)
-          (sum-eq (suc (degree P)) λ k a. ap (λ e. e * column_point P c ^ k)
-          (sum-eq (suc (degree P - k)) λ i b. ap (λ e. e * row_point P r ^ i) (coefficients k i (omega arith)))))
+        module _ (after : List (List ℕ))
+            (R : Remains (modulus P - 1) (rows P) (columns P) (degree P) x y (cell_at left) (cell_at after) (coef w)) where
+          cell-differs : (r c : ℕ) → r < rows P → c < columns P →
+              ◌≡◌ {A = ℕ} (cond (eqb (flag (grid_cell (columns P) s r c) (cell_at after r c)) 0) 0 1)
+              (cond (eqb (at s (r * columns P + c)) (value oblong P W (r * columns P + c))) 0 1)
+          cell-differs r c l m =
+              let z = positive t es in
+              rw (cell_at_lem (columns P) s r c m, value-at r c l m)
+              (flag-differ t.photo.sound.small (t.photo.symbol (r * columns P + c) (inside t es r c l m))
+              (omega (arith, R.below r c l m, z)) (mod-lt (line-value r c) z)
+              (~add (same refl) (mod_cong z (line-value r c)) ⨾ R.whole r c l m ⨾ same (symbol_at_lem t es r c l m)))
 
-      cell-differs : (r c : ℕ) → r < rows P → c < columns P →
-          ◌≡◌ {A = ℕ} (cond (eqb (flag (grid_cell (columns P) s r c) (cell_at after r c)) 0) 0 1)
-          (cond (eqb (at s (r * columns P + c)) (value oblong P W (r * columns P + c))) 0 1)
-      cell-differs r c l m =
-          let R = D.remains (found h) in
-          rw (cell_at_lem (columns P) s r c m, value-at r c l m)
-          (flag-differ t.photo.sound.small (t.photo.symbol (r * columns P + c) (inside t es r c l m))
-          (omega (arith, R.below r c l m, positive t es)) (mod-lt (line-value r c) (positive t es))
-          (~add (same refl) (mod_cong (positive t es) (line-value r c)) ⨾ R.whole r c l m ⨾ same (symbol_at_lem t es r c l m)))
+          differing_of : differing_cells (rows P) (columns P) s after ≡ hamming (cells oblong P) (at s) (value oblong P W)
+          differing_of = sym (sum_rows (rows P) (columns P) _
+              ∙ sum-eq (rows P) λ r l. sum-eq (columns P) λ c m. sym (cell-differs r c l m))
 
-      differing_of : differing_cells (rows P) (columns P) s after ≡ hamming (cells oblong P) (at s) (value oblong P W)
-      differing_of = sym (sum_rows (rows P) (columns P) _
-          ∙ sum-eq (rows P) λ r l. sum-eq (columns P) λ c m. sym (cell-differs r c l m))
-
-      reading-said : {k : ℕ} → k ≡ differing_cells (rows P) (columns P) s after →
-          (unread_in s ≤ k) × Reads oblong P s u B (summary (radius oblong P) g k s) W
-      reading-said e =
-          let z = found h in
-          let paid = mark-cost P s u B t.clear (points 0) (points 1) loaded w D.decoded z W word-length word_at in
-          let differing = e ∙ differing_of in (
-            unread-within W t.photo differing,
-            rw (summary-is W t.photo differing refl paid)
-                (mark-found P s u B t.clear (points 0) (points 1) loaded w D.decoded z W word-length word_at),
-          )
+          reading-said : {k : ℕ} → k ≡ differing_cells (rows P) (columns P) s after →
+              (unread_in s ≤ k) × Reads oblong P s u B (summary (radius oblong P) n k s) W
+          reading-said e =
+              let paid = mark-cost P s u B t.clear ex ey loaded w D refl W word-length word_at in
+              let differing = e ∙ differing_of in (
+                unread-within W t.photo differing,
+                rw (summary-is W t.photo differing refl paid)
+                    (mark-found P s u B t.clear ex ey loaded w D refl W word-length word_at),
+              )
 
 -- the same by the struct that says what the plan does
 module _ {P s u B : List ℕ} {left u' : List (List ℕ)} {plan : Plan} (says : Says P plan) (t : Taken oblong P s u B)
@@ -197,24 +184,39 @@ module _ {P s u B : List ℕ} {left u' : List (List ℕ)} {plan : Plan} (says : 
   g = plan.grid
 
   sides : SymbolRows (columns P) s left × DoubtLines (columns P) u u'
-  sides = (rw says.fields at es, rw says.fields at eu)
+  sides = (simp says.columns at es, simp says.columns at eu)
 
-  pub mark_received : Rows g.p left × DoubtRows g u'
+  pub mark_received : Rows g.modulus.p left × DoubtRows g u'
   mark_received = (
-    rw says.fields (symbol-rows t sides.0),
-    rw says.fields λ r l c m. doubts-most t sides.0 sides.1 r c l m,
+    simp says.modulus (symbol-rows t sides.0),
+    λ r l c m. simp says.full (doubts-most t sides.0 sides.1 r c (simp says.rows at l) (simp says.columns at m)),
   )
 
-  module _ {c R : ℕ} {after : List (List ℕ)} {w : List ℕ} (D : Outcome g left u' after (under g c) w c)
-      (h : R ≡ g.full * grid_distance g.a g.b g.d) where
-    pub mark-refused : R ≤ c → Reads oblong P s u B (refused 10) B
-    mark-refused l = refused-said t sides.0 sides.1 (rw says.fields at D) (omega (arith, mark-radius says h))
+  ex : (r : ℕ) → r < rows P → at g.x r ≡ row_point P r
+  ex r l = simp says.row_points (point_at says.sound 0 r l)
 
-    pub message-small : c < R → (j : ℕ) → j < length B → at w j < 256
-    message-small l = small-said t sides.0 sides.1 (rw says.fields at D) (omega (arith, mark-radius says h))
+  ey : (c : ℕ) → c < columns P → at g.y c ≡ column_point P c
+  ey c l = simp says.column_points (point_at says.sound 1 c l)
 
-    pub mark-reading : {W : List ℕ} {k : ℕ} → c < R → W ≡ tab (length B) (at w) → k ≡ differing_cells g.a g.b s after →
-        (unread_in s ≤ k) × Reads oblong P s u B (summary R c k s) W
-    mark-reading l stored e = rw (mark-radius says h)
-        (reading-said t sides.0 sides.1 (rw says.fields at D) (omega (arith, mark-radius says h)) stored
-        (rw says.fields at e))
+  abbrev Outcome_of : Option Found → List ℕ → Type 0
+  Outcome_of r w = Outcome g left u' r w
+
+  answer : {r : Option Found} {w : List ℕ} → Outcome_of r w →
+      Decoded (modulus P - 1) (full P) (rows P) (columns P) (degree P) (at g.x) (at g.y) (cell_at left) (cell_at u') (is_some r)
+      (coef w) (cost r)
+  answer D = simp (says.modulus, says.full, says.rows, says.columns, says.degree) at D.decoded
+
+  pub mark-refused : {w : List ℕ} → Outcome_of None w → Reads oblong P s u B (refused 10) B
+  mark-refused D = refused-said t sides.0 sides.1 ex ey _ _ (answer D)
+
+  module _ {f : Found} {w : List ℕ} (D : Outcome_of (Some f) w) where
+    pub mark-under : {R : ℕ} → R ≡ radius oblong P → f.cost < R
+    mark-under h = let l : f.cost < radius oblong P = ((answer D).sound refl).1 in omega (arith, h, l)
+
+    pub message-small : (j : ℕ) → j < length B → at w j < 256
+    message-small = small-said t sides.0 sides.1 ex ey _ (answer D)
+
+    pub mark-reading : {W : List ℕ} {k R : ℕ} → W ≡ tab (length B) (at w) → k ≡ differing_cells g.a g.b s f.left →
+        R ≡ radius oblong P → (unread_in s ≤ k) × Reads oblong P s u B (summary R f.cost k s) W
+    mark-reading stored e h = rw h (reading-said t sides.0 sides.1 ex ey _ (answer D) stored _
+        (simp (says.modulus, says.rows, says.columns, says.degree) at (D.remains refl)) (simp (says.rows, says.columns) at e))

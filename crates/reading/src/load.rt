@@ -1,20 +1,23 @@
-// Lent bytes of a photograph as rows of sixteen; what is beyond their end is 0. A grid has a rows of b cells each.
-ghost use Rattle.std.specs.Prelude.{◌≡◌, ◌+◌, ◌*◌, ◌≤◌, ◌<◌, length};
+// Lent bytes of a photograph as rows of sixteen; what is beyond their end is 0.
+ghost use Rattle.std.specs.Prelude.{◌≡◌, [], ◌*◌, ◌≤◌, length, replicate};
+ghost use Rattle.std.specs.Fn.{FnReturnsAt};
 ghost use Rattle.bounded.specs.Bounded.{at};
+ghost use Rattle.field.specs.Loop.{Passed};
 ghost use Rattle.field.specs.Row.{row as row_of};
-ghost use Rattle.reading.specs.Loading.{residue, grid_cell, SymbolRows, DoubtLines};
+ghost use Rattle.reading.specs.Loading.{residue, line, SymbolRows, DoubtLines};
 
 use definitions::UNREAD;
 use field::bytes;
+use polynomial::Grid;
 
 // The residue that stands for a symbol.
-fn symbol_residue(symbol: u16) -> u16
+fn symbol_residue(symbol: u8) -> u16
     ensures { result ≡ residue symbol }
 {
-    if symbol == UNREAD as u16 {
+    if symbol == UNREAD {
         return 0;
     }
-    symbol
+    u16::from(symbol)
 }
 
 // At most sixteen symbols as residues: 0 where a cell is unread, and beyond their end.
@@ -22,49 +25,40 @@ pub fn residue_row(symbols: &[u8]) -> [u16; 16]
     requires { length symbols.now ≤ 16 }
     ensures { result ≡ row_of (λ j. residue (at symbols.now j)) }
 {
-    let mut out = [0u16; 16];
-    for i in 0..symbols.len() {
-        out[i] = symbol_residue(symbols[i] as u16);
+    let mut out = [0; 16];
+    for (i, symbol) in symbols.iter().enumerate() {
+        out[i] = symbol_residue(*symbol);
     }
     out
 }
 
-// Row r of the doubts of a grid.
-fn doubt_line(doubts: &[u8], a: usize, b: usize, r: usize) -> [u32; 16]
-    requires { (a ≤ 16) × (b ≤ 16) × (r < a) × (length doubts.now ≡ a * b) }
-    ensures { result ≡ row_of (grid_cell b doubts.now r) }
+// The rows of a grid, each loaded from its own part of the bytes.
+fn rows<T: Copy, F: Fn(&[u8]) -> [T; 16]>(bytes: &[u8], g: Grid, zero: T, load: F) -> [[T; 16]; 16]
+    requires whole { length bytes.now ≡ g.a * g.b }
+    requires loads { (part : _) → length part.now ≤ 16 → F.pre load part }
+    ensures { Passed 16 [] (λ _ l. l ≡ replicate 16 zero)
+        (λ r l. FnReturnsAt F.Fn load (line g.b r bytes.now) l) result g.a }
 {
-    let at = r * b;
-    bytes::wide_row(&doubts[at..at + b])
+    let mut rows = [[zero; 16]; 16];
+    for r in 0..g.a {
+        let at = r * g.b;
+        rows[r] = load(&bytes[at..at + g.b]);
+    }
+    rows
 }
 
 // The symbols of a grid as residues.
-pub fn residue_rows(symbols: &[u8], a: usize, b: usize) -> [[u16; 16]; 16]
-    requires { (a ≤ 16) × (b ≤ 16) × (length symbols.now ≡ a * b) }
-    ensures { SymbolRows b symbols.now result }
+pub fn residue_rows(symbols: &[u8], g: Grid) -> [[u16; 16]; 16]
+    requires { length symbols.now ≡ g.a * g.b }
+    ensures { SymbolRows g.b symbols.now result }
 {
-    let mut rows = [[0u16; 16]; 16];
-    let mut r = 0;
-    while r < a {
-        let at = r * b;
-        let next = residue_row(&symbols[at..at + b]);
-        rows[r] = next;
-        r += 1;
-    }
-    rows
+    rows(symbols, g, 0, residue_row)
 }
 
 // The doubts of a grid.
-pub fn doubt_rows(doubts: &[u8], a: usize, b: usize) -> [[u32; 16]; 16]
-    requires { (a ≤ 16) × (b ≤ 16) × (length doubts.now ≡ a * b) }
-    ensures { DoubtLines b doubts.now result }
+pub fn doubt_rows(doubts: &[u8], g: Grid) -> [[u32; 16]; 16]
+    requires { length doubts.now ≡ g.a * g.b }
+    ensures { DoubtLines g.b doubts.now result }
 {
-    let mut rows = [[0u32; 16]; 16];
-    let mut r = 0;
-    while r < a {
-        let next = doubt_line(doubts, a, b, r);
-        rows[r] = next;
-        r += 1;
-    }
-    rows
+    rows(doubts, g, 0, bytes::wide_row)
 }

@@ -1,28 +1,31 @@
-// Reading a photographed mark where the plan's refusals and 6 to 8 do not apply, as `strip` reads a strip.
-ghost use Rattle.std.specs.Prelude.{◌≡◌, List, ℕ, ◌*◌, ◌≤◌, length};
+// Reading a photographed mark.
+ghost use Rattle.std.specs.Prelude.{◌≡◌, List, ℕ, ◌*◌, ◌≤◌, length, MatchResult};
 ghost use Rattle.bounded.specs.Bounded.{at, sum};
 ghost use Rattle.distance.specs.Cost.{hamming};
 ghost use Rattle.definitions.specs.Code.{oblong};
+ghost use Rattle.definitions.specs.Numbers.{answered};
+ghost use Rattle.definitions.specs.declared.Refusal.TheVariants.{NoneNear};
 ghost use Rattle.definitions.specs.Reads.{Reads};
-ghost use Rattle.plan.specs.Says.{Says};
+ghost use Rattle.plan.specs.Says.{bytes_of};
 ghost use Rattle.reading.specs.Loading.{Taken};
 ghost use Rattle.reading.specs.Differing.{flag, differing_cells};
 
-use crate::load;
-use definitions::{Reading, UNREAD};
+use crate::{Read, load};
+use definitions::{Reading, Refusal, UNREAD};
 use distance::word;
 use field::bytes;
 use field::inverse::inverses;
 use plan::Plan;
+use plan::kind::{Kind, Mark};
+use polynomial::Grid;
 use polynomial::bivariate::LONGEST;
-use polynomial::limit;
 use reed_muller::decoder::decode;
 
 // Other than 0 for a cell that differs from the mark: it is unread, or something is left of its symbol.
-fn cell_flag(symbol: u16, left: u16) -> u16
+fn cell_flag(symbol: u8, left: u16) -> u16
     ensures { result ≡ flag symbol left }
 {
-    if symbol == UNREAD as u16 {
+    if symbol == UNREAD {
         return 1;
     }
     left
@@ -36,23 +39,21 @@ fn differing_in_row(symbols: &[u8], left: [u16; 16]) -> u32
         × (result ≤ 16) }
 {
     let mut sum = 0u16;
-    for i in 0..symbols.len() {
-        sum += word::differs(cell_flag(symbols[i] as u16, left[i]), 0) as u16;
+    for (i, symbol) in symbols.iter().enumerate() {
+        sum += word::differs(cell_flag(*symbol, left[i]), 0) as u16;
     }
-    sum as u32
+    u32::from(sum)
 }
 
-// The same of a mark of a rows of b cells.
-fn differing_cells(symbols: &[u8], a: usize, b: usize, left: &[[u16; 16]; 16]) -> u32
-    requires { (a ≤ 16) × (b ≤ 16) × (length symbols.now ≡ a * b) }
-    ensures { result ≡ differing_cells a b symbols.now left.now }
+// The same of a mark on the grid.
+fn differing_cells(symbols: &[u8], g: Grid, left: &[[u16; 16]; 16]) -> u32
+    requires { length symbols.now ≡ g.a * g.b }
+    ensures { result ≡ differing_cells g.a g.b symbols.now left.now }
 {
     let mut sum = 0;
-    let mut r = 0;
-    while r < a {
-        let at = r * b;
-        sum += differing_in_row(&symbols[at..at + b], left[r]);
-        r += 1;
+    for r in 0..g.a {
+        let at = r * g.b;
+        sum += differing_in_row(&symbols[at..at + g.b], left[r]);
     }
     sum
 }
@@ -63,44 +64,42 @@ fn total(doubts: &[u8]) -> u32
     ensures { result ≡ sum (length doubts.now) (at doubts.now) }
 {
     let mut sum = 0u16;
-    for i in 0..doubts.len() {
-        sum += doubts[i] as u16;
+    for doubt in doubts {
+        sum += u16::from(*doubt);
     }
-    sum as u32
+    u32::from(sum)
 }
 
 // The mark, by the decoder.
-fn decoded(plan: Plan, symbols: &[u8], doubts: &[u8], record: &mut [u8]) -> Reading
-    requires { (P : List ℕ) × Says P plan × Taken oblong P symbols.now doubts.now «record».old }
-    ensures { (P : List ℕ) → Says P plan → Taken oblong P symbols.now doubts.now «record».old →
-        Reads oblong P symbols.now doubts.now «record».old result «record».new }
+fn decoded(plan: Plan, symbols: &[u8], doubts: &[u8], record: &mut [u8]) -> Result<Reading, Refusal>
+    requires { Taken oblong (bytes_of plan) symbols.now doubts.now «record».old }
+    ensures reads { Reads oblong (bytes_of plan) symbols.now doubts.now «record».old (answered result) «record».new }
+    ensures only { MatchResult result (λ r. r.number ≡ 0) (λ e. e ≡ NoneNear) }
 {
     let g = plan.grid;
-    let u = load::doubt_rows(doubts, g.a, g.b);
-    let table = inverses(g.p, g.m);
-    let s = load::residue_rows(symbols, g.a, g.b);
+    let u = load::doubt_rows(doubts, g);
+    let table = inverses(g.modulus);
+    let s = load::residue_rows(symbols, g);
     let mut message = [0; LONGEST];
-    let mut cost = 0;
-    let left = decode(g, &table, s, u, &mut message, &mut cost);
-    let radius = limit::radius(g);
-    if cost >= radius {
-        return answers::refused(10);
-    }
+    let Some(found) = decode(g, &table, s, u, &mut message) else {
+        return Err(Refusal::NoneNear);
+    };
     bytes::store(record, &message);
-    let differing = differing_cells(symbols, g.a, g.b, &left);
-    answers::reading(radius, cost, differing, symbols)
+    let differing = differing_cells(symbols, g, &found.left);
+    Ok(answers::reading(Mark::radius(plan), found.cost, differing, symbols))
 }
 
-// The one record within the radius goes into the lent buffer; where there is none the buffer stays as it was, and the number is
-// 10. Doubts that come to the radius leave no record under it.
-pub fn read_mark(plan: Plan, symbols: &[u8], doubts: &[u8], record: &mut [u8]) -> Reading
-    requires { (P : List ℕ) × Says P plan × Taken oblong P symbols.now doubts.now «record».old }
-    ensures { (P : List ℕ) → Says P plan → Taken oblong P symbols.now doubts.now «record».old →
-        Reads oblong P symbols.now doubts.now «record».old result «record».new }
-{
-    let g = plan.grid;
-    if total(doubts) >= limit::radius(g) {
-        return answers::refused(10);
+// Doubts that come to the radius leave no record under it.
+impl Read for Mark {
+    fn read(
+        plan: Plan,
+        symbols: &[u8],
+        doubts: &[u8],
+        record: &mut [u8],
+    ) -> Result<Reading, Refusal> {
+        if total(doubts) >= Mark::radius(plan) {
+            return Err(Refusal::NoneNear);
+        }
+        decoded(plan, symbols, doubts, record)
     }
-    decoded(plan, symbols, doubts, record)
 }

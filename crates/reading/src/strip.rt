@@ -1,47 +1,39 @@
-// Reading a photographed strip where the plan's refusals and 6 to 8 do not apply: the one record within the radius goes into the
-// lent buffer; where there is none the buffer stays as it was, and the number is 10.
-ghost use Rattle.std.specs.Prelude.{List, ℕ};
-ghost use Rattle.definitions.specs.Code.{strip as strip_code};
-ghost use Rattle.definitions.specs.Reads.{Reads};
-ghost use Rattle.plan.specs.Says.{Says};
-ghost use Rattle.reading.specs.Loading.{Taken};
-
-use crate::load;
-use definitions::Reading;
+// Reading a photographed strip.
+use crate::{Read, load};
+use definitions::{Reading, Refusal};
 use distance::word;
 use field::bytes;
 use field::inverse::inverses;
 use plan::Plan;
+use plan::kind::{Kind, Strip};
 use reed_solomon::axis::Axis;
 use reed_solomon::decoder::decode;
 
-// The strip, over the row points.
-pub fn read_strip(plan: Plan, symbols: &[u8], doubts: &[u8], record: &mut [u8]) -> Reading
-    requires { (P : List ℕ) × Says P plan × Taken strip_code P symbols.now doubts.now «record».old }
-    ensures { (P : List ℕ) → Says P plan → Taken strip_code P symbols.now doubts.now «record».old →
-        Reads strip_code P symbols.now doubts.now «record».old result «record».new }
-{
-    let g = plan.grid;
-    let x = g.x;
-    let axis = Axis {
-        p: g.p,
-        m: g.m,
-        x,
-        n: g.a,
-        k: g.d,
-        full: g.full,
-    };
-    let s = load::residue_row(symbols);
-    let u = bytes::wide_row(doubts);
-    let table = inverses(g.p, g.m);
-    let strip = decode(axis, &table, s, u);
-    if !strip.found {
-        return answers::refused(10);
+// A strip has its cells at the row points.
+impl Read for Strip {
+    fn read(
+        plan: Plan,
+        symbols: &[u8],
+        doubts: &[u8],
+        record: &mut [u8],
+    ) -> Result<Reading, Refusal> {
+        let g = plan.grid;
+        let x = g.x;
+        let axis = Axis {
+            modulus: g.modulus,
+            x,
+            n: g.a,
+            k: g.d,
+            full: g.full,
+        };
+        let s = load::residue_row(symbols);
+        let u = bytes::wide_row(doubts);
+        let table = inverses(g.modulus);
+        let Some(strip) = decode(axis, &table, s, u) else {
+            return Err(Refusal::NoneNear);
+        };
+        bytes::store(record, &strip.message);
+        let differing = word::differing(g.a, bytes::row(symbols), strip.values);
+        Ok(answers::reading(Strip::radius(plan), strip.cost, differing, symbols))
     }
-    let message = strip.message;
-    let values = strip.values;
-    bytes::store(record, &message);
-    let differing = word::differing(g.a, bytes::row(symbols), values);
-    let radius = word::radius(g.full, 1, g.a, g.d);
-    answers::reading(radius, strip.cost, differing, symbols)
 }

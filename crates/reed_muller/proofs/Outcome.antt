@@ -1,29 +1,28 @@
 -- What the decoder of marks returns.
 --
 --   rest-whole      what is left after all columns is the symbol less the value
---   outcome_none    the outcome where the cost is not under the radius
---   outcome_found   the outcome where it is: the flat record of the columns
+--   outcome_none    the outcome where no record is under the radius
+--   outcome_found   the outcome where one is: the flat record of the columns
 --
 -- What this file is for: from what the solver found to the decoder's contract. Assumes nothing.
-use mathlib.Core.Path.{◌≡◌, sym}
+use mathlib.Core.Path.{◌≡◌, refl, sym}
 use mathlib.Core.Bool.{false≢true}
 use mathlib.Core.List.{List}
+use Rattle.std.specs.Prelude.{Some, None}
 use Prim.Native.Nat.{ℕ, suc, ◌+◌, ◌-◌, ◌≤◌, ◌<◌}
 use native.Mathlib.Omega.{arith}
-use borrow.Author.Tests.{lt-ltb, le-ltb}
 use Rattle.bounded.specs.Bounded.{at}
 use Rattle.field.specs.Congruence.{Cong}
 use Rattle.field.proofs.Congruence.{same, ◌⨾◌}
 use Rattle.polynomial.specs.Record.{coef}
 use Rattle.polynomial.specs.declared.Grid.{Grid}
-use Rattle.polynomial.specs.Fit.{Fit, grid_radius}
 use Rattle.polynomial.proofs.Eval.{eval_cong}
 use Rattle.grid.specs.Cost.{lines}
 use Rattle.grid.specs.Rest.{Rest}
 use Rattle.grid.specs.Drawn.{found}
 use Rattle.reed_muller.specs.Groups.{Flat}
 use Rattle.reed_muller.specs.Rest.{Remains}
-use Rattle.reed_muller.specs.Outcome.{Outcome, under}
+use Rattle.reed_muller.specs.Outcome.{Outcome}
 use Rattle.reed_muller.specs.Steps.{Solved}
 use Rattle.reed_muller.proofs.Last.{decoded-none, decoded-found}
 
@@ -38,26 +37,26 @@ module _ {q a b d : ℕ} {y : ℕ → ℕ} {s : ℕ → ℕ → ℕ} where
         ⨾ same (omega arith);
   }
 
-module _ {g : Grid} {s u left columns : List (List ℕ)} {cost : ℕ} (S : Solved g s u left columns cost) where
-  -- the cost is not under the radius
-  pub outcome_none : {message : List ℕ} → grid_radius g ≤ cost → Outcome g s u left (under g cost) message cost
-  outcome_none {message} h = rw (le-ltb _ _ h)
-      (record { decoded = decoded-none (coef message) (S.over h); remains = λ y. absurd (false≢true y) })
+module _ {g : Grid} {s u left columns : List (List ℕ)} where
+  -- no record is under the radius
+  pub outcome_none : {message : List ℕ} → Solved g s u left columns None → Outcome g s u None message
+  outcome_none {message} S =
+      record { decoded = decoded-none (coef message) (S.over refl); remains = λ y. absurd (false≢true y) }
 
-  -- it is: the flat record of the columns is the answer
-  pub outcome_found : {message : List ℕ} → Fit g → Flat columns (g.d + 1) message → cost < grid_radius g →
-      Outcome g s u left (under g cost) message cost
-  outcome_found {message} f flat h =
-      let (e, D) = S.under h in rw (lt-ltb _ _ h) (record {
+  -- the flat record of the columns is
+  pub outcome_found : {message : List ℕ} {n : ℕ} → Solved g s u left columns (Some n) → Flat columns (g.d + 1) message →
+      Outcome g s u (Some (record { left = left; cost = n })) message
+  outcome_found {message} {n} S flat =
+      let (h, e, D) = S.under n refl in record {
         decoded = decoded-found (coef message) (found columns) D.costs is
-            (λ t i l. rw (is t i l) (modulus ((D.coefficients.done t (omega (arith, f.low, f.rows))).small i))) e h;
+            (λ t i l. rw (is t i l) (modulus ((D.coefficients.done t (omega (arith, g.fit.low, g.fit.rows))).small i))) e h;
         remains = λ _. rest-whole (at g.x) (found columns) (coef message)
-            (λ r c k l. modulus ((D.rows.done r (omega (arith, f.rows))).small c)) D.rest
+            (λ r c k l. modulus ((D.rows.done r (omega (arith, g.fit.rows))).small c)) D.rest
             (λ t i l. same (sym (is t i l)));
-      })
+      }
     where
       is : (t i : ℕ) → i + t ≤ g.d → coef message i t ≡ found columns i t
       is t i l = flat.is t i (omega arith)
 
-      modulus : {n : ℕ} → n < g.p → n < suc (g.p - 1)
+      modulus : {n : ℕ} → n < g.modulus.p → n < suc (g.modulus.p - 1)
       modulus l = omega arith

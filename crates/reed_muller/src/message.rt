@@ -10,11 +10,8 @@ fn put_group(message: &mut [u16; LONGEST], columns: &[[u16; 16]; 16], k: usize)
     requires { (length message.old ≡ longest) × (k < 16) }
     ensures { Grouped columns.now k (k + 1) message.old message.new }
 {
-    let mut j = 0;
-    while j <= k {
-        let at = place(k - j, j);
-        message[at] = columns[j][k - j];
-        j += 1;
+    for j in 0..k + 1 {
+        message[place(k - j, j)] = columns[j][k - j];
     }
 }
 
@@ -23,9 +20,7 @@ pub fn flatten(message: &mut [u16; LONGEST], columns: &[[u16; 16]; 16], d: usize
     requires { (length message.old ≡ longest) × (d < 16) }
     ensures { Flat columns.now (d + 1) message.new }
 {
-    let mut k = 0;
-    while k <= d {
+    for k in 0..d + 1 {
         put_group(message, columns, k);
-        k += 1;
     }
 }

@@ -4,11 +4,10 @@
 --   Going g s u l r c t       the decoder before the cell of the key c: l are the keys of all cells, r those of the cells that
 --                             have not entered, and t its pairs
 --   Within n u level t        no cell over the level has entered
---   first-keys, going_first   the state after the first k + 1 cells
---   going_within, going_keys, going_holds
---                             what the state says of the level, of the keys that are left and of the pairs after an entry
---   going_enter               a cell enters, and the trial after its entry failed
 --   going_passed              after a level nothing up to it is under the radius
+--   first-keys, going_first   the state after the first k + 1 cells
+--   going_keys, going_holds   what the state says of the keys that are left and of the pairs after an entry
+--   going_enter               a cell enters, and the trial after its entry failed
 --   doubtful_decoded          where the doubts come to the radius there is no answer
 --   none-decoded              after the last level there is none
 --   found-decoded             what was measured under the radius is the only answer
@@ -18,7 +17,7 @@
 use mathlib.Core.Logic.{◌≢◌}
 use mathlib.Core.Path.{◌≡◌, refl, sym, ap, ◌∙◌}
 use mathlib.Core.List.{List}
-use mathlib.Core.Bool.{Bool, true, false, cond, true≢false, false≢true}
+use mathlib.Core.Bool.{Bool, true, false, cond, false≢true}
 use Prim.Native.Nat.{ℕ, suc, ◌+◌, ◌*◌, ◌-◌, ◌/◌, ◌%◌, ◌≤◌, ◌<◌}
 use native.Mathlib.Omega.{arith}
 use native.Mathlib.Decide.{ℕ_discrete, dec_le, dec_lt}
@@ -27,6 +26,7 @@ use native.Mathlib.Numerals.{add-one}
 use lib.Dec.{eqb, leb}
 use borrow.Author.Tests.{leb-true, leb-false}
 use lib.Seq.{get_or-set_same, get_or-set_other}
+use Rattle.std.specs.Prelude.{Some, None}
 use Rattle.bounded.specs.Bounded.{at, sum}
 use Rattle.bounded.proofs.Sum.{sum-eq, sum-le, sum-add, sum_const}
 use Rattle.field.specs.Row.{row}
@@ -35,9 +35,10 @@ use Rattle.distance.specs.Level.{erased, weight}
 use Rattle.distance.proofs.Cost.{doubts-cost}
 use Rattle.distance.proofs.Level.{some-cell}
 use Rattle.polynomial.proofs.Unique.{near-one}
+use Rattle.welch_berlekamp.specs.declared.interpolation.Pairs.{Pairs}
 use Rattle.welch_berlekamp.specs.declared.newton.Newton.{Newton}
 use Rattle.welch_berlekamp.specs.Order.{taken, key, Placed, Least, Entering}
-use Rattle.welch_berlekamp.specs.Pairs.{Pairs, Enters}
+use Rattle.welch_berlekamp.specs.Pairs.{Enters}
 use Rattle.welch_berlekamp.specs.Newton.{pairs_of}
 use Rattle.welch_berlekamp.proofs.Cursor.{zeros-at, key_in, key_out, keys-placed, without_most, left-most, next-cell}
 use Rattle.welch_berlekamp.proofs.Cursor.{entered_below, left-above, entering-next}
@@ -46,18 +47,16 @@ use Rattle.reed_solomon.specs.declared.axis.Axis.{Axis}
 use Rattle.reed_solomon.specs.declared.decoder.Decoded.{Decoded}
 use Rattle.reed_solomon.specs.Axis.{Received, word, spent, strip_radius, HoldsOn, FitsOn}
 use Rattle.reed_solomon.specs.Near.{missed, Near, Refuted, RefutedBelow}
-use Rattle.reed_solomon.specs.Decoded.{StripDecoded, None, Confirmed, Tried, hit, miss}
+use Rattle.reed_solomon.specs.Decoded.{StripDecoded, Confirmed, Tried, hit, miss}
 use Rattle.reed_solomon.proofs.Trial.{cost-values}
 
 -- what a trial says, by its answer
-module _ {g : Axis} {s u w : List ℕ} {r : Decoded} where
-  pub tried_found : Tried g s u w r → r.found ≡ true → Confirmed g s u r
-  tried_found (hit D) e = D
-  tried_found (miss N D) e = absurd (false≢true (sym N.found ∙ e))
+module _ {g : Axis} {s u w : List ℕ} where
+  pub tried_found : {d : Decoded} → Tried g s u w (Some d) → Confirmed g s u d
+  tried_found (hit D) = D
 
-  pub tried_none : Tried g s u w r → r.found ≡ false → None r × Refuted g s u w
-  tried_none (hit D) e = absurd (true≢false (sym D.found ∙ e))
-  tried_none (miss N D) e = (N, D)
+  pub tried_none : Tried g s u w None → Refuted g s u w
+  tried_none (miss D) = D
 
 -- a cell that is kept at level t
 abbrev keep : (t u : ℕ) → ℕ
@@ -137,7 +136,7 @@ pub record Going (g : Axis) (s u l r : List ℕ) (c : ℕ) (t : Pairs) : Type 0 
   pub now : Refuted g s u t.entered
 
 -- no cell over the level has entered
-abbrev pub Within : (n : ℕ) (u : List ℕ) (level : ℕ) (t : Pairs) → Type 0
+abbrev Within : (n : ℕ) (u : List ℕ) (level : ℕ) (t : Pairs) → Type 0
 Within n u level t = (j : ℕ) → j < n → at t.entered j ≢ 0 → at u j ≤ level
 
 module _ {g : Axis} {s u l : List ℕ} (R : Received g s u) (K : l ≡ row λ j. key g.n (at u j) j) where
@@ -164,75 +163,15 @@ module _ {g : Axis} {s u l r : List ℕ} {c : ℕ} {t : Pairs} (G : Going g s u 
       let above = left-above G.entering (placed G.received G.keys) G.next j (omega (arith, most)) z in
       omega (arith, key-at G.received G.keys j i, above)
 
-  pub going_within : Within g.n u (c / 16) t
+  going_within : Within g.n u (c / 16) t
   going_within j i z = omega (arith, entered-key j i z)
 
   -- the keys that are left, without the next one, are small
   pub going_keys : {r' : List ℕ} → r' ≡ row (λ j. cond (eqb (at r j) c) taken (at r j)) → (j : ℕ) → at r' j ≤ taken
   going_keys e = without_most c r (left-most G.entering (placed G.received G.keys)) e
 
-  -- the cell of the least key
-  module _ (h : c < g.full * 16) where
-    small : c < taken
-    small = omega (arith, G.received.axis.full)
-
-    going_cell : (c % 16 < g.n) × (at t.entered (c % 16) ≡ 0) × (at u (c % 16) * 16 + c % 16 ≡ c)
-    going_cell =
-        let d = next-cell G.entering (placed G.received G.keys) G.next small in
-        let i : c % 16 < g.n = elim (dec_lt (c % 16) g.n) [
-          | yes o ↦ o
-          | no o ↦
-              let none = key_out g.n (at u (c % 16)) (c % 16) (omega arith) in
-              absurd (omega (arith, d.1, small, key_row G.received G.keys (c % 16) (mod-lt c (omega arith)) ∙ none))
-        ] in
-        (i, d.0, sym (key-at G.received G.keys (c % 16) i) ∙ d.1)
-
-    module _ {t' : Pairs} (E : Enters g.p g.k g.x (c % 16) t t') where
-      pub going_holds : HoldsOn g s t'
-      going_holds = E.holds g.n s most going_cell.0 going_cell.1 G.holds
-
-      entered-other : (j : ℕ) → j ≢ c % 16 → at t'.entered j ≡ at t.entered j
-      entered-other j d = ap (λ w. at w j) E.marks ∙ get_or-set_other t.entered (c % 16) j 1 0 d
-
-      entered-cell : at t'.entered (c % 16) ≡ 1
-      entered-cell =
-          let i : c % 16 < 16 = mod-lt c (omega arith) in
-          ap (λ w. at w (c % 16)) E.marks
-          ∙ get_or-set_same t.entered (c % 16) 1 0 (omega (arith, i, G.holds.shaped.size))
-
-      within_enter : {level : ℕ} → c / 16 ≡ level → Within g.n u level t → Within g.n u level t'
-      within_enter e W j i z = elim (ℕ_discrete j (c % 16)) [
-        | yes o ↦ omega (arith, ap (at u) o, going_cell.2)
-        | no o ↦ W j i λ a. z (entered-other j o ∙ a)
-      ]
-
-      -- it enters, and the trial after its entry failed; the next key is a later one
-      pub going_enter : {r' : List ℕ} {c' level : ℕ} → r' ≡ row (λ j. cond (eqb (at r j) c) taken (at r j)) → Least 16 r' c' →
-          c / 16 ≡ level → Within g.n u level t → Refuted g s u t'.entered →
-          Going g s u l r' c' t' × Within g.n u level t' × (c < c') × (c < taken)
-      going_enter {r'} {c'} d L e W now = (G', within_enter e W, later, small)
-        where
-          P : Placed l
-          P = placed G.received G.keys
-
-          G' : Going g s u l r' c' t'
-          G' = record {
-            received = G.received;
-            keys = G.keys;
-            holds = going_holds;
-            entering = rw E.marks (entering-next G.entering P G.next d G.holds.shaped.size small);
-            next = L;
-            now = now;
-          }
-
-          later : c < c'
-          later =
-              let i : c % 16 < 16 = mod-lt c (omega arith) in
-              let k = next-cell G.entering P G.next small in
-              omega (arith, k.1, entered_below G'.entering P G'.next (c % 16) i λ z. omega (arith, entered-cell, z))
-
   -- after a level its cells and those below have entered
-  pub going_passed : {level : ℕ} → Within g.n u level t → level < c / 16 → RefutedBelow g s u level →
+  going_passed : {level : ℕ} → Within g.n u level t → level < c / 16 → RefutedBelow g s u level →
       RefutedBelow g s u (c / 16)
   going_passed {level} W h P = record {
     far = λ h j i o w. elim (dec_lt (at u j) level) [
@@ -254,7 +193,7 @@ module _ {g : Axis} {s u l r : List ℕ} {c : ℕ} {t : Pairs} (G : Going g s u 
       ]
 
   -- of the first k + 1 cells none can be missed
-  first_passed : t.a + t.b ≤ suc g.k → RefutedBelow g s u (c / 16)
+  first_passed : t.first.degree + t.second.degree ≤ suc g.k → RefutedBelow g s u (c / 16)
   first_passed few = record {
     far = λ h j i o w. G.now.far h (near-more g.n g.k (λ i. keep (at u j) (at u i)) (at t.entered) (at s) (word g h)
         (less j o) (omega (arith, few, G.holds.state.count))
@@ -270,6 +209,72 @@ module _ {g : Axis} {s u l r : List ℕ} {c : ℕ} {t : Pairs} (G : Going g s u 
           bit : (b : Bool) → cond b 1 0 ≤ 1
           bit true = omega arith
           bit false = omega arith
+
+-- the cell of the least key
+module _ {g : Axis} {s u l r : List ℕ} {c : ℕ} {t : Pairs} (G : Going g s u l r c t) (h : c < g.full * 16) where
+  small : c < taken
+  small = omega (arith, G.received.axis.full)
+
+  going_cell : (c % 16 < g.n) × (at t.entered (c % 16) ≡ 0) × (at u (c % 16) * 16 + c % 16 ≡ c)
+  going_cell =
+      let d = next-cell G.entering (placed G.received G.keys) G.next small in
+      let i : c % 16 < g.n = elim (dec_lt (c % 16) g.n) [
+        | yes o ↦ o
+        | no o ↦
+            let none = key_out g.n (at u (c % 16)) (c % 16) (omega arith) in
+            absurd (omega (arith, d.1, small, key_row G.received G.keys (c % 16) (mod-lt c (omega arith)) ∙ none))
+      ] in
+      (i, d.0, sym (key-at G.received G.keys (c % 16) i) ∙ d.1)
+
+  module _ {t' : Pairs} (E : Enters g.modulus.p g.k g.x (c % 16) t t') where
+    pub going_holds : HoldsOn g s t'
+    going_holds = E.holds g.n s G.received.axis.most going_cell.0 going_cell.1 G.holds
+
+    entered-other : (j : ℕ) → j ≢ c % 16 → at t'.entered j ≡ at t.entered j
+    entered-other j d = ap (λ w. at w j) E.marks ∙ get_or-set_other t.entered (c % 16) j 1 0 d
+
+    entered-cell : at t'.entered (c % 16) ≡ 1
+    entered-cell =
+        let i : c % 16 < 16 = mod-lt c (omega arith) in
+        ap (λ w. at w (c % 16)) E.marks
+        ∙ get_or-set_same t.entered (c % 16) 1 0 (omega (arith, i, G.holds.shaped.size))
+
+    within_enter : Within g.n u (c / 16) t'
+    within_enter j i z = elim (ℕ_discrete j (c % 16)) [
+      | yes o ↦ omega (arith, ap (at u) o, going_cell.2)
+      | no o ↦ going_within G j i λ a. z (entered-other j o ∙ a)
+    ]
+
+    -- it enters, and the trial after its entry failed; the next key is a later one
+    pub going_enter : {r' : List ℕ} {c' : ℕ} → r' ≡ row (λ j. cond (eqb (at r j) c) taken (at r j)) → Least 16 r' c' →
+        RefutedBelow g s u (c / 16) → Refuted g s u t'.entered →
+        Going g s u l r' c' t' × RefutedBelow g s u (c' / 16) × (taken - c' < taken - c)
+    going_enter {r'} {c'} d L P now = (G', passed, omega (arith, small, later))
+      where
+        Q : Placed l
+        Q = placed G.received G.keys
+
+        G' : Going g s u l r' c' t'
+        G' = record {
+          received = G.received;
+          keys = G.keys;
+          holds = going_holds;
+          entering = rw E.marks (entering-next G.entering Q G.next d G.holds.shaped.size small);
+          next = L;
+          now = now;
+        }
+
+        later : c < c'
+        later =
+            let i : c % 16 < 16 = mod-lt c (omega arith) in
+            let k = next-cell G.entering Q G.next small in
+            omega (arith, k.1, entered_below G'.entering Q G'.next (c % 16) i λ z. omega (arith, entered-cell, z))
+
+        passed : RefutedBelow g s u (c' / 16)
+        passed = elim (dec_lt (c / 16) (c' / 16)) [
+          | yes o ↦ going_passed G' within_enter o P
+          | no o ↦ let e : c' / 16 ≡ c / 16 = omega (arith, later) in rw e P
+        ]
 
 module _ {g : Axis} {s u l : List ℕ} (R : Received g s u) (K : l ≡ row λ j. key g.n (at u j) j) {f : Newton}
     (fit : FitsOn g s l f) where
@@ -291,47 +296,41 @@ module _ {g : Axis} {s u l : List ℕ} (R : Received g s u) (K : l ≡ row λ j.
         now = D;
       })
 
-module _ {g : Axis} {s u : List ℕ} (R : Received g s u) {r : Decoded} where
-  none_of : None r → ((h : ℕ → ℕ) → strip_radius g ≤ spent g s u (word g h)) → StripDecoded g s u r
-  none_of N far = record {
-    strip = record {
-      sound = λ e. absurd (false≢true (sym N.found ∙ e));
-      only = λ h near. absurd (omega (arith, far h));
-    };
-    small = rw N.message (zeros-row (omega (arith, R.axis.prime.least)));
-    above = λ i _. ap (λ w. at w i) N.message ∙ zeros-at 16 i;
-    values = λ e. absurd (false≢true (sym N.found ∙ e));
-    none = λ _. (N.message, N.values, N.cost);
+module _ {g : Axis} {s u : List ℕ} (R : Received g s u) where
+  none_of : ((h : ℕ → ℕ) → strip_radius g ≤ spent g s u (word g h)) → StripDecoded g s u None
+  none_of far = record {
+    strip = record { sound = λ e. absurd (false≢true e); only = λ h near. absurd (omega (arith, far h)) };
+    small = zeros-row (omega (arith, R.axis.prime.least));
+    above = λ i _. zeros-at 16 i;
+    values = λ e. absurd (false≢true e);
   }
 
   -- no polynomial costs less than the doubts
-  pub doubtful_decoded : None r → strip_radius g ≤ sum g.n (at u) → StripDecoded g s u r
-  doubtful_decoded N l = none_of N λ h. omega (arith, doubts-cost g.full g.n (at s) (at u) (word g h) R.doubts)
+  pub doubtful_decoded : strip_radius g ≤ sum g.n (at u) → StripDecoded g s u None
+  doubtful_decoded l = none_of λ h. omega (arith, doubts-cost g.full g.n (at s) (at u) (word g h) R.doubts)
 
   -- after the last level
-  pub none-decoded : None r → {level : ℕ} → g.full ≤ level → RefutedBelow g s u level → StripDecoded g s u r
-  none-decoded N l P = none_of N λ h. elim (dec_le (strip_radius g) (spent g s u (word g h))) [
+  pub none-decoded : {level : ℕ} → g.full ≤ level → RefutedBelow g s u level → StripDecoded g s u None
+  none-decoded l P = none_of λ h. elim (dec_le (strip_radius g) (spent g s u (word g h))) [
     | yes i ↦ i
     | no i ↦
         let c = some-cell g.full (g.n - g.k) g.n (at s) (at u) (word g h) R.doubts (omega arith) (omega arith) in
         P.far h c.0 c.1 (omega (arith, c.2)) (omega (arith, c.3, R.axis.low))
   ]
 
-  pub found-decoded : Confirmed g s u r → StripDecoded g s u r
-  found-decoded D = record {
+  pub found-decoded : {d : Decoded} → Confirmed g s u d → StripDecoded g s u (Some d)
+  found-decoded {d} D = record {
     strip = record {
       sound = λ _. (cost, D.under);
       only = λ h near. (
-        D.found,
-        near-one R.axis.apart g.full g.k (at s) (at u) R.doubts (at r.message) h
-            (omega (arith, cost, D.under)) near,
+        refl,
+        near-one R.axis.apart g.full g.k (at s) (at u) R.doubts (at d.message) h (omega (arith, cost, D.under)) near,
       );
     };
     small = D.message;
     above = D.above;
     values = λ _. D.values;
-    none = λ e. absurd (true≢false (sym D.found ∙ e));
   }
     where
-      cost : r.cost ≡ spent g s u (word g (at r.message))
-      cost = D.measured ∙ cost-values R.axis s u r.message D.values
+      cost : d.cost ≡ spent g s u (word g (at d.message))
+      cost = D.measured ∙ cost-values R.axis s u d.message D.values

@@ -4,7 +4,6 @@
 --   usable_bits, usable-sum
 --                       the row of usable cells: zeros and ones, and their number
 --   holds-few           no more cells have entered than there are
---   candidate           pairs that hold and are hoped have a candidate
 --   cost-values         what a row of values costs is what its polynomial costs
 --   refuted_low, refuted_count, refuted_suspect
 --                       no near polynomial is under the radius where the first degree is low, where the usable cells are not as
@@ -28,6 +27,7 @@ use native.Mathlib.Nat.{mod-lt, mod-eq_of_lt, mul-zero}
 use lib.Dec.{eqb, ltb}
 use borrow.Author.Tests.{eq-eqb, ne_eqb, lt-ltb}
 use lib.ListN.{length, replicate}
+use Rattle.std.specs.Prelude.{Option}
 use Rattle.bounded.specs.Bounded.{at, sum}
 use Rattle.bounded.proofs.Sum.{sum-eq, sum-le, sum_const, sum-short}
 use Rattle.bounded.proofs.Tab.{length-tab, tab-eq}
@@ -40,9 +40,10 @@ use Rattle.polynomial.specs.Eval.{eval}
 use Rattle.polynomial.specs.Lead.{Lead}
 use Rattle.polynomial.proofs.Eval.{eval_lead}
 use Rattle.polynomial.proofs.Lead.{lead_eq}
-use Rattle.welch_berlekamp.specs.declared.newton.Newton.{Newton}
 use Rattle.welch_berlekamp.specs.Order.{taken, key}
-use Rattle.welch_berlekamp.specs.Pairs.{Pairs, pairs, Holds}
+use Rattle.welch_berlekamp.specs.declared.interpolation.Pairs.{Pairs}
+use Rattle.welch_berlekamp.specs.declared.newton.Newton.{Newton}
+use Rattle.welch_berlekamp.specs.Pairs.{Holds}
 use Rattle.welch_berlekamp.specs.Newton.{Enough, Coefficients}
 use Rattle.welch_berlekamp.proofs.Cursor.{zeros-at, key_in, key_out, keys-placed, marked_placed}
 use Rattle.welch_berlekamp.proofs.State.{ones_at}
@@ -50,10 +51,10 @@ use Rattle.reed_solomon.specs.declared.axis.Axis.{Axis}
 use Rattle.reed_solomon.specs.declared.decoder.Decoded.{Decoded}
 use Rattle.reed_solomon.specs.Axis.{Valid, Received, word, spent, strip_radius, HoldsOn, FitsOn}
 use Rattle.reed_solomon.specs.Near.{missed, Near, usable, suspect, Refuted}
-use Rattle.reed_solomon.specs.Decoded.{Confirmed, Tried, hit, miss, Hoped, Candidate}
+use Rattle.reed_solomon.specs.Decoded.{Confirmed, Tried, hit, miss, Hoped}
 use Rattle.reed_solomon.proofs.Near.{first-over, usable_all, usable_right, suspect_right, eqb_same}
 
-pub axis-modulus : {g : Axis} → Valid g → suc (g.p - 1) ≡ g.p
+pub axis-modulus : {g : Axis} → Valid g → suc (g.modulus.p - 1) ≡ g.modulus.p
 axis-modulus v = omega (arith, v.prime.least)
 
 usable-bit : (b : Bool) (w : ℕ) → w ≤ 1 → cond b 0 w ≤ 1
@@ -76,20 +77,15 @@ module _ (w e : ℕ → ℕ) {v : List ℕ} (i : v ≡ row (usable w e)) where
   usable-sum = sum-eq 16 λ j l. ap (λ l. at l j) i ∙ row_at (usable w e) j l
 
 -- no more cells have entered than there are
-pub holds-few : {p n k : ℕ} {x s : List ℕ} {t : Pairs} → Holds p n k x s t → t.a + t.b ≤ n
+pub holds-few : {p n k : ℕ} {x s : List ℕ} {t : Pairs} → Holds p n k x s t → t.first.degree + t.second.degree ≤ n
 holds-few {n} H = omega (arith, H.state.count, sum_const n 1, sum-le n λ j _. H.state.bit j)
-
-pub candidate : {g : Axis} {s d1 e1 d2 e w : List ℕ} {a b : ℕ} → HoldsOn g s (pairs d1 e1 d2 e a b w) →
-    Hoped g.k (pairs d1 e1 d2 e a b w) → Candidate g s e w
-candidate {d1 = d1} {e1 = e1} {d2 = d2} {a = a} {b = b} H h =
-    record { d1 = d1; e1 = e1; d2 = d2; a = a; b = b; holds = H; hoped = h }
 
 -- what a row of values costs
 pub cost-values : {g : Axis} → Valid g → (s u w : List ℕ) {v : List ℕ} →
-    v ≡ row (λ j. eval (suc g.k) (at w) (at g.x j) % g.p) → spent g s u (at v) ≡ spent g s u (word g (at w))
+    v ≡ row (λ j. eval (suc g.k) (at w) (at g.x j) % g.modulus.p) → spent g s u (at v) ≡ spent g s u (word g (at w))
 cost-values {g} valid s u w e = sum-eq g.n λ j l.
     ap (cell g.full (at s j) (at u j))
-    (ap (λ t. at t j) e ∙ row_at (λ j. value j % g.p) j (omega (arith, valid.most))
+    (ap (λ t. at t j) e ∙ row_at (λ j. value j % g.modulus.p) j (omega (arith, valid.most))
     ∙ ap (λ t. value j % t) (sym (axis-modulus valid)))
   where
     value : ℕ → ℕ
@@ -102,31 +98,31 @@ cost_right full n s u v s' v' h = sum-eq n λ j l. ap (λ b. cond b (u j) (2 * f
 
 module _ {g : Axis} {s u : List ℕ} {t : Pairs} (R : Received g s u) (H : HoldsOn g s t) where
   abbrev free : ℕ → ℕ
-  free = usable (at t.entered) (at t.e2)
+  free = usable (at t.entered) (at t.second.e)
 
-  prime : Prime (suc (g.p - 1))
+  prime : Prime (suc (g.modulus.p - 1))
   prime = rw (axis-modulus R.axis) R.axis.prime
 
-  word_lead : (h : ℕ → ℕ) → Lead (g.p - 1) g.n (at g.x) g.k (h g.k) (word g h)
+  word_lead : (h : ℕ → ℕ) → Lead (g.modulus.p - 1) g.n (at g.x) g.k (h g.k) (word g h)
   word_lead h = lead_eq (same refl) (λ j _. remainder (eval (suc g.k) h (at g.x j))) (eval_lead g.k h)
 
-  small : (h : ℕ → ℕ) (j : ℕ) → j < g.n → (at s j < suc (g.p - 1)) × (word g h j < suc (g.p - 1)) ×
-      (at t.e2 j < suc (g.p - 1)) × (at t.d2 j < suc (g.p - 1))
+  small : (h : ℕ → ℕ) (j : ℕ) → j < g.n → (at s j < suc (g.modulus.p - 1)) × (word g h j < suc (g.modulus.p - 1)) ×
+      (at t.second.e j < suc (g.modulus.p - 1)) × (at t.second.d j < suc (g.modulus.p - 1))
   small h j _ =
       let e = axis-modulus R.axis in (
         rw e (R.symbols.small j),
         mod-lt (eval (suc g.k) h (at g.x j)) (omega arith),
-        rw e (H.shaped.e2.small j),
-        rw e (H.shaped.d2.small j),
+        rw e (H.shaped.second.e.small j),
+        rw e (H.shaped.second.d.small j),
       )
 
-  pub refuted_low : t.a ≤ t.b + g.k → Refuted g s u t.entered
+  pub refuted_low : t.first.degree ≤ t.second.degree + g.k → Refuted g s u t.entered
   refuted_low l = record {
     far = λ h near. absurd (omega (arith, first-over prime R.axis.apart H.state (word_lead h) (small h) near));
   }
 
   -- the second pair tells the cost
-  refuted_cost : (v : List ℕ) → ((j : ℕ) → j < g.n → at v j ≡ suspect (at t.d2) (at t.e2) j) →
+  refuted_cost : (v : List ℕ) → ((j : ℕ) → j < g.n → at v j ≡ suspect (at t.second.d) (at t.second.e) j) →
       strip_radius g ≤ spent g v u (at (replicate 16 0)) → Refuted g s u t.entered
   refuted_cost v e l = record {
     far = λ h near. omega (
@@ -136,16 +132,16 @@ module _ {g : Axis} {s u : List ℕ} {t : Pairs} (R : Received g s u) (H : Holds
     );
   }
 
-  pub refuted_suspect : {v : List ℕ} → v ≡ row (suspect (at t.d2) (at t.e2)) →
+  pub refuted_suspect : {v : List ℕ} → v ≡ row (suspect (at t.second.d) (at t.second.e)) →
       strip_radius g ≤ spent g v u (at (replicate 16 0)) →
       Refuted g s u t.entered
   refuted_suspect {v} e l = refuted_cost v
-      (λ j o. ap (λ t. at t j) e ∙ row_at (suspect (at t.d2) (at t.e2)) j (omega (arith, R.axis.most))) l
+      (λ j o. ap (λ t. at t j) e ∙ row_at (suspect (at t.second.d) (at t.second.e)) j (omega (arith, R.axis.most))) l
 
   free_count : sum 16 free ≡ sum g.n free
-  free_count = sum-short g.n 16 free R.axis.most λ j l. usable-none (eqb (at t.e2 j) 0) (H.beyond j l)
+  free_count = sum-short g.n 16 free R.axis.most λ j l. usable-none (eqb (at t.second.e j) 0) (H.beyond j l)
 
-  pub refuted_count : sum 16 free ≢ t.a → Refuted g s u t.entered
+  pub refuted_count : sum 16 free ≢ t.first.degree → Refuted g s u t.entered
   refuted_count d = record {
     far = λ h near. absurd (d (free_count ∙ usable_all prime R.axis.apart H.state (word_lead h) (small h) near));
   }
@@ -156,7 +152,7 @@ module _ {g : Axis} {s u : List ℕ} {t : Pairs} (R : Received g s u) (H : Holds
     free_at j = elim (dec_lt j 16) [
       | yes l ↦ ap (λ l. at l j) e ∙ row_at free j l
       | no l ↦ beyond v j (omega (arith, ap length e, length-tab 16 free))
-          ∙ sym (usable-none (eqb (at t.e2 j) 0) (H.beyond j (omega (arith, R.axis.most))))
+          ∙ sym (usable-none (eqb (at t.second.e j) 0) (H.beyond j (omega (arith, R.axis.most))))
     ]
 
     -- l are the keys of the usable cells
@@ -177,7 +173,7 @@ module _ {g : Axis} {s u : List ℕ} {t : Pairs} (R : Received g s u) (H : Holds
       marked_none j o z =
           marked_at j (omega (arith, R.axis.most)) ∙ ap (λ b. cond b taken (key g.n (at u j) j)) (eq-eqb (at v j) 0 z)
 
-      pub enough-usable : Hoped g.k t → Enough g.p g.n g.k g.x l
+      pub enough-usable : Hoped g.k t → Enough g.modulus.p g.n g.k g.x l
       enough-usable h = record {
         most = R.axis.most;
         apart = R.axis.apart;
@@ -204,7 +200,7 @@ module _ {g : Axis} {s u : List ℕ} {t : Pairs} (R : Received g s u) (H : Holds
           keyed j o = elim (ℕ_discrete (at v j) 0) [
             | yes z ↦ omega arith
             | no z ↦ rw (lt-ltb (at l j) taken (omega (arith, marked_free j o z, R.doubts j o, R.axis.full, R.axis.most)))
-                (usable_bits (at t.entered) (at t.e2) e H.state.bit j)
+                (usable_bits (at t.entered) (at t.second.e) e H.state.bit j)
           ]
 
       -- what is near goes through every usable cell, so it is near for the k + 1 of them that f goes through
@@ -226,13 +222,14 @@ module _ {g : Axis} {s u : List ℕ} {t : Pairs} (R : Received g s u) (H : Holds
               missed g.n (at f.entered) (at s) (word g h) ≡ 0
           none h near = sum-eq g.n (right h near) ∙ sum_const g.n 0 ∙ mul-zero g.n
 
-      pub tried_usable : {f : Newton} {r : Decoded} → FitsOn g s l f → Tried g s u f.entered r → Tried g s u t.entered r
+      pub tried_usable : {f : Newton} {r : Option Decoded} → FitsOn g s l f → Tried g s u f.entered r →
+          Tried g s u t.entered r
       tried_usable fit (hit D) = hit D
-      tried_usable fit (miss N D) = miss N (refuted_usable fit D)
+      tried_usable fit (miss D) = miss (refuted_usable fit D)
 
 -- all cells have keys
 pub enough_all : {g : Axis} {s u l : List ℕ} → Received g s u → l ≡ row (λ j. key g.n (at u j) j) →
-    Enough g.p g.n g.k g.x l
+    Enough g.modulus.p g.n g.k g.x l
 enough_all {g} {u = u} {l = l} R K = record {
   most = R.axis.most;
   apart = R.axis.apart;
@@ -264,11 +261,10 @@ module _ {g : Axis} {s u l : List ℕ} {f : Newton} (R : Received g s u) (fit : 
       one : (j : ℕ) → j < g.n → at (replicate 16 1) j ≡ 0 → ⊥
       one j o e = omega (arith, ones_at j (omega (arith, R.axis.most)))
 
-  pub found-rest : {r : Decoded} → r.found ≡ true → Coefficients g.p g.k f.slopes f.nodes r.message →
-      r.values ≡ row (λ j. (at f.rest j + 1 * at s j) % g.p) → r.cost ≡ spent g f.rest u (at (replicate 16 0)) →
+  pub found-rest : {r : Decoded} → Coefficients g.modulus.p g.k f.slopes f.nodes r.message →
+      r.values ≡ row (λ j. (at f.rest j + 1 * at s j) % g.modulus.p) → r.cost ≡ spent g f.rest u (at (replicate 16 0)) →
       r.cost < strip_radius g → Confirmed g s u r
-  found-rest {r} t C e c b = record {
-    found = t;
+  found-rest {r} C e c b = record {
     message = C.row;
     above = C.above;
     values = e ∙ tab-eq 16 λ j i. cong_mod pos (same (omega arith) ⨾ fit.formed j i ⨾ ~sym (C.evaluates (at g.x j)));
@@ -276,16 +272,16 @@ module _ {g : Axis} {s u l : List ℕ} {f : Newton} (R : Received g s u) (fit : 
     under = b;
   }
     where
-      pos : 0 < g.p
+      pos : 0 < g.modulus.p
       pos = omega (arith, R.axis.prime.least)
 
-      value : (j : ℕ) → j < g.n → at r.values j ≡ (at f.rest j + 1 * at s j) % g.p
-      value j o = ap (λ t. at t j) e ∙ row_at (λ j. (at f.rest j + 1 * at s j) % g.p) j (omega (arith, R.axis.most))
+      value : (j : ℕ) → j < g.n → at r.values j ≡ (at f.rest j + 1 * at s j) % g.modulus.p
+      value j o = ap (λ t. at t j) e ∙ row_at (λ j. (at f.rest j + 1 * at s j) % g.modulus.p) j (omega (arith, R.axis.most))
 
       right : (j : ℕ) → j < g.n → eqb (at f.rest j) (at (replicate 16 0) j) ≡ eqb (at s j) (at r.values j)
       right j o = eqb_same (at f.rest j) (at (replicate 16 0) j) (at s j) (at r.values j)
-          (λ z. sym (value j o ∙ ap (λ t. (t + 1 * at s j) % g.p) (z ∙ zeros-at 16 j) ∙ ap (λ t. t % g.p) (omega arith)
-          ∙ mod-eq_of_lt (R.symbols.small j)))
+          (λ z. sym (value j o ∙ ap (λ t. (t + 1 * at s j) % g.modulus.p) (z ∙ zeros-at 16 j)
+          ∙ ap (λ t. t % g.modulus.p) (omega arith) ∙ mod-eq_of_lt (R.symbols.small j)))
           (λ z. below_eq (rw (axis-modulus R.axis) (fit.whole.rest.small j))
           (rw (axis-modulus R.axis, zeros-at 16 j) pos)
           (cancel (same {a = at s j} refl) (same (omega arith) ⨾ ~sym (mod_cong pos (at f.rest j + 1 * at s j))

@@ -1,9 +1,9 @@
-// The axis of a strip: n points x modulo p, the degree k of its polynomials and the full doubt. m is the reciprocal of p (crate
-// `field`).
+// The axis of a strip: n points x, the degree k of its polynomials and the full doubt.
+use field::modulus::Modulus;
+
 #[derive(Clone, Copy)]
 pub struct Axis {
-    pub p: u16,
-    pub m: u16,
+    pub modulus: Modulus,
     pub x: [u16; 16],
     pub n: usize,
     pub k: usize,

@@ -2,77 +2,38 @@
 // the interpolation one by one, and after each the candidate, if there may be one, is measured against the whole strip. A
 // measured one under the radius is the only one, so that it ends the trial. The first k + 1 cells have one polynomial through
 // them, which is measured first.
-ghost use Rattle.std.specs.Prelude.{◌≡◌, cond, List, ℕ, ◌≤◌, eqb};
+ghost use Rattle.std.specs.Prelude.{◌≡◌, cond, ℕ, ◌≤◌, eqb};
 ghost use Rattle.bounded.specs.Bounded.{at, sum};
 ghost use Rattle.field.specs.Prime.{Inverses};
 ghost use Rattle.field.specs.Row.{row};
 ghost use Rattle.distance.specs.Doubts.{Doubts};
 ghost use Rattle.welch_berlekamp.specs.Order.{key};
-ghost use Rattle.welch_berlekamp.specs.Pairs.{pairs};
 ghost use Rattle.reed_solomon.specs.Axis.{Valid, Received};
-ghost use Rattle.reed_solomon.specs.Near.{usable, suspect};
-ghost use Rattle.reed_solomon.specs.Decoded.{StripDecoded, None, Tried, Fitted, Hope, Candidate};
+ghost use Rattle.reed_solomon.specs.Decoded.{StripDecoded, Tried, Fitted, Hope, Candidate};
 
 use crate::axis::Axis;
 use distance::word;
-use field::rows;
+use welch_berlekamp::interpolation::{Pair, Pairs};
 use welch_berlekamp::newton::Newton;
-use welch_berlekamp::{interpolation, newton, order};
+use welch_berlekamp::{newton, order};
 
-// Of an answer that there is none, all else is 0.
+// A polynomial: its coefficients, its values at the points, and what these cost.
 #[derive(Clone, Copy)]
 pub struct Decoded {
     pub message: [u16; 16],
     pub values: [u16; 16],
     pub cost: u32,
-    pub found: bool,
 }
 
-// No polynomial.
-fn none() -> Decoded
-    ensures { None result }
-{
-    let zeros = [0u16; 16];
-    Decoded {
-        found: false,
-        message: zeros,
-        values: zeros,
-        cost: 0,
-    }
-}
-
-// v where e is not 0, else z.
-fn chosen(e: u16, z: u16, v: u16) -> u16
-    ensures { result ≡ cond (eqb e 0) z v }
-{
-    if e == 0 {
-        return z;
-    }
-    v
-}
-
-// The cells that have entered and where e is not 0.
-fn usable_cells(entered: [u16; 16], e: [u16; 16]) -> [u16; 16]
-    ensures { result ≡ row (usable (at entered) (at e)) }
+// v in each place, but z where e is 0. The usable cells are those that have entered, but none where e is 0; and a near polynomial
+// Q / E has another value than the symbol where e is 0, or d is not.
+#[tactic(auto, using(field::proofs::Row::making_done))]
+fn chosen(e: [u16; 16], z: u16, v: [u16; 16]) -> [u16; 16]
+    ensures { result ≡ row (λ j. cond (eqb (at e j) 0) z (at v j)) }
 {
     let mut out = [0u16; 16];
-    let mut j = 0;
-    while j < 16 {
-        out[j] = chosen(e[j], 0, entered[j]);
-        j += 1;
-    }
-    out
-}
-
-// Where a near polynomial Q / E has another value than the symbol: where e is 0, or d is not. There it is not 0.
-fn suspect_cells(d: [u16; 16], e: [u16; 16]) -> [u16; 16]
-    ensures { result ≡ row (suspect (at d) (at e)) }
-{
-    let mut out = [0u16; 16];
-    let mut j = 0;
-    while j < 16 {
-        out[j] = chosen(e[j], 1, d[j]);
-        j += 1;
+    for j in 0..16 {
+        out[j] = if e[j] == 0 { z } else { v[j] };
     }
     out
 }
@@ -83,12 +44,10 @@ fn count(v: [u16; 16]) -> usize
     ensures { result ≡ sum 16 (at v) }
 {
     let mut marked = 0;
-    let mut j = 0;
-    while j < 16 {
+    for j in 0..16 {
         marked += v[j];
-        j += 1;
     }
-    marked as usize
+    usize::from(marked)
 }
 
 // The sum of the n doubts: no polynomial costs less.
@@ -97,57 +56,48 @@ fn doubt_sum(n: usize, u: [u32; 16]) -> u32
     ensures { result ≡ sum n (at u) }
 {
     let mut doubts = 0;
-    let mut j = 0;
-    while j < n {
+    for j in 0..n {
         doubts += u[j];
-        j += 1;
     }
     doubts
 }
 
 // The polynomial f, if it costs under the radius.
-fn measured(g: Axis, f: Newton, s: [u16; 16], u: [u32; 16]) -> Decoded
+fn measured(g: Axis, f: Newton, s: [u16; 16], u: [u32; 16]) -> Option<Decoded>
     requires { Received g s u × Fitted g s f }
     ensures { Tried g s u f.entered result }
 {
     let rest = f.rest;
     let cost = word::word_cost(g.n, rest, u, [0; 16], g.full);
     if cost >= word::radius(g.full, 1, g.n, g.k) {
-        return none();
+        return None;
     }
     let slopes = f.slopes;
     let nodes = f.nodes;
-    let message = newton::coefficients(slopes, nodes, g.k, g.p, g.m);
-    let values = rows::add_multiple(rest, 1, s, g.p, g.m);
-    Decoded {
-        found: true,
+    let message = newton::coefficients(slopes, nodes, g.k, g.modulus);
+    let values = g.modulus.add_multiple(rest, 1, s);
+    Some(Decoded {
         message,
         values,
         cost,
-    }
+    })
 }
 
-// Whether the pairs may have a candidate. A near polynomial makes E2 zero at just the entered cells where it is missed, b in
-// number, and at no other point: so it is missed where E2 is 0 or D2 is not, which tells its cost.
-fn hopeful(
-    g: Axis,
-    d: [u16; 16],
-    e: [u16; 16],
-    a: usize,
-    b: usize,
-    entered: [u16; 16],
-    u: [u32; 16],
-) -> bool
-    requires { Valid g × Doubts g.full g.n (at u) × (b ≤ 16) × ((j : ℕ) → at entered j ≤ 1) }
-    ensures { (d1 e1 : List ℕ) → Hope g u (pairs d1 e1 d e a b entered) result }
+// Whether the pairs may have a candidate. A near polynomial makes E2 zero at just the entered cells where it is missed, as many
+// as the second degree, and at no other point: so it is missed where E2 is 0 or D2 is not, which tells its cost.
+fn hopeful(g: Axis, pairs: &Pairs, u: [u32; 16]) -> bool
+    requires { Valid g × Doubts g.full g.n (at u) × (pairs.now.second.degree ≤ 16) × ((j : ℕ) → at pairs.now.entered j ≤ 1) }
+    ensures { Hope g u pairs.now result }
 {
-    if a <= b + g.k {
+    if pairs.first.degree <= pairs.second.degree + g.k {
         return false;
     }
-    if count(usable_cells(entered, e)) != a {
+    let e = pairs.second.e;
+    if count(chosen(e, 0, pairs.entered)) != pairs.first.degree {
         return false;
     }
-    let cost = word::word_cost(g.n, suspect_cells(d, e), u, [0; 16], g.full);
+    let suspect = chosen(e, 1, pairs.second.d);
+    let cost = word::word_cost(g.n, suspect, u, [0; 16], g.full);
     cost < word::radius(g.full, 1, g.n, g.k)
 }
 
@@ -155,55 +105,62 @@ fn hopeful(
 fn attempt(
     g: Axis,
     inverses: &[u16; 251],
-    e: [u16; 16],
-    entered: [u16; 16],
+    pairs: &Pairs,
     keys: [u32; 16],
     s: [u16; 16],
     u: [u32; 16],
-) -> Decoded
-    requires { Received g s u × Inverses g.p inverses.now × (keys ≡ row (λ j. key g.n (at u j) j)) ×
-        Candidate g s e entered }
-    ensures { Tried g s u entered result }
+) -> Option<Decoded>
+    requires { Received g s u × Inverses g.modulus.p inverses.now × (keys ≡ row (λ j. key g.n (at u j) j)) ×
+        Candidate g s pairs.now }
+    ensures { Tried g s u pairs.now.entered result }
 {
     let x = g.x;
-    let v = usable_cells(entered, e);
-    let f = newton::through(order::marked(v, keys), x, s, g.k, g.p, g.m, inverses);
+    let usable = chosen(pairs.second.e, 0, pairs.entered);
+    let f = newton::through(order::marked(usable, keys), x, s, g.k, g.modulus, inverses);
     measured(g, f, s, u)
 }
 
 // The polynomial of degree at most k that costs under full * (n - k), by its k + 1 coefficients, values and cost; or none.
-pub fn decode(g: Axis, inverses: &[u16; 251], s: [u16; 16], u: [u32; 16]) -> Decoded
-    requires { Received g s u × Inverses g.p inverses.now }
+pub fn decode(g: Axis, inverses: &[u16; 251], s: [u16; 16], u: [u32; 16]) -> Option<Decoded>
+    requires { Received g s u × Inverses g.modulus.p inverses.now }
     ensures { StripDecoded g s u result }
 {
     if doubt_sum(g.n, u) >= word::radius(g.full, 1, g.n, g.k) {
-        return none();
+        return None;
     }
     let x = g.x;
     let all = order::keys(g.n, u);
-    let f = newton::through(all, x, s, g.k, g.p, g.m, inverses);
+    let f = newton::through(all, x, s, g.k, g.modulus, inverses);
     // g again, made of its fields: a struct that is copied whole right after its caller stored it waits for the stores.
     let axis = Axis {
-        p: g.p,
-        m: g.m,
+        modulus: g.modulus,
         x,
         n: g.n,
         k: g.k,
         full: g.full,
     };
-    let mut answer = measured(axis, f, s, u);
-    if answer.found {
-        return answer;
+    if let Some(answer) = measured(axis, f, s, u) {
+        return Some(answer);
     }
-    let mut d1 = f.product;
-    let mut e1 = [0u16; 16];
-    let mut d2 = f.rest;
-    let mut e2 = [1u16; 16];
-    let mut a = g.k + 1;
-    let mut b = 0;
-    let mut entered = f.entered;
+    let product = f.product;
+    let rest = f.rest;
+    let entered = f.entered;
+    let mut pairs = Pairs {
+        first: Pair {
+            d: product,
+            e: [0; 16],
+            degree: g.k + 1,
+        },
+        second: Pair {
+            d: rest,
+            e: [1; 16],
+            degree: 0,
+        },
+        entered,
+    };
     let mut keys = f.keys;
     let mut next = order::least(keys);
+    let mut found = None;
     'levels: while next < g.full * 16 {
         let level = next / 16;
         while next / 16 == level {
@@ -211,29 +168,14 @@ pub fn decode(g: Axis, inverses: &[u16; 251], s: [u16; 16], u: [u32; 16]) -> Dec
             let others = order::without(keys, next);
             keys = others;
             next = order::least(keys);
-            interpolation::enter(
-                &mut d1,
-                &mut e1,
-                &mut d2,
-                &mut e2,
-                &mut a,
-                &mut b,
-                &mut entered,
-                x,
-                r,
-                g.k,
-                g.p,
-                g.m,
-                inverses,
-            );
-            if hopeful(g, d2, e2, a, b, entered, u) {
-                let tried = attempt(axis, inverses, e2, entered, all, s, u);
-                if tried.found {
-                    answer = tried;
+            pairs.enter(x, r, g.k, g.modulus, inverses);
+            if hopeful(g, &pairs, u) {
+                if let Some(answer) = attempt(axis, inverses, &pairs, all, s, u) {
+                    found = Some(answer);
                     break 'levels;
                 }
             }
         }
     }
-    answer
+    found
 }

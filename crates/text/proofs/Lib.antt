@@ -1,3 +1,2 @@
--- The laws of text that is put in pieces, and of a signed number's magnitude.
-pub mod Put
+-- The laws of a signed number in print.
 pub mod Signed

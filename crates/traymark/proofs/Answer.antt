@@ -9,11 +9,17 @@
 --   read-unsound                       so where the plan itself is refused
 --   read_keeps, read-gives             a refused reading is zeros and leaves the buffer; an accepted one is of the record in it
 --   explain-keeps                      a refused explaining is the refusal and leaves the buffer
+--   handed_reading, handed_reason      the reading and the reason of a refusal that a `?` hands on
 --
 -- What this file is for: the calls test a number, the definitions choose by it. Assumes nothing.
 use mathlib.Core.Path.{◌≡◌, refl, sym, ap, ◌∙◌}
 use mathlib.Core.List.{List}
 use Prim.Native.Nat.{ℕ, zero, suc}
+use Rattle.std.specs.Prelude.{Result, Ok, Err, IsErrAnd}
+use Rattle.definitions.specs.declared.Reading.{Reading}
+use Rattle.definitions.specs.declared.Reason.{Reason}
+use Rattle.definitions.specs.declared.Refusal.{Refusal}
+use Rattle.definitions.specs.Numbers.{number, answered, reason_of}
 use Rattle.definitions.specs.Refusals.{first, accepted}
 use Rattle.definitions.specs.Plan.{check_number}
 use Rattle.definitions.specs.Code.{Code, mark}
@@ -85,3 +91,12 @@ read-gives C P s u B e = rw e
 pub explain-keeps : (C : Code) (P s u F B : List ℕ) → (explain_number C P s u F B ≡ 0 → ⊥) →
     (explain_reason C P s u F B ≡ Refused (explain_number C P s u F B)) × (explain_buffer C P s u F B ≡ B)
 explain-keeps C P s u F B n = let h = explains_refused C P s u F B _ refl n in (sym h.reason, sym h.buffer)
+
+-- a `?` hands a refusal on as it is
+pub handed_reading : (r : Result Reading Refusal) (e : Refusal) → IsErrAnd r (λ d. d ≡ e) → answered r ≡ refused (number e)
+handed_reading (Ok x) e h = absurd h
+handed_reading (Err d) e h = ap (λ d. refused (number d)) h
+
+pub handed_reason : (r : Result Reason Refusal) (e : Refusal) → IsErrAnd r (λ d. d ≡ e) → reason_of r ≡ Refused (number e)
+handed_reason (Ok x) e h = absurd h
+handed_reason (Err d) e h = ap (λ d. Refused (number d)) h

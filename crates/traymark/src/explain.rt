@@ -1,9 +1,15 @@
 // Explaining why a record that was expected did not come up: it is the answer, or another record is, or none is.
 ghost use Rattle.std.specs.Prelude.{◌≡◌};
-ghost use Rattle.definitions.specs.Code.{strip, oblong, code_of};
+ghost use Rattle.definitions.specs.Code.{strip, oblong};
 ghost use Rattle.definitions.specs.Explaining.{explain_reason, explain_buffer, values_of};
+ghost use Rattle.definitions.specs.Numbers.{reason_of};
 
-use definitions::{Explanation, Reason};
+use definitions::{Explanation, Reason, Refusal};
+use measuring::Measure;
+use plan::Plan;
+use plan::kind::{Mark, Strip};
+use reading::Read;
+use writing::Write;
 
 // Explains a photographed mark against the record that was expected, for Rattle. `plan`, `record`, `symbols` and `doubts` are any
 // bytes of any length, and are only read; `record` is the expected one, and `other` is lent for another.
@@ -33,7 +39,7 @@ pub fn explain_mark(
     ensures buffer { other.new ≡ explain_buffer oblong plan.now symbols.now
         doubts.now «record».now other.old }
 {
-    explain(true, plan, record, symbols, doubts, other)
+    explain::<Mark>(plan, record, symbols, doubts, other)
 }
 
 // The same for a strip: `record` and `other` have d + 1 bytes, lowest power first, `symbols` and `doubts` have a byte for each
@@ -50,7 +56,7 @@ pub fn explain_strip(
     ensures buffer { other.new ≡ explain_buffer strip plan.now symbols.now
         doubts.now «record».now other.old }
 {
-    explain(false, plan, record, symbols, doubts, other)
+    explain::<Strip>(plan, record, symbols, doubts, other)
 }
 
 // `explain_mark` for `traymark_c`, since C is handed no enum: number 0 with reason 1, 2 or 3, in the order above, and with its
@@ -67,7 +73,7 @@ pub fn traymark_explain_mark(
     ensures buffer { other.new ≡ explain_buffer oblong plan.now symbols.now
         doubts.now «record».now other.old }
 {
-    answers::values(explain(true, plan, record, symbols, doubts, other))
+    Explanation::from(explain::<Mark>(plan, record, symbols, doubts, other))
 }
 
 // `explain_strip` for `traymark_c`.
@@ -83,31 +89,38 @@ pub fn traymark_explain_strip(
     ensures buffer { other.new ≡ explain_buffer strip plan.now symbols.now
         doubts.now «record».now other.old }
 {
-    answers::values(explain(false, plan, record, symbols, doubts, other))
+    Explanation::from(explain::<Strip>(plan, record, symbols, doubts, other))
 }
 
-// Both kinds: the checks come first.
-fn explain(
-    mark: bool,
+// Both kinds; a refusal is one of the reasons.
+fn explain<K: Write + Measure + Read>(
     plan: &[u8],
     record: &[u8],
     symbols: &[u8],
     doubts: &[u8],
     other: &mut [u8],
 ) -> Reason
-    ensures reason { result ≡ explain_reason (code_of mark) plan.now symbols.now doubts.now
-        «record».now other.old }
-    ensures buffer { other.new ≡ explain_buffer (code_of mark) plan.now symbols.now
-        doubts.now «record».now other.old }
+    ensures reason { result ≡ explain_reason K.code plan.now symbols.now doubts.now «record».now other.old }
+    ensures buffer { other.new ≡ explain_buffer K.code plan.now symbols.now doubts.now «record».now other.old }
 {
-    let number = plan::check(plan);
-    if number != 0 {
-        return Reason::Refused(number);
+    match explain_checked::<K>(plan, record, symbols, doubts, other) {
+        Ok(reason) => reason,
+        Err(refusal) => Reason::Refused(refusal.number()),
     }
-    let said = plan::parse(plan);
-    let number = checks::explain_refusal(mark, said, symbols, doubts, record, other);
-    if number != 0 {
-        return Reason::Refused(number);
-    }
-    explaining::explain(mark, said, record, symbols, doubts, other)
+}
+
+// The checks come first.
+fn explain_checked<K: Write + Measure + Read>(
+    plan: &[u8],
+    record: &[u8],
+    symbols: &[u8],
+    doubts: &[u8],
+    other: &mut [u8],
+) -> Result<Reason, Refusal>
+    ensures reason { reason_of result ≡ explain_reason K.code plan.now symbols.now doubts.now «record».now other.old }
+    ensures buffer { other.new ≡ explain_buffer K.code plan.now symbols.now doubts.now «record».now other.old }
+{
+    let said = Plan::try_from(plan)?;
+    checks::explain::<K>(said, symbols, doubts, record, other)?;
+    Ok(explaining::explain::<K>(said, record, symbols, doubts, other))
 }

@@ -1,7 +1,14 @@
 // Masking symbols with the mark or the strip of a record, and taking it off again.
 ghost use Rattle.std.specs.Prelude.{◌≡◌};
-ghost use Rattle.definitions.specs.Code.{strip, oblong, code_of};
-ghost use Rattle.definitions.specs.Masking.{on, off as taken_off, way_of, mask_number, mask_buffer};
+ghost use Rattle.definitions.specs.Code.{strip, oblong};
+ghost use Rattle.definitions.specs.Masking.{on, off as taken_off, mask_number, mask_buffer};
+ghost use Rattle.definitions.specs.Numbers.{number_of};
+
+use definitions::{Refusal, number};
+use masking::{Off, On, Way};
+use plan::Plan;
+use plan::kind::{Mark, Strip};
+use writing::Write;
 
 // Adds the mark of a record to lent symbols where they stand, for Rattle and through `traymark_c` for C. `plan` and `record` are
 // any bytes of any length, and are only read; `symbols` is a mark to be printed or a photographed one, any bytes too.
@@ -17,7 +24,7 @@ pub fn traymark_mask_mark(plan: &[u8], record: &[u8], symbols: &mut [u8]) -> u32
     ensures bytes { symbols.new
         ≡ mask_buffer on oblong plan.now «record».now symbols.old }
 {
-    mask(true, false, plan, record, symbols)
+    number(mask::<Mark, On>(plan, record, symbols))
 }
 
 // The same for a strip: `record` has d + 1 bytes, lowest power first, and `symbols` has a byte for each row.
@@ -26,7 +33,7 @@ pub fn traymark_mask_strip(plan: &[u8], record: &[u8], symbols: &mut [u8]) -> u3
     ensures bytes { symbols.new
         ≡ mask_buffer on strip plan.now «record».now symbols.old }
 {
-    mask(false, false, plan, record, symbols)
+    number(mask::<Strip, On>(plan, record, symbols))
 }
 
 // Takes the mark of a record off again: subtracts what `traymark_mask_mark` adds, and refuses what that refuses.
@@ -35,7 +42,7 @@ pub fn traymark_unmask_mark(plan: &[u8], record: &[u8], symbols: &mut [u8]) -> u
     ensures bytes { symbols.new
         ≡ mask_buffer taken_off oblong plan.now «record».now symbols.old }
 {
-    mask(true, true, plan, record, symbols)
+    number(mask::<Mark, Off>(plan, record, symbols))
 }
 
 // The same for a strip.
@@ -44,25 +51,16 @@ pub fn traymark_unmask_strip(plan: &[u8], record: &[u8], symbols: &mut [u8]) -> 
     ensures bytes { symbols.new
         ≡ mask_buffer taken_off strip plan.now «record».now symbols.old }
 {
-    mask(false, true, plan, record, symbols)
+    number(mask::<Strip, Off>(plan, record, symbols))
 }
 
 // Both kinds and both ways: the checks come first.
-fn mask(mark: bool, off: bool, plan: &[u8], record: &[u8], symbols: &mut [u8]) -> u32
-    ensures number { result
-        ≡ mask_number (code_of mark) plan.now «record».now symbols.old }
-    ensures bytes { symbols.new
-        ≡ mask_buffer (way_of off) (code_of mark) plan.now «record».now symbols.old }
+fn mask<K: Write, W: Way>(plan: &[u8], record: &[u8], symbols: &mut [u8]) -> Result<(), Refusal>
+    ensures number { number_of result ≡ mask_number K.code plan.now «record».now symbols.old }
+    ensures bytes { symbols.new ≡ mask_buffer W.way K.code plan.now «record».now symbols.old }
 {
-    let number = plan::check(plan);
-    if number != 0 {
-        return number;
-    }
-    let said = plan::parse(plan);
-    let number = checks::mask_refusal(mark, said, record, symbols);
-    if number != 0 {
-        return number;
-    }
-    masking::mask(mark, off, said, record, symbols);
-    0
+    let said = Plan::try_from(plan)?;
+    checks::mask::<K>(said, record, symbols)?;
+    masking::mask::<K, W>(said, record, symbols);
+    Ok(())
 }

@@ -2,8 +2,12 @@
 ghost use Rattle.std.specs.Prelude.{◌≡◌};
 ghost use Rattle.definitions.specs.Code.{strip, oblong};
 ghost use Rattle.definitions.specs.Calls.{measure_reading};
+ghost use Rattle.definitions.specs.Numbers.{answered};
 
-use definitions::Reading;
+use definitions::{Reading, Refusal};
+use measuring::Measure;
+use plan::Plan;
+use plan::kind::{Mark, Strip};
 
 // Measures a record against a photographed mark, for Rattle and through `traymark_c` for C. All four are any bytes of any length,
 // and are only read.
@@ -21,16 +25,7 @@ pub fn traymark_measure_mark(plan: &[u8], record: &[u8], symbols: &[u8], doubts:
     ensures { result
         ≡ measure_reading oblong plan.now symbols.now doubts.now «record».now }
 {
-    let number = plan::check(plan);
-    if number != 0 {
-        return answers::refused(number);
-    }
-    let said = plan::parse(plan);
-    let number = checks::measure_refusal(true, said, symbols, doubts, record);
-    if number != 0 {
-        return answers::refused(number);
-    }
-    measuring::measure_mark(said, record, symbols, doubts)
+    answers::answered(measure::<Mark>(plan, record, symbols, doubts))
 }
 
 // The same for a strip: `record` has d + 1 bytes, lowest power first, `symbols` and `doubts` have a byte for each row.
@@ -38,14 +33,19 @@ pub fn traymark_measure_strip(plan: &[u8], record: &[u8], symbols: &[u8], doubts
     ensures { result
         ≡ measure_reading strip plan.now symbols.now doubts.now «record».now }
 {
-    let number = plan::check(plan);
-    if number != 0 {
-        return answers::refused(number);
-    }
-    let said = plan::parse(plan);
-    let number = checks::measure_refusal(false, said, symbols, doubts, record);
-    if number != 0 {
-        return answers::refused(number);
-    }
-    measuring::measure_strip(said, record, symbols, doubts)
+    answers::answered(measure::<Strip>(plan, record, symbols, doubts))
+}
+
+// Both kinds: the checks come first.
+fn measure<K: Measure>(
+    plan: &[u8],
+    record: &[u8],
+    symbols: &[u8],
+    doubts: &[u8],
+) -> Result<Reading, Refusal>
+    ensures { answered result ≡ measure_reading K.code plan.now symbols.now doubts.now «record».now }
+{
+    let said = Plan::try_from(plan)?;
+    checks::measure::<K>(said, symbols, doubts, record)?;
+    Ok(K::measure(said, record, symbols, doubts))
 }

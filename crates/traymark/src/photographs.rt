@@ -6,10 +6,13 @@ ghost use Rattle.definitions.specs.Code.{oblong, cells};
 ghost use Rattle.definitions.specs.Sets.{set_bytes, set_plan, start_memory, add_number, add_memory};
 ghost use Rattle.definitions.specs.Sets.{withdraw_number, withdraw_memory, combine_number, combine_symbols, combine_doubts};
 ghost use Rattle.definitions.specs.Sets.{set_reading, set_record};
-ghost use Rattle.plan.specs.Says.{Says};
+ghost use Rattle.definitions.specs.Numbers.{answered};
+ghost use Rattle.plan.specs.Says.{bytes_of};
 
-use definitions::{PLAN_BYTES, Reading, SET_BYTES};
+use definitions::{PLAN_BYTES, Reading, Refusal, SET_BYTES, number};
 use plan::Plan;
+use plan::kind::{Kind, Mark};
+use reading::Read;
 use sets::{combining, holding};
 
 // How many bytes a set is.
@@ -28,7 +31,7 @@ pub fn traymark_set_start(set: &mut [u8; SET_BYTES], plan: &[u8]) -> u32
     ensures number { result ≡ check_number plan.now }
     ensures memory { set.new ≡ start_memory plan.now set.old }
 {
-    holding::start(set, plan)
+    number(holding::start(set, plan))
 }
 
 // Adds a photograph of the set's plan, under a number from 0 to 8 that is free. `symbols` and `doubts` are any bytes of any
@@ -51,7 +54,7 @@ pub fn traymark_set_add(
     ensures memory { set.new
         ≡ add_memory set.old photograph symbols.now doubts.now }
 {
-    holding::add(set, photograph, symbols, doubts)
+    number(holding::add(set, photograph, symbols, doubts))
 }
 
 // Withdraws a photograph; its number is free again.
@@ -62,7 +65,7 @@ pub fn traymark_set_withdraw(set: &mut [u8; SET_BYTES], photograph: u32) -> u32
     ensures number { result ≡ withdraw_number set.old photograph }
     ensures memory { set.new ≡ withdraw_memory set.old photograph }
 {
-    holding::withdraw(set, photograph)
+    number(holding::withdraw(set, photograph))
 }
 
 // Combines the photographs that are held. The set is only read.
@@ -80,7 +83,7 @@ pub fn traymark_set_combine(set: &[u8; SET_BYTES], symbols: &mut [u8], doubts: &
     ensures doubts { doubts.new
         ≡ combine_doubts set.now symbols.old doubts.old }
 {
-    combining::combine(set, symbols, doubts)
+    number(combining::combine(set, symbols, doubts))
 }
 
 // Reads the combination as `traymark_read_mark` reads a photograph, under the plan of the set. The set is only read.
@@ -94,22 +97,17 @@ pub fn traymark_set_read(set: &[u8; SET_BYTES], record: &mut [u8]) -> Reading
     ensures reading { result ≡ set_reading set.now «record».old }
     ensures bytes { «record».new ≡ set_record set.now «record».old }
 {
-    read(set, record)
+    answers::answered(read(set, record))
 }
 
 // The plan in the set comes first; only a sound one tells how many cells there are to combine.
-fn read(set: &[u8], record: &mut [u8]) -> Reading
+fn read(set: &[u8], record: &mut [u8]) -> Result<Reading, Refusal>
     requires { length set.now ≡ set_bytes }
-    ensures reading { result ≡ set_reading set.now «record».old }
+    ensures reading { answered result ≡ set_reading set.now «record».old }
     ensures bytes { «record».new ≡ set_record set.now «record».old }
 {
-    let plan = &set[0..PLAN_BYTES];
-    let number = plan::check(plan);
-    if number != 0 {
-        return answers::refused(number);
-    }
-    let said = plan::parse(plan);
-    let n = checks::cell_count(true, said.grid);
+    let said = Plan::try_from(&set[0..PLAN_BYTES])?;
+    let n = Mark::cell_count(said);
     let mut symbols = [0u8; 256];
     let mut doubts = [0u8; 256];
     read_by(said, set, &mut symbols[..n], &mut doubts[..n], record)
@@ -122,16 +120,13 @@ fn read_by(
     symbols: &mut [u8],
     doubts: &mut [u8],
     record: &mut [u8],
-) -> Reading
-    requires { Says (set_plan set.now) plan × (length set.now ≡ set_bytes)
+) -> Result<Reading, Refusal>
+    requires { (bytes_of plan ≡ set_plan set.now) × (length set.now ≡ set_bytes)
         × (length symbols.old ≡ cells oblong (set_plan set.now)) × (length doubts.old ≡ length symbols.old) }
-    ensures reading { result ≡ set_reading set.now «record».old }
+    ensures reading { answered result ≡ set_reading set.now «record».old }
     ensures bytes { «record».new ≡ set_record set.now «record».old }
 {
     combining::cells(set, plan.grid.full as u8, symbols, doubts);
-    let number = checks::photo_refusal(true, plan, symbols, doubts, record);
-    if number != 0 {
-        return answers::refused(number);
-    }
-    reading::mark::read_mark(plan, symbols, doubts, record)
+    checks::photograph::<Mark>(plan, symbols, doubts, record)?;
+    Mark::read(plan, symbols, doubts, record)
 }

@@ -4,6 +4,8 @@ ghost use Rattle.definitions.specs.Plan.{check_number};
 ghost use Rattle.definitions.specs.Finder.{find_number, find_offset, find_bytes, address_at};
 ghost use Rattle.definitions.specs.Widening.{widen_number, widen_buffer};
 
+use definitions::number;
+
 // Checks a plan, for Rattle and through `traymark_c` for C. `plan` is any bytes of any length, and is only read.
 //
 // Returns 0 where the plan is sound, else the first that applies, in this order, of
@@ -17,7 +19,7 @@ ghost use Rattle.definitions.specs.Widening.{widen_number, widen_buffer};
 pub fn traymark_check_plan(plan: &[u8]) -> u32
     ensures { result ≡ check_number plan.now }
 {
-    plan::check(plan)
+    number(plan::check(plan))
 }
 
 // Finds the first plan of a season in a plan file, for Rattle. `file` is 40-byte records one after another, and is only read;
@@ -32,7 +34,16 @@ pub fn find_plan<'a>(file: &'a [u8], season: u16, number: &mut u32) -> &'a [u8]
     ensures address { result.ref_ptr ≡ address_at file.entry (find_offset file.now season) }
     ensures bytes { result.now ≡ find_bytes file.now season }
 {
-    plan::find(file, season, number)
+    match plan::find(file, season) {
+        Ok(part) => {
+            *number = 0;
+            part
+        }
+        Err(refusal) => {
+            *number = refusal.number();
+            &file[0..0]
+        }
+    }
 }
 
 // The same for `traymark_c`, since C is handed no part: returns the number, and sets `offset`, whatever it was, to where the 40
@@ -41,7 +52,16 @@ pub fn traymark_find_plan(file: &[u8], season: u16, offset: &mut usize) -> u32
     ensures number { result ≡ find_number file.now season }
     ensures offset { offset.new ≡ find_offset file.now season }
 {
-    plan::locate(file, season, offset)
+    match plan::locate(file, season) {
+        Ok(at) => {
+            *offset = at;
+            0
+        }
+        Err(refusal) => {
+            *offset = 0;
+            refusal.number()
+        }
+    }
 }
 
 // Widens plans of the old form, for Rattle and through `traymark_c` for C. `old` is 24-byte records one after another, and is
@@ -57,5 +77,5 @@ pub fn traymark_widen_plans(old: &[u8], wide: &mut [u8]) -> u32
     ensures number { result ≡ widen_number old.now wide.old }
     ensures buffer { wide.new ≡ widen_buffer old.now wide.old }
 {
-    widening::widen(old, wide)
+    number(widening::widen(old, wide))
 }

@@ -2,8 +2,12 @@
 ghost use Rattle.std.specs.Prelude.{◌≡◌};
 ghost use Rattle.definitions.specs.Code.{strip, oblong};
 ghost use Rattle.definitions.specs.Calls.{read_reading, read_buffer};
+ghost use Rattle.definitions.specs.Numbers.{answered};
 
-use definitions::Reading;
+use definitions::{Reading, Refusal};
+use plan::Plan;
+use plan::kind::{Mark, Strip};
+use reading::Read;
 
 // Reads a photographed mark, for Rattle and through `traymark_c` for C.
 // `plan`, `symbols` and `doubts` are any bytes of any length, and are only read.
@@ -24,16 +28,7 @@ pub fn traymark_read_mark(plan: &[u8], symbols: &[u8], doubts: &[u8], record: &m
     ensures bytes { «record».new
         ≡ read_buffer oblong plan.now symbols.now doubts.now «record».old }
 {
-    let number = plan::check(plan);
-    if number != 0 {
-        return answers::refused(number);
-    }
-    let said = plan::parse(plan);
-    let number = checks::photo_refusal(true, said, symbols, doubts, record);
-    if number != 0 {
-        return answers::refused(number);
-    }
-    reading::mark::read_mark(said, symbols, doubts, record)
+    answers::answered(read::<Mark>(plan, symbols, doubts, record))
 }
 
 // The same for a strip: `record` has d + 1 bytes, lowest power first, `symbols` and `doubts` have a byte for each row, and the
@@ -44,14 +39,20 @@ pub fn traymark_read_strip(plan: &[u8], symbols: &[u8], doubts: &[u8], record: &
     ensures bytes { «record».new
         ≡ read_buffer strip plan.now symbols.now doubts.now «record».old }
 {
-    let number = plan::check(plan);
-    if number != 0 {
-        return answers::refused(number);
-    }
-    let said = plan::parse(plan);
-    let number = checks::photo_refusal(false, said, symbols, doubts, record);
-    if number != 0 {
-        return answers::refused(number);
-    }
-    reading::strip::read_strip(said, symbols, doubts, record)
+    answers::answered(read::<Strip>(plan, symbols, doubts, record))
+}
+
+// Both kinds: the checks come first.
+fn read<K: Read>(
+    plan: &[u8],
+    symbols: &[u8],
+    doubts: &[u8],
+    record: &mut [u8],
+) -> Result<Reading, Refusal>
+    ensures reading { answered result ≡ read_reading K.code plan.now symbols.now doubts.now «record».old }
+    ensures bytes { «record».new ≡ read_buffer K.code plan.now symbols.now doubts.now «record».old }
+{
+    let said = Plan::try_from(plan)?;
+    checks::photograph::<K>(said, symbols, doubts, record)?;
+    K::read(said, symbols, doubts, record)
 }

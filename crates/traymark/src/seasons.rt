@@ -19,5 +19,14 @@ pub fn traymark_find_season(file: &[u8], year: u32, month: u32, day: u32, season
     ensures number { result ≡ season_number file.now (date year month day) }
     ensures season { season.new ≡ season_found file.now (date year month day) }
 {
-    windows::find(file, Date { year, month, day }, season)
+    match windows::find(file, Date { year, month, day }) {
+        Ok(found) => {
+            *season = found;
+            0
+        }
+        Err(refusal) => {
+            *season = 0;
+            refusal.number()
+        }
+    }
 }

@@ -2,6 +2,12 @@
 ghost use Rattle.std.specs.Prelude.{◌≡◌};
 ghost use Rattle.definitions.specs.Code.{strip as strip_code, oblong};
 ghost use Rattle.definitions.specs.Calls.{write_number, write_buffer};
+ghost use Rattle.definitions.specs.Numbers.{number_of};
+
+use definitions::{Refusal, number};
+use plan::Plan;
+use plan::kind::{Mark, Strip};
+use writing::Write;
 
 // Writes the mark of a record, for Rattle and through `traymark_c` for C. `plan` and `record` are any bytes of any length, and
 // are only read.
@@ -16,17 +22,7 @@ pub fn traymark_write_mark(plan: &[u8], record: &[u8], mark: &mut [u8]) -> u32
     ensures bytes { mark.new
         ≡ write_buffer oblong plan.now «record».now mark.old }
 {
-    let number = plan::check(plan);
-    if number != 0 {
-        return number;
-    }
-    let said = plan::parse(plan);
-    let number = checks::write_refusal(true, said, record, mark);
-    if number != 0 {
-        return number;
-    }
-    writing::write_mark(said, record, mark);
-    0
+    number(write::<Mark>(plan, record, mark))
 }
 
 // The same for a strip: `record` has d + 1 bytes, lowest power first, and `strip` has a byte for each row, of which the i-th is
@@ -36,15 +32,16 @@ pub fn traymark_write_strip(plan: &[u8], record: &[u8], strip: &mut [u8]) -> u32
     ensures bytes { strip.new
         ≡ write_buffer strip_code plan.now «record».now strip.old }
 {
-    let number = plan::check(plan);
-    if number != 0 {
-        return number;
-    }
-    let said = plan::parse(plan);
-    let number = checks::write_refusal(false, said, record, strip);
-    if number != 0 {
-        return number;
-    }
-    writing::write_strip(said, record, strip);
-    0
+    number(write::<Strip>(plan, record, strip))
+}
+
+// Both kinds: the checks come first.
+fn write<K: Write>(plan: &[u8], record: &[u8], cells: &mut [u8]) -> Result<(), Refusal>
+    ensures number { number_of result ≡ write_number K.code plan.now «record».now cells.old }
+    ensures bytes { cells.new ≡ write_buffer K.code plan.now «record».now cells.old }
+{
+    let said = Plan::try_from(plan)?;
+    checks::write::<K>(said, record, cells)?;
+    K::write(said, record, cells);
+    Ok(())
 }

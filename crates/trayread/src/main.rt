@@ -8,8 +8,8 @@
 mod answer;
 mod lines;
 
-use answer::{ROOM, TEXT};
-use text::{deliver, fill, has_argument};
+use answer::ROOM;
+use text::program::{deliver, fill, has_argument};
 
 fn main(rt: HostRuntime) {
     if has_argument(&rt, 1) {
@@ -20,7 +20,6 @@ fn main(rt: HostRuntime) {
     }
     let mut space = [0u8; ROOM];
     let came = fill(&mut rt.stdin(), &mut space);
-    let mut text = [0u8; TEXT];
-    let n = answer::answer(&space, came, &mut text);
-    deliver(&rt, "trayread", &text[..n]);
+    let text = answer::answer(&space, came);
+    deliver(&rt, "trayread", text.as_bytes());
 }

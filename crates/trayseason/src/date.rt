@@ -25,13 +25,7 @@ pub fn is_dated(word: &[u8]) -> bool
 fn are_digits(a: u8, b: u8) -> bool
     ensures { result ≡ (is_digit a && is_digit b) }
 {
-    is_digit(a) & is_digit(b)
-}
-
-fn is_digit(byte: u8) -> bool
-    ensures { result ≡ is_digit byte }
-{
-    (b'0' <= byte) & (byte <= b'9')
+    a.is_ascii_digit() && b.is_ascii_digit()
 }
 
 // The date that the word shows, which need not be real.
@@ -48,21 +42,10 @@ pub fn asked_date(word: &[u8]) -> Date
     }
 }
 
-// The number of two digits, at most 11 times 255 whatever the bytes.
+// The number of two digits, at most 11 times 255 whatever the bytes: a byte below all digits counts as 0.
 fn number_of(tens: u8, ones: u8) -> u32
     ensures is { result ≡ (tens - digit 0) * 10 + (ones - digit 0) }
     ensures most { result < 2816 }
 {
-    value_of(tens) * 10 + value_of(ones)
-}
-
-// The value of a digit; of a byte below all digits it is 0.
-fn value_of(byte: u8) -> u32
-    ensures is { result ≡ byte - digit 0 }
-    ensures most { result < 256 }
-{
-    if byte < b'0' {
-        return 0;
-    }
-    (byte - b'0') as u32
+    u32::from(tens.saturating_sub(b'0')) * 10 + u32::from(ones.saturating_sub(b'0'))
 }

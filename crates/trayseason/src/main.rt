@@ -8,24 +8,23 @@
 mod answer;
 mod date;
 
-use answer::{ROOM, TEXT};
-use date::DATE_BYTES;
+use answer::{ROOM, answer};
+use date::{DATE_BYTES, is_dated};
 use std::rt::Env;
-use text::{deliver, fill, has_argument};
+use text::program::{deliver, fill, has_argument};
 
 fn main(rt: HostRuntime) {
     // an argument that is missing or longer than a date is taken for an empty one
-    let mut word = [0u8; DATE_BYTES];
+    let mut word = [0; DATE_BYTES];
     let length = rt.arg(1, &mut word).unwrap_or(0);
-    if has_argument(&rt, 2) | !date::is_dated(&word[..length]) {
+    let word = &word[..length];
+    if has_argument(&rt, 2) || !is_dated(word) {
         let _ = rt.eprintln(
             "usage: trayseason YYYY-MM-DD < windows\nprints the season of the date, by a file of windows; see man trayseason",
         );
         return;
     }
-    let mut space = [0u8; ROOM];
+    let mut space = [0; ROOM];
     let came = fill(&mut rt.stdin(), &mut space);
-    let mut text = [0u8; TEXT];
-    let n = answer::answer(&word[..length], &space, came, &mut text);
-    deliver(&rt, "trayseason", &text[..n]);
+    deliver(&rt, "trayseason", answer(word, &space, came).as_bytes());
 }

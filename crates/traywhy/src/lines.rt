@@ -1,25 +1,38 @@
-// The lines of a reason that are no refusal, put into a lent text that has room for them.
-ghost use Rattle.std.specs.Prelude.{◌++◌, ◌+◌, ◌*◌, ◌≤◌, length};
-ghost use Rattle.definitions.specs.Printed.{answer_line, other_line, record_line};
-ghost use Rattle.text.specs.Put.{Put};
+// The lines of a reason that is no refusal.
+ghost use Rattle.std.specs.Prelude.{◌≡◌, ◌++◌, ◌≤◌, length};
+ghost use Rattle.definitions.specs.Printed.{answer_line, other_line, none_line, record_line};
 
+use crate::answer::TEXT;
 use definitions::Reading;
-use text::{put_bytes, put_costs, put_line, put_record};
+use polynomial::bivariate::LONGEST;
+use text::Text;
 
 // ANSWER, a number of at most 10 digits, and one of at most 11 characters.
-pub fn put_answer(text: &mut [u8], reading: Reading) -> usize
-    requires { 30 ≤ length text.old }
-    ensures { Put text.old 0 (answer_line reading) text.new result }
+pub fn answer(reading: Reading) -> Text<TEXT>
+    ensures { result ≡ answer_line reading }
 {
-    let at = put_bytes(text, 0, b"ANSWER");
-    put_costs(text, at, reading)
+    let mut text = Text::new();
+    text.put_bytes(b"ANSWER");
+    text.put_costs(reading);
+    text
 }
 
 // OTHER and a number of at most 10 digits, then the record.
-pub fn put_other(text: &mut [u8], place: u32, record: &[u8]) -> usize
-    requires { 24 + 4 * length «record».now ≤ length text.old }
-    ensures { Put text.old 0 (other_line place ++ record_line «record».now) text.new result }
+pub fn other(place: u32, record: &[u8]) -> Text<TEXT>
+    requires { length «record».now ≤ LONGEST }
+    ensures { result ≡ other_line place ++ record_line «record».now }
 {
-    let at = put_line(text, b"OTHER", place);
-    put_record(text, at, record)
+    let mut text = Text::new();
+    text.put_line(b"OTHER", place);
+    text.put_record(record);
+    text
+}
+
+// NONE and a number of at most 10 digits.
+pub fn none(excess: u32) -> Text<TEXT>
+    ensures { result ≡ none_line excess }
+{
+    let mut text = Text::new();
+    text.put_line(b"NONE", excess);
+    text
 }

@@ -11,8 +11,8 @@
 mod answer;
 mod lines;
 
-use answer::{ROOM, TEXT};
-use text::{deliver, fill, has_argument};
+use answer::ROOM;
+use text::program::{deliver, fill, has_argument};
 
 fn main(rt: HostRuntime) {
     if has_argument(&rt, 1) {
@@ -23,7 +23,6 @@ fn main(rt: HostRuntime) {
     }
     let mut space = [0u8; ROOM];
     let came = fill(&mut rt.stdin(), &mut space);
-    let mut text = [0u8; TEXT];
-    let n = answer::answer(&space, came, &mut text);
-    deliver(&rt, "traywhy", &text[..n]);
+    let text = answer::answer(&space, came);
+    deliver(&rt, "traywhy", text.as_bytes());
 }

@@ -130,9 +130,9 @@ module _ (x : List ℕ) (byte : (k : ℕ) → k < 9 → at x k ≤ 255) where
 
   -- what the passes found: m, w and s
   pub record Found (m w s : ℕ) : Type 0 where
-    pub order : (s ≤ m) × (m ≤ max 1 (cast x 9)) × (0 < max 1 (cast x 9))
+    pub order : (s ≤ m) × (m ≤ max (cast x 9) 1) × (0 < max (cast x 9) 1)
     pub symbol : w ≡ symbol_of x 9
-    pub doubt : (f : ℕ) → f - f * (m - s) / max 1 (cast x 9) ≡ doubt_of f x 9
+    pub doubt : (f : ℕ) → f - f * (m - s) / max (cast x 9) 1 ≡ doubt_of f x 9
 
   made : (m w s : ℕ) → m ≡ most 9 (at c) → w ≡ 255 - most 9 (at (tab 9 (lowness x c m))) →
       s ≡ most 9 (at (tab 9 (other x c w))) → Found m w s
@@ -142,7 +142,7 @@ module _ (x : List ℕ) (byte : (k : ℕ) → k < 9 → at x k ≤ 255) where
         let low : most 9 (at (tab 9 (lowness x c m))) ≡ 255 - W = most-tab 9 _ ∙ rw m-is (some-low h) in
         let w-is : w ≡ W = omega (arith, f, low, winner-below x 9) in
         let s-is : s ≡ next x 9 = g ∙ most-tab 9 _ ∙ rw w-is (some-other h) in
-        let t-is : max 1 (cast x 9) ≡ cast x 9 = omega arith in
+        let t-is : max (cast x 9) 1 ≡ cast x 9 = omega arith in
         record {
           order = omega (arith, m-is, s-is, next-votes x 9, winner-cast x 9);
           symbol = w-is ∙ sym (combined-some x 9 0 h).0;

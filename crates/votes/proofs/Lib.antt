@@ -1,5 +1,6 @@
 -- The laws of votes.
 pub mod Largest
+pub mod Made
 pub mod Voting
 pub mod Winner
 pub mod Column

@@ -3,11 +3,12 @@
 --   votes_own, votes-some   a symbol that is there has a vote, and one that has a vote is there
 --   votes-cast              no symbol has more votes than are cast
 --   cast-some, none-cast    where a vote is cast some symbol is read, and where none is none is
---   votes-next, cast-next   one photograph more, as a loop counts it
+--   votes-next              one photograph more, as a loop counts it
+--   cast-silent             who casts no vote has the symbol 255
 --
 -- What this file is for: what is counted over photographs is known of symbols. Assumes nothing.
 use mathlib.Core.Path.{◌≡◌, refl, sym, ap, ap₂, ◌∙◌}
-use mathlib.Core.Bool.{cond}
+use mathlib.Core.Bool.{Bool, true, false, cond}
 use mathlib.Core.List.{List}
 use mathlib.Core.Logic.{◌≢◌}
 use Prim.Native.Nat.{ℕ, zero, suc, ◌+◌, ◌≤◌, ◌<◌}
@@ -75,6 +76,11 @@ module _ (x : List ℕ) where
   unfolding votes
   votes-next k v e f = ap₂ ◌+◌ e f ∙ sym (sum_more k (λ k. cond (eqb (at x k) v) 1 0))
 
-  pub cast-next : (k : ℕ) {a b : ℕ} → a ≡ cast x k → b ≡ cond (eqb (at x k) 255) 0 1 → a + b ≡ cast x (k + 1)
-  unfolding cast
-  cast-next k e f = ap₂ ◌+◌ e f ∙ sym (sum_more k (λ k. cond (eqb (at x k) 255) 0 1))
+  pub cast-silent : (n : ℕ) → cast x n + votes x n 255 ≡ n
+  unfolding votes cast
+  cast-silent zero = refl
+  cast-silent (suc n) = omega (arith, cast-silent n, one (eqb (at x n) 255))
+    where
+      one : (b : Bool) → cond b 0 1 + cond b 1 0 ≡ 1
+      one true = refl
+      one false = refl

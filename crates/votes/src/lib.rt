@@ -1,11 +1,14 @@
 // One cell of nine photographs, of which any may be unread there or not held at all: the symbol with most votes, and its doubt.
-// Every function looks at all nine, with no way out and nothing asked before a load, so that a loop over cells is vectorised.
+// Every function looks at all nine, with no way out and nothing asked before a load, so that a loop over cells is vectorised. It
+// is not where one of them is written by `array::map`, or by `filter` and `count`.
 #![tactic(auto)]
 
 ghost use Rattle.std.specs.Prelude.{◌≡◌, cond, ℕ, ◌*◌, ◌-◌, ◌/◌, ◌≤◌, ◌<◌, max, eqb};
 ghost use Rattle.bounded.specs.Bounded.{at, tab};
 ghost use Rattle.votes.specs.Votes.{votes as votes_for, cast as cast_in, most as most_of, symbol_of, doubt_of};
 ghost use Rattle.votes.specs.Majority.{counted, lowness, other};
+
+use std::array;
 
 // The symbol that casts no vote.
 const SILENT: u8 = 255;
@@ -25,113 +28,74 @@ pub fn combine(x: [u8; 9], full: u8) -> Cell
     let m = most(counts);
     let symbol = SILENT - most(lownesses(x, counts, m));
     let s = most(others(x, counts, symbol));
-    let t = larger(1, cast(x));
-    let doubt = doubt(full, m, s, t);
-    Cell { symbol, doubt }
+    let t = cast(x).max(1);
+    Cell {
+        symbol,
+        doubt: doubt(full, m, s, t),
+    }
 }
 
 // For each photograph how many votes its symbol has; and that the symbols are bytes.
 fn counts(x: [u8; 9]) -> [u8; 9]
     ensures { (result ≡ tab 9 (counted x)) × ((k : ℕ) → k < 9 → at x k ≤ 255) }
 {
-    let mut out = [0u8; 9];
-    for k in 0..9 {
-        let v = x[k];
-        out[k] = unless(v, SILENT, votes(x, v));
-    }
-    out
+    array::from_fn(|k| unless(x[k], SILENT, votes(x, x[k])))
 }
 
 // The votes of a symbol, and none where it is the one left out. That the symbol is a byte is told too.
 fn unless(symbol: u8, out: u8, votes: u8) -> u8
-    ensures { (result ≡ cond (eqb symbol out) 0 votes) × (result ≤ votes) × (symbol ≤ 255) }
+    ensures { (result ≡ cond (eqb symbol out) 0 votes) × (symbol ≤ 255) }
 {
-    if symbol == out {
-        return 0;
-    }
-    votes
+    if symbol == out { 0 } else { votes }
 }
 
 // How many of the nine symbols are v.
 fn votes(x: [u8; 9], v: u8) -> u8
-    ensures { result ≡ votes_for x 9 v }
+    ensures { (result ≡ votes_for x 9 v) × (result ≤ 9) }
 {
     let mut n = 0;
-    for k in 0..9 {
-        n += same(x[k], v);
+    for symbol in x {
+        n += u8::from(symbol == v);
     }
     n
-}
-
-// 1 where two symbols are the same, else 0.
-fn same(a: u8, b: u8) -> u8
-    ensures { (result ≡ cond (eqb a b) 1 0) × (result ≤ 1) }
-{
-    if a == b { 1 } else { 0 }
 }
 
 // How many votes are cast.
 fn cast(x: [u8; 9]) -> u8
     ensures { result ≡ cast_in x 9 }
 {
-    let mut n = 0;
-    for k in 0..9 {
-        n += unless(x[k], SILENT, 1);
-    }
-    n
+    9 - votes(x, SILENT)
 }
 
 // The largest of nine numbers.
 fn most(x: [u8; 9]) -> u8
     ensures { result ≡ most_of 9 (at x) }
 {
-    let mut m = 0;
-    for k in 0..9 {
-        m = larger(m, x[k]);
+    let mut m = 0u8;
+    for v in x {
+        m = m.max(v);
     }
     m
-}
-
-// The larger of two numbers.
-fn larger(a: u8, b: u8) -> u8
-    ensures { result ≡ max a b }
-{
-    if a < b {
-        return b;
-    }
-    a
 }
 
 // 255 less the symbol where it has m votes, else 0: the largest of them is that of the smallest symbol.
 fn lownesses(x: [u8; 9], counts: [u8; 9], m: u8) -> [u8; 9]
     ensures { result ≡ tab 9 (lowness x counts m) }
 {
-    let mut out = [0u8; 9];
-    for k in 0..9 {
-        out[k] = low(x[k], counts[k], m);
-    }
-    out
+    array::from_fn(|k| low(x[k], counts[k], m))
 }
 
 fn low(symbol: u8, votes: u8, m: u8) -> u8
     ensures { result ≡ cond (eqb votes m) (255 - symbol) 0 }
 {
-    let less = SILENT - symbol;
-    if votes == m {
-        return less;
-    }
-    0
+    if votes == m { SILENT - symbol } else { 0 }
 }
 
 // The votes of each symbol but the winner.
 fn others(x: [u8; 9], counts: [u8; 9], winner: u8) -> [u8; 9]
     ensures { result ≡ tab 9 (other x counts winner) }
 {
-    let mut out = [0u8; 9];
-    for k in 0..9 {
-        out[k] = unless(x[k], winner, counts[k]);
-    }
-    out
+    array::from_fn(|k| unless(x[k], winner, counts[k]))
 }
 
 // The full doubt less the whole part of full doubt times (m - s) / t.
@@ -139,7 +103,6 @@ fn doubt(full: u8, m: u8, s: u8, t: u8) -> u8
     requires { (s ≤ m) × (m ≤ t) × (0 < t) }
     ensures { result ≡ full - full * (m - s) / t }
 {
-    let lead = (m - s) as u16;
-    let less = full as u16 * lead / t as u16;
-    (full as u16 - less) as u8
+    let less = u16::from(full) * u16::from(m - s) / u16::from(t);
+    full - less as u8
 }

@@ -34,15 +34,16 @@ use Rattle.field.proofs.Congruence.{same, ~sym, ◌⨾◌, ~add, ~mul, less, non
 use Rattle.field.proofs.Row.{set-row, result_row, result_cong}
 use Rattle.polynomial.specs.Eval.{eval, Apart}
 use Rattle.polynomial.proofs.Eval.{eval_front, eval-minus, eval-short, eval_cong}
+use Rattle.polynomial.proofs.Points.{cancel_apart}
 use Rattle.welch_berlekamp.specs.declared.newton.Newton.{Newton}
 use Rattle.welch_berlekamp.specs.Order.{taken, Least}
 use Rattle.welch_berlekamp.specs.Interpolation.{Entered}
-use Rattle.welch_berlekamp.specs.Pairs.{Ratio}
+use Rattle.welch_berlekamp.specs.Pairs.{Ratio, Times, Plus}
 use Rattle.welch_berlekamp.specs.Newton.{base, form, Enough, Fits, Coefficients}
 use Rattle.welch_berlekamp.proofs.Cursor.{zeros-at, next-cell, left-above, entering-start, entering-next}
 use Rattle.welch_berlekamp.proofs.Degrees.{shifted, mixed, degrees-start}
 use Rattle.welch_berlekamp.proofs.Entry.{freed1}
-use Rattle.welch_berlekamp.proofs.State.{minus, Times, Plus, reduced, plus, times, ones_at, zeros-row, ones_row}
+use Rattle.welch_berlekamp.proofs.State.{minus, reduced, plus, times, ones_at, zeros-row, ones_row}
 use Rattle.welch_berlekamp.proofs.State.{entered_of}
 
 pub positive : {q : ℕ} {a : ℕ} → ¬ (Cong q a 0) → 0 < a
@@ -53,8 +54,8 @@ positive {a = suc a} h = omega arith
 apart-two : {q n : ℕ} {x : ℕ → ℕ} → Apart q n x → (j r b : ℕ) → r < n → j < n → j ≢ r →
     Cong q ((x j + q * x r) * b) 0 → Cong q b 0
 apart-two {q} {x} ax j r b l i d h = elim (dec_lt j r) [
-  | yes o ↦ ax.cancel j r b o l h
-  | no o ↦ ax.cancel r j b (omega arith) i (turned ⨾ ~mul q h ⨾ same (omega arith))
+  | yes o ↦ cancel_apart ax j r b o l h
+  | no o ↦ cancel_apart ax r j b (omega arith) i (turned ⨾ ~mul q h ⨾ same (omega arith))
 ]
   where
     turned : Cong q ((x r + q * x j) * b) (q * ((x j + q * x r) * b))
@@ -96,7 +97,11 @@ pub fits-start : {p n k : ℕ} {x y l d : List ℕ} → 1 < p → Enough p n k x
     })
 fits-start {p} {n} {y = y} pos E e = record {
   holds = record {
-    shaped = record { d1 = ones_row pos; e1 = zeros-row z; d2 = result_row _ z e; e2 = ones_row pos; size = refl };
+    shaped = record {
+      first = record { d = ones_row pos; e = zeros-row z };
+      second = record { d = result_row _ z e; e = ones_row pos };
+      size = refl;
+    };
     beyond = λ j _. zeros-at 16 j;
     state = record {
       degrees = λ P L. degrees-start L ones (λ j _. same (zeros-at 16 j)) (reduced z b (λ j. (p - 1) * at y j) e) ones;
@@ -201,10 +206,8 @@ module _ {p n k : ℕ} {x y l : List ℕ} (E : Enough p n k x l) {i : ℕ} {f : 
     fits-take = rw (add-one i) (record {
       holds = record {
         shaped = record {
-          d1 = result_row _ z product;
-          e1 = zeros-row z;
-          d2 = result_row _ z rest;
-          e2 = ones_row pos;
+          first = record { d = result_row _ z product; e = zeros-row z };
+          second = record { d = result_row _ z rest; e = ones_row pos };
           size = length-set f.entered r 1 ∙ F.holds.shaped.size;
         };
         beyond = λ j o. get_or-set_other f.entered r j 1 0 (omega (arith, fits-cell.0)) ∙ F.holds.beyond j o;

@@ -2,12 +2,10 @@
 --
 --   minus                           adding p - a is subtracting a
 --   ratio_is                        a quotient by the table of inverses
---   Times p w f g, Plus p c f g h   what `multiply` and `add_multiple` say of their rows
---   reduced, plus, times            what these rows stand for: the numbers, a mixed row, a shifted one
+--   reduced, plus, times            what the rows of remainders stand for: the numbers, a mixed row, a shifted one
 --   ones_at, zeros-row, ones_row    rows of ones and of zeros
 --   entered_of                      the marks with that of a cell set
---   first-kept, first_grew          the first pair is used: it is 0 at the cell, or not
---   second_kept, second_grew        the second pair is
+--   first_used, second_used         the first pair is used, or the second
 --
 -- What this file is for: the contract of `enter` from those of the functions on rows. Assumes nothing.
 use mathlib.Core.Path.{◌≡◌, refl, ap, ◌∙◌}
@@ -24,7 +22,9 @@ use Rattle.field.specs.Row.{row, Row}
 use Rattle.field.proofs.Congruence.{same, ~sym, ◌⨾◌, ~add, ~mul, ~mul-right, less, mod_cong}
 use Rattle.field.proofs.Row.{row_of, result_row, result_cong}
 use Rattle.welch_berlekamp.specs.Interpolation.{Entered}
-use Rattle.welch_berlekamp.specs.Pairs.{Pairs, pairs, Ratio, Shaped, State, Enters}
+use Rattle.welch_berlekamp.specs.declared.interpolation.Pair.{Pair}
+use Rattle.welch_berlekamp.specs.declared.interpolation.Pairs.{Pairs}
+use Rattle.welch_berlekamp.specs.Pairs.{Ratio, Formed, Shaped, State, Times, Plus, Multiplied, Freed, Lifts, kept, freed, Enters}
 use Rattle.welch_berlekamp.proofs.Cursor.{zeros-at}
 use Rattle.welch_berlekamp.proofs.Degrees.{shifted, mixed}
 use Rattle.welch_berlekamp.proofs.Entry.{kept1, kept2, freed1, freed2}
@@ -41,13 +41,6 @@ ratio_is {p} {b} {i} m a r e z h s l = record {
       ⨾ ~mul m (~sym (mod_cong z (i * b)) ⨾ same h.one))
       ⨾ less 1 (omega arith);
 }
-
--- g is the row f multiplied by w, and h is f + c g
-abbrev pub Times : (p : ℕ) (w f g : List ℕ) → Type 0
-Times p w f g = g ≡ row λ j. at f j * at w j % p
-
-abbrev pub Plus : (p c : ℕ) (f g h : List ℕ) → Type 0
-Plus p c f g h = h ≡ row λ j. (at f j + c * at g j) % p
 
 module _ {p n : ℕ} (z : 0 < p) (b : n ≤ 16) where
   pub reduced : (f : ℕ → ℕ) {l : List ℕ} → l ≡ row (λ j. f j % p) → Agree (p - 1) n (at l) f
@@ -82,46 +75,43 @@ entered_of w r e s l m = record {
   others = λ j n. ap (λ w. at w j) e ∙ get_or-set_other w r j 1 0 n;
 }
 
+-- the pairs after a step
+multiplied_formed : {p : ℕ} {w : List ℕ} {f g : Pair} → 0 < p → Multiplied p w f g → Formed p g
+multiplied_formed z M = record { d = result_row _ z M.d; e = result_row _ z M.e }
+
+freed_formed : {p c : ℕ} {f g h : Pair} → 0 < p → Freed p c f g h → Formed p h
+freed_formed z F = record { d = result_row _ z F.d; e = result_row _ z F.e }
+
 -- what is to be shown of the state after an entry
 enters_of : {p k r : ℕ} {x : List ℕ} {t t' : Pairs} → length t.entered ≡ 16 → t'.entered ≡ set t.entered r 1 →
-    Row p t'.d1 → Row p t'.e1 → Row p t'.d2 → Row p t'.e2 → ((n : ℕ) (y : List ℕ) → n ≤ 16 → r < n →
+    Formed p t'.first → Formed p t'.second → ((n : ℕ) (y : List ℕ) → n ≤ 16 → r < n →
     Entered r (at t.entered) (at t'.entered) → State p n k x y t → State p n k x y t') → Enters p k x r t t'
-enters_of {r} {t} h e d1 e1 d2 e2 v = record {
+enters_of {r} {t} h e first second v = record {
   marks = e;
   holds = λ n y b l m H. record {
-    shaped = record { d1 = d1; e1 = e1; d2 = d2; e2 = e2; size = ap length e ∙ length-set t.entered r 1 ∙ h };
+    shaped = record { first = first; second = second; size = ap length e ∙ length-set t.entered r 1 ∙ h };
     beyond = λ j o. ap (λ w. at w j) e ∙ get_or-set_other t.entered r j 1 0 (omega arith) ∙ H.beyond j o;
     state = v n y b l (entered_of t.entered r e h (omega arith) m) H.state;
   };
 }
 
--- the four returns of `enter`
+-- the two ways to use the pairs
 module _ {p k r : ℕ} {x w : List ℕ} {t : Pairs} (z : 0 < p) (i : at x r ≤ p) (d : w ≡ row (λ j. (at x j + (p - at x r)) % p))
-    (h : Shaped p t) {D E : List ℕ} where
-  -- the first pair is used
-  pub first-kept : at t.d1 r ≡ 0 → Times p w t.d2 D → Times p w t.e2 E →
-      Enters p k x r t (pairs t.d1 t.e1 D E t.a (t.b + 1) (set t.entered r 1))
-  first-kept o f g = enters_of h.size refl h.d1 h.e1 (result_row _ z f) (result_row _ z g) λ n y b l m v.
-      rw (add-one t.b) (kept1 v m l (same o) (times z b r x i d t.d2 f) (times z b r x i d t.e2 g))
+    (h : Shaped p t) {f g : Pair} where
+  pub first_used : t.first.degree ≤ t.second.degree + k → Lifts p w r t.first t.second f g →
+      Enters p k x r t (record { first = f; second = g; entered = set t.entered r 1 })
+  first_used low (kept o e M) = enters_of h.size refl (rw e h.first) (multiplied_formed z M) λ n y b l m v.
+      rw (e, M.degree, add-one t.second.degree) (kept1 v m l (same o) (times z b r x i d t.second.d M.d)
+      (times z b r x i d t.second.e M.e))
+  first_used low (freed c R M F) = enters_of h.size refl (multiplied_formed z M) (freed_formed z F) λ n y b l m v.
+      rw (M.degree, F.degree, add-one t.first.degree) (freed1 v m l c low R.zero (times z b r x i d t.first.d M.d)
+      (times z b r x i d t.first.e M.e) (plus z b c t.second.d t.first.d F.d) (plus z b c t.second.e t.first.e F.e))
 
-  pub first_grew : {F G : List ℕ} (c : ℕ) → t.a ≤ t.b + k → Ratio p (at t.d2 r) (at t.d1 r) c →
-      Plus p c t.d2 t.d1 F → Plus p c t.e2 t.e1 G → Times p w t.d1 D → Times p w t.e1 E →
-      Enters p k x r t (pairs D E F G (t.a + 1) t.b (set t.entered r 1))
-  first_grew c low R F G f g = enters_of h.size refl (result_row _ z f) (result_row _ z g) (result_row _ z F)
-      (result_row _ z G) λ n y b l m v.
-      rw (add-one t.a) (freed1 v m l c low R.zero (times z b r x i d t.d1 f) (times z b r x i d t.e1 g)
-      (plus z b c t.d2 t.d1 F) (plus z b c t.e2 t.e1 G))
-
-  -- the second pair is
-  pub second_kept : at t.d2 r ≡ 0 → Times p w t.d1 D → Times p w t.e1 E →
-      Enters p k x r t (pairs D E t.d2 t.e2 (t.a + 1) t.b (set t.entered r 1))
-  second_kept o f g = enters_of h.size refl (result_row _ z f) (result_row _ z g) h.d2 h.e2 λ n y b l m v.
-      rw (add-one t.a) (kept2 v m l (same o) (times z b r x i d t.d1 f) (times z b r x i d t.e1 g))
-
-  pub second_grew : {F G : List ℕ} (c : ℕ) → t.b + k < t.a → Ratio p (at t.d1 r) (at t.d2 r) c →
-      Plus p c t.d1 t.d2 F → Plus p c t.e1 t.e2 G → Times p w t.d2 D → Times p w t.e2 E →
-      Enters p k x r t (pairs F G D E t.a (t.b + 1) (set t.entered r 1))
-  second_grew c high R F G f g =
-      enters_of h.size refl (result_row _ z F) (result_row _ z G) (result_row _ z f) (result_row _ z g) λ n y b l m v.
-      rw (add-one t.b) (freed2 v m l c high R.zero (times z b r x i d t.d2 f) (times z b r x i d t.e2 g)
-      (plus z b c t.d1 t.d2 F) (plus z b c t.e1 t.e2 G))
+  pub second_used : t.second.degree + k < t.first.degree → Lifts p w r t.second t.first f g →
+      Enters p k x r t (record { first = g; second = f; entered = set t.entered r 1 })
+  second_used high (kept o e M) = enters_of h.size refl (multiplied_formed z M) (rw e h.second) λ n y b l m v.
+      rw (e, M.degree, add-one t.first.degree) (kept2 v m l (same o) (times z b r x i d t.first.d M.d)
+      (times z b r x i d t.first.e M.e))
+  second_used high (freed c R M F) = enters_of h.size refl (freed_formed z F) (multiplied_formed z M) λ n y b l m v.
+      rw (M.degree, F.degree, add-one t.second.degree) (freed2 v m l c high R.zero (times z b r x i d t.second.d M.d)
+      (times z b r x i d t.second.e M.e) (plus z b c t.first.d t.second.d F.d) (plus z b c t.first.e t.second.e F.e))

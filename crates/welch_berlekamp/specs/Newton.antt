@@ -23,7 +23,8 @@ use Rattle.field.specs.Row.{Row}
 use Rattle.polynomial.specs.Eval.{eval, Apart}
 use Rattle.welch_berlekamp.specs.declared.newton.Newton.{Newton}
 use Rattle.welch_berlekamp.specs.Order.{taken, Placed, Entering}
-use Rattle.welch_berlekamp.specs.Pairs.{Pairs, pairs, Holds}
+use Rattle.welch_berlekamp.specs.declared.interpolation.Pairs.{Pairs}
+use Rattle.welch_berlekamp.specs.Pairs.{pairs, Holds}
 
 abbrev pub base : (q : ℕ) (z : ℕ → ℕ) (i X : ℕ) → ℕ
 base q z zero X = 1

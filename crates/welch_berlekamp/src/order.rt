@@ -1,5 +1,7 @@
 // The order in which cells enter: by doubt, and by place among cells of one doubt.
 // A cell's key is 16 times its doubt and its place.
+#![tactic(auto, using(field::proofs::Row::making_done))]
+
 ghost use Rattle.std.specs.Prelude.{◌≡◌, cond, ℕ, ◌≤◌, min, eqb};
 ghost use Rattle.bounded.specs.Bounded.{at};
 ghost use Rattle.field.specs.Row.{row};
@@ -15,10 +17,8 @@ pub fn keys(n: usize, u: [u32; 16]) -> [u32; 16]
     ensures { result ≡ row (λ j. key n (at u j) j) }
 {
     let mut out = [TAKEN; 16];
-    let mut j = 0;
-    while j < n {
+    for j in 0..n {
         out[j] = u[j] * 16 + j as u32;
-        j += 1;
     }
     out
 }
@@ -28,34 +28,20 @@ fn lower(a: u32, b: u32) -> u32
     requires { (a ≤ taken) × (b ≤ taken) }
     ensures { result ≡ min a b }
 {
-    if (a as i32) < (b as i32) {
-        return a;
-    }
-    b
+    (a as i32).min(b as i32) as u32
 }
 
 // The least key.
+#[tactic(auto, using(crate::proofs::Cursor::least_more))]
 pub fn least(keys: [u32; 16]) -> u32
     requires { (j : ℕ) → at keys j ≤ taken }
     ensures { Least 16 keys result }
 {
     let mut best = TAKEN;
-    let mut j = 0;
-    while j < 16 {
+    for j in 0..16 {
         best = lower(keys[j], best);
-        j += 1;
     }
     best
-}
-
-// The key v, where w is not 0.
-fn kept(w: u16, v: u32) -> u32
-    ensures { result ≡ cond (eqb w 0) taken v }
-{
-    if w == 0 {
-        return TAKEN;
-    }
-    v
 }
 
 // The keys of the cells that w marks.
@@ -63,22 +49,10 @@ pub fn marked(w: [u16; 16], keys: [u32; 16]) -> [u32; 16]
     ensures { result ≡ row (λ j. cond (eqb (at w j) 0) taken (at keys j)) }
 {
     let mut out = [TAKEN; 16];
-    let mut j = 0;
-    while j < 16 {
-        out[j] = kept(w[j], keys[j]);
-        j += 1;
+    for j in 0..16 {
+        out[j] = if w[j] == 0 { TAKEN } else { keys[j] };
     }
     out
-}
-
-// The key v, if it is not the one taken.
-fn other(v: u32, key: u32) -> u32
-    ensures { result ≡ cond (eqb v key) taken v }
-{
-    if v == key {
-        return TAKEN;
-    }
-    v
 }
 
 // The keys without the one of a cell that enters. By comparing: a number put in its place would have to be stored before the row
@@ -87,10 +61,8 @@ pub fn without(keys: [u32; 16], key: u32) -> [u32; 16]
     ensures { result ≡ row (λ j. cond (eqb (at keys j) key) taken (at keys j)) }
 {
     let mut out = [TAKEN; 16];
-    let mut j = 0;
-    while j < 16 {
-        out[j] = other(keys[j], key);
-        j += 1;
+    for j in 0..16 {
+        out[j] = if keys[j] == key { TAKEN } else { keys[j] };
     }
     out
 }

@@ -1,4 +1,4 @@
 -- The laws of windows.
 pub mod EndDays
-pub mod Searched
+pub mod Found
 pub mod Seasons

@@ -1,2 +1,2 @@
 -- What the crate's contracts say.
-pub mod Keys
+pub mod Spans

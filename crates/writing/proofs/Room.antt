@@ -3,7 +3,6 @@
 --   room n        its part for n cells, as it is before anything is written
 --   room_most     there are at most so many cells
 --   room-length   the part for n cells has n bytes
---   room_writes   a record can be written into it
 --
 -- What this file is for: a mark that is written for a call's own use. Assumes nothing.
 use mathlib.Core.Path.{◌≡◌}
@@ -11,9 +10,8 @@ use mathlib.Core.List.{List}
 use Prim.Native.Nat.{ℕ, ◌≤◌}
 use native.Mathlib.Omega.{arith}
 use lib.ListN.{length, take, replicate, length-take}
-use Rattle.definitions.specs.Code.{Code, cells, IsRecord}
+use Rattle.definitions.specs.Code.{Code, cells}
 use Rattle.definitions.specs.Sound.{Sound}
-use Rattle.definitions.specs.Accepted.{Writing}
 use Rattle.definitions.proofs.Sound.{cells-most}
 
 abbrev pub room : ℕ → List ℕ
@@ -25,6 +23,3 @@ module _ (C : Code) {P : List ℕ} (S : Sound P) {n : ℕ} (e : n ≡ cells C P)
 
   pub room-length : n ≡ length (room n)
   room-length = rw length-take (omega (arith, room_most))
-
-  pub room_writes : {F : List ℕ} → IsRecord C P F → Writing C P F (room n)
-  room_writes f = record { sound = S; given = f; room = omega (arith, room-length, e) }

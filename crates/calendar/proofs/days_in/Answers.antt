@@ -9,7 +9,7 @@ returns-then-is_short c =
     let e = sym c.is_short.ensures ∙ c.if-is_short.true in
     sym (other_month c.args.year c.args.month c.requires.0 c.requires.1 c.if-month-eq2.false ∙ ap (λ b. cond b 30 31) e)
 
-pub returns : goal.returns
-returns c =
+pub returns-else-is_short : goal.returns-else-is_short
+returns-else-is_short c =
     let e = sym c.is_short.ensures ∙ c.if-is_short.false in
     sym (other_month c.args.year c.args.month c.requires.0 c.requires.1 c.if-month-eq2.false ∙ ap (λ b. cond b 30 31) e)

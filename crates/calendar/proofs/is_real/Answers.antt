@@ -1,19 +1,19 @@
--- `calendar::is_real` meets its contract: a number outside its bounds, or else the day, decides. Assumes nothing.
-use native.Mathlib.Omega.{arith}
+-- `calendar::is_real` meets its contract: a year or a month outside its bounds, or else the day, decides. Assumes nothing.
+use mathlib.Core.Path.{sym, ◌∙◌}
+use mathlib.Core.Bool.{true≢false}
+use borrow.Author.Tests.{leb-true, le-leb}
+use Rattle.bounded.proofs.Parts.{both, each-true}
 use Rattle.calendar.proofs.Real.{unreal, real-day}
 use Rattle.calendar.proofs.is_real.Goals as goal
 
-pub returns-then-date-lt1900 : goal.returns-then-date-lt1900
-returns-then-date-lt1900 c = unreal _ λ r. omega (arith, r.from, c.if-date-lt1900.true)
+pub returns-then-is_month : goal.returns-then-is_month
+returns-then-is_month c =
+    let (january, _) = both _ _ c.if-is_month.true in
+    let (era, _) = both _ _ january in
+    let (from, to) = both _ _ era in
+    real-day _ (leb-true _ _ from) (leb-true _ _ to) c.days_in.ensures
 
-pub returns-then-date-gt2199 : goal.returns-then-date-gt2199
-returns-then-date-gt2199 c = unreal _ λ r. omega (arith, r.to, c.if-date-gt2199.true)
-
-pub returns-then-date-lt1 : goal.returns-then-date-lt1
-returns-then-date-lt1 c = unreal _ λ r. omega (arith, r.january, c.if-date-lt1.true)
-
-pub returns-then-date-gt12 : goal.returns-then-date-gt12
-returns-then-date-gt12 c = unreal _ λ r. omega (arith, r.december, c.if-date-gt12.true)
-
-pub returns : goal.returns
-returns c = real-day _ (omega arith) (omega arith) c.days_in.ensures
+pub returns-else-is_month : goal.returns-else-is_month
+returns-else-is_month c = c.if-is_month.false ∙ unreal _ λ r.
+    let era = each-true (le-leb _ _ r.from) (le-leb _ _ r.to) in
+    true≢false (sym (each-true (each-true era (le-leb _ _ r.january)) (le-leb _ _ r.december)) ∙ c.if-is_month.false)

@@ -9,17 +9,10 @@ use Rattle.masking.proofs.shift_all.Goals as goal
 
 pub loop-c-init : goal.loop-c-init
 unfolding tab
-loop-c-init c = refl
-
-pub masked_symbol-requires : goal.masked_symbol-requires
-masked_symbol-requires c =
-    let l = c.loop-c in
-    let h : l.c < length c.args.symbols.now = omega arith in
-    let (_, value, symbol) = c.requires in
-    (value l.c h, rw (l.invariant, tab-next _ _ _ h) (symbol l.c h))
+loop-c-init g c = refl
 
 pub loop-c-preserved : goal.loop-c-preserved
-loop-c-preserved c =
+loop-c-preserved g c =
     let l = c.loop-c in
     let h : l.c < length c.args.symbols.now = omega arith in
     rw (c.masked_symbol.ensures, l.invariant, tab-next _ _ _ h) (tab-more _ _ _ h)

@@ -1,6 +1,5 @@
 -- `measuring::measure_row` meets its contract: the cells before j are measured. Assumes nothing.
-use Prim.Native.Nat.{◌*◌, ◌-◌, ◌≤◌}
-use lib.ListN.{length}
+use Prim.Native.Nat.{◌*◌, ◌≤◌}
 use Rattle.bounded.specs.Bounded.{at}
 use Rattle.measuring.specs.Measured.{Measured}
 use Rattle.measuring.proofs.measure_row.Given as goal
@@ -9,6 +8,3 @@ abbrev pub invariant-loop-j : goal.invariant-loop-j
 invariant-loop-j l =
     Measured l.full l.j (at l.symbols) (at l.doubts) (at l.values) l.cost l.differing
     × (l.cost ≤ 131072 * l.j) × (l.differing ≤ l.j)
-
-abbrev pub decreases-loop-j : goal.decreases-loop-j
-decreases-loop-j l = length l.symbols - l.j

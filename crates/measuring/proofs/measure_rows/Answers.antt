@@ -15,7 +15,7 @@ loop-r-preserved c =
       omega (arith, t.1, l.invariant.0),
       omega (arith, t.2, l.invariant.1),
       λ x y F C P. measured-more g.b l.r _ _ _ (l.invariant.2 x y F C P)
-          (measured_part (l.r * g.b) c.args.symbols.now c.args.doubts.now (omega (arith, c.requires.3, h))
-          (grid-row g.p g.d g.b l.r x y F c.requires.0.columns (c.row_values-values.ensures.1 x y F C P))
+          (measured_part (l.r * g.b) c.args.symbols.now c.args.doubts.now (omega (arith, c.requires.2, h))
+          (grid-row g.modulus.p g.d g.b l.r x y F g.fit.columns (c.row_values-values.ensures.1 x y F C P))
           t.0),
     )

@@ -7,15 +7,15 @@ use Rattle.plan.proofs.Reached.{pairs_tell}
 use Rattle.plan.proofs.is_misplaced.Goals as goal
 
 pub loop-i-init : goal.loop-i-init
-loop-i-init c = (omega arith, sym (any-start _))
+loop-i-init c = sym (any-start _)
 
 pub loop-i-preserved : goal.loop-i-preserved
 loop-i-preserved c =
     let s = c.args in
-    (omega arith, any_next _ _ c.loop-i.invariant.1 (rw (add_assoc s.a c.loop-i.i 1) at c.is_wrong_point-found.ensures))
+    any_next _ _ c.loop-i.invariant (rw (c.from.ensures, add_assoc s.a c.loop-i.i 1) at c.is_wrong_point-found.ensures)
 
 pub returns : goal.returns
 returns c =
     let s = c.args in
     let e : c.loop-i.i ≡ 16 = omega arith in
-    rw e at c.loop-i.invariant.1 ∙ pairs_tell s.plan.now s.a s.n (omega arith)
+    rw e at c.loop-i.invariant ∙ pairs_tell s.plan.now s.a s.n (omega arith)

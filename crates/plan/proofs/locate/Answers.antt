@@ -1,50 +1,35 @@
--- `plan::locate` meets its contract: none of the first k records has the season. Assumes nothing.
-use mathlib.Core.Path.{◌≡◌, sym, ◌∙◌}
-use Prim.Native.Nat.{◌*◌, ◌<◌}
+-- `plan::locate` meets its contract: the record that is found is the file's first of the season. Assumes nothing.
+use mathlib.Core.Path.{refl, ap, ◌∙◌}
+use mathlib.Core.Logic.{inl}
+use Prim.Native.Nat.{◌*◌}
 use native.Mathlib.Omega.{arith}
-use lib.Dec.{lit<}
-use borrow.Author.Tests.{eq-eqb, ne_eqb}
-use Rattle.bounded.proofs.Any.{some-any, any-more, any-start}
-use Rattle.definitions.specs.Plan.{season}
-use Rattle.definitions.specs.Finder.{plans, plan_at, find_rows}
-use Rattle.definitions.proofs.Refusals.{equal, unequal, not-true, turned_true}
-use Rattle.definitions.proofs.Finder.{season-bytes, find_at, nowhere, offset-found}
-use borrow.Author.Rules.{rules}
+use Rattle.bounded.proofs.Index.{index-end, index-some}
+use Rattle.definitions.specs.Numbers.{number_of}
+use Rattle.definitions.specs.Finder.{find_rows, find_number, find_offset}
+use Rattle.definitions.proofs.Refusals.{not-true, turned_true}
+use Rattle.definitions.proofs.Numbers.{ends, ◌then◌, refused, handed}
+use Rattle.plan.proofs.Records.{not-found}
 use Rattle.plan.proofs.locate.Goals as goal
 
-pub returns-then-file-ne0 : goal.returns-then-file-ne0
-unfolding find_rows
-returns-then-file-ne0 c =
-    let e = find_at _ _ 0 (unequal _ _ c.if-file-ne0.true) in
-    record { number = e; offset = sym (nowhere _ _ (λ z. omega (arith, e, z))).0 }
+pub returns-in_err-when : goal.returns-in_err-when
+unfolding find_rows find_number
+returns-in_err-when c =
+    let e = ends _ (find_rows _ _) (refused _ c.from_residual.ensures.1 c.in_err-when.ensures refl refl) in
+    record { number = e; offset = not-found _ _ _ c.from_residual.ensures.0 e }
 
-pub loop-k-init : goal.loop-k-init
-loop-k-init c = (search rules, any-start _, search rules)
-
-pub returns-then-pair-season : goal.returns-then-pair-season
-unfolding find_rows
-returns-then-pair-season c =
-    let file = c.args.file.now in
-    let k = c.loop-k.k in
-    let l : k < plans file = omega arith in
-    let s : season (plan_at file k) ≡ c.args.season =
-    season-bytes file (k * 40) 40 (lit< tt) ∙ sym c.pair.ensures ∙ c.if-pair-season.true in
-    let e = find_at _ _ 2 (equal _ _ c.if-file-ne0.false, (not-true (some-any _ _ k l (eq-eqb _ _ s)), tt)) in
-    record { number = e; offset = offset-found _ _ k l c.loop-k.invariant.1 s e }
-
-pub loop-k-preserved : goal.loop-k-preserved
-loop-k-preserved c =
-    let file = c.args.file.now in (
-      search rules,
-      any-more _ _ c.loop-k.invariant.1
-          (ne_eqb _ _ λ e. c.if-pair-season.false (c.pair.ensures ∙ sym (season-bytes file (c.loop-k.k * 40) 40 (lit< tt)) ∙ e)),
-      c.loop-k.invariant.2,
-    )
+pub returns-in_err-k : goal.returns-in_err-k
+unfolding find_rows find_number
+returns-in_err-k c =
+    let none = c.in_err-k.ensures.ok_part in
+    let missing = turned_true (index-end _ _ (rw none at c.first_of.ensures)) in
+    let e = handed _ _ c.from_residual-in_err-k.ensures.1 ∙ ap number_of (rw none at c.in_err-k.ensures.value)
+    ∙ ends 12 (find_rows _ _) (c.in_ok-when.ensures then inl (missing, refl)) in
+    record { number = e; offset = not-found _ _ _ c.from_residual-in_err-k.ensures.0 e }
 
 pub returns : goal.returns
-unfolding find_rows
+unfolding find_rows find_number find_offset
 returns c =
-    let l = c.loop-k in
-    let n : l.k ≡ plans c.args.file.now = omega arith in
-    let e = find_at _ _ 1 (equal _ _ c.if-file-ne0.false, turned_true (rw n at l.invariant.1)) in
-    record { number = e; offset = l.invariant.2 ∙ sym (nowhere _ _ (λ z. omega (arith, e, z))).0 }
+    let (l, f) = rw c.in_ok-k.ensures.ok_part at c.first_of.ensures in
+    let there = not-true (index-some _ _ λ z. omega (arith, z)) in
+    let e = ends 0 (find_rows c.args.file.now c.args.season) (c.in_ok-when.ensures then there then refl) in
+    record { number = e; offset = rw (← e) (ap (λ k. k * 40) f) }

@@ -1,13 +1,7 @@
--- `votes::cast` meets its contract: the photographs before k are counted. Assumes nothing.
-use mathlib.Core.Path.{refl}
-use native.Mathlib.Omega.{arith}
-use Rattle.votes.specs.Votes.{cast}
-use Rattle.votes.proofs.Voting.{cast-next}
+-- `votes::cast` meets its contract: of nine symbols those that are not 255 cast a vote. Assumes nothing.
+use Rattle.std.proofs.Common.{arith}
+use Rattle.votes.proofs.Voting.{cast-silent}
 use Rattle.votes.proofs.cast.Goals as goal
 
-pub loop-k-init : goal.loop-k-init
-unfolding cast
-loop-k-init c = (omega arith, refl, omega arith)
-
-pub loop-k-preserved : goal.loop-k-preserved
-loop-k-preserved c = (omega arith, cast-next _ _ c.loop-k.invariant.1 c.unless-n.ensures.0, omega arith)
+pub returns : goal.returns
+returns c = omega (arith, cast-silent c.args.x 9, c.votes.ensures.0)

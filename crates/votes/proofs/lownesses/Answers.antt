@@ -1,17 +1,7 @@
--- `votes::lownesses` meets its contract: the entries before k are written. Assumes nothing.
-use mathlib.Core.Path.{refl}
-use Prim.Native.Nat.{◌<◌}
-use native.Mathlib.Omega.{arith}
-use Rattle.bounded.specs.Bounded.{tab}
-use Rattle.bounded.proofs.Tab.{tab-more}
+-- `votes::lownesses` meets its contract: what is made for each place is its entry. Assumes nothing.
+use Rattle.std.proofs.Common.{rules}
+use Rattle.votes.proofs.Made.{made-tab}
 use Rattle.votes.proofs.lownesses.Goals as goal
 
-pub loop-k-init : goal.loop-k-init
-unfolding tab
-loop-k-init c = (omega arith, refl)
-
-pub loop-k-preserved : goal.loop-k-preserved
-loop-k-preserved c =
-    let l = c.loop-k in
-    let h : l.k < 9 = omega arith in
-    (omega arith, rw (c.low.ensures, l.invariant.1) (tab-more _ _ _ h))
+pub returns : goal.returns
+returns c = made-tab _ _ _ _ 9 (λ k y q call. search rules) c.from_fn.ensures.items

@@ -1,13 +1,12 @@
--- `votes::most` meets its contract: it has the largest of those before k. Assumes nothing.
-use mathlib.Core.Path.{refl, ◌∙◌}
-use native.Mathlib.Omega.{arith}
+-- `votes::most` meets its contract: it has the largest of those so far. Assumes nothing.
+use Rattle.std.proofs.Common.{refl, ◌∙◌}
 use Rattle.votes.specs.Votes.{most}
 use Rattle.votes.proofs.Largest.{most-next}
 use Rattle.votes.proofs.most.Goals as goal
 
-pub loop-k-init : goal.loop-k-init
+pub loop-v-init : goal.loop-v-init
 unfolding most
-loop-k-init c = (omega arith, refl)
+loop-v-init c = refl
 
-pub loop-k-preserved : goal.loop-k-preserved
-loop-k-preserved c = (omega arith, c.larger-m.ensures ∙ most-next _ _ c.loop-k.invariant.1 refl)
+pub loop-v-preserved : goal.loop-v-preserved
+loop-v-preserved c = c.max-m.ensures ∙ most-next _ _ c.loop-v.invariant refl

@@ -1,12 +1,8 @@
--- `votes::most` meets its contract: it has the largest of those before k. Assumes nothing.
-use mathlib.Core.Path.{◌≡◌}
-use Prim.Native.Nat.{◌-◌, ◌≤◌}
+-- `votes::most` meets its contract: it has the largest of those so far. Assumes nothing.
+use Rattle.std.proofs.Common.{◌≡◌}
 use Rattle.bounded.specs.Bounded.{at}
 use Rattle.votes.specs.Votes.{most}
 use Rattle.votes.proofs.most.Given as goal
 
-abbrev pub invariant-loop-k : goal.invariant-loop-k
-invariant-loop-k l = (l.k ≤ 9) × (l.m ≡ most l.k (at l.x))
-
-abbrev pub decreases-loop-k : goal.decreases-loop-k
-decreases-loop-k l = 9 - l.k
+abbrev pub invariant-loop-v : goal.invariant-loop-v
+invariant-loop-v l = l.m ≡ most l.v-index (at l.v-items)

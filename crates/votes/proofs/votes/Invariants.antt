@@ -1,11 +1,7 @@
--- `votes::votes` meets its contract: the photographs before k are counted. Assumes nothing.
-use mathlib.Core.Path.{◌≡◌}
-use Prim.Native.Nat.{◌-◌, ◌≤◌}
+-- `votes::votes` meets its contract: the photographs so far are counted. Assumes nothing.
+use Rattle.std.proofs.Common.{◌≡◌, ◌≤◌}
 use Rattle.votes.specs.Votes.{votes}
 use Rattle.votes.proofs.votes.Given as goal
 
-abbrev pub invariant-loop-k : goal.invariant-loop-k
-invariant-loop-k l = (l.k ≤ 9) × (l.n ≡ votes l.x l.k l.v) × (l.n ≤ l.k)
-
-abbrev pub decreases-loop-k : goal.decreases-loop-k
-decreases-loop-k l = 9 - l.k
+abbrev pub invariant-loop-symbol : goal.invariant-loop-symbol
+invariant-loop-symbol l = (l.n ≡ votes l.symbol-items l.symbol-index l.v) × (l.n ≤ l.symbol-index)

@@ -1,11 +1,10 @@
--- `windows::is_met` meets its contract: what is found is whether one of the windows before j meets it. Assumes nothing.
-use mathlib.Core.Path.{refl, sym}
-use native.Mathlib.Omega.{arith}
+-- `windows::is_met` meets its contract: what is found is whether one of the windows before it meets the span. Assumes nothing.
+use Rattle.std.proofs.Common.{sym}
 use Rattle.bounded.proofs.Any.{any-start, any_next}
 use Rattle.windows.proofs.is_met.Goals as goal
 
-pub loop-j-init : goal.loop-j-init
-loop-j-init c = (omega arith, sym (any-start _))
+pub loop-other-init : goal.loop-other-init
+loop-other-init c = sym (any-start _)
 
-pub loop-j-preserved : goal.loop-j-preserved
-loop-j-preserved c = (omega arith, any_next _ _ c.loop-j.invariant.1 refl)
+pub loop-other-preserved : goal.loop-other-preserved
+loop-other-preserved c = any_next _ _ c.loop-other.invariant c.meets-found.ensures

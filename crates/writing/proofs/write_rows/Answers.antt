@@ -18,7 +18,7 @@ loop-r-preserved c x y F C P =
     let l = c.loop-r in
     let g = c.args.g in
     let within = row_in l.r g.a g.b c.loop-r-test.true in
-    row_more g.b l.r (grid_value g.p g.d g.b (at x) (at y) F) c.args.mark.now l.mark _ (l.invariant x y F C P)
+    row_more g.b l.r (grid_value g.modulus.p g.d g.b (at x) (at y) F) c.args.mark.now l.mark _ (l.invariant x y F C P)
     (c.store.ensures
-    ∙ ap (λ k. tab k (at c.row_values-values.result)) (part_length _ _ l.mark (omega (arith, c.requires.3, within)))
-    ∙ tab-eq g.b (grid-row g.p g.d g.b l.r x y F c.requires.0.columns (c.row_values-values.ensures.1 x y F C P)))
+    ∙ ap (λ k. tab k (at c.row_values-values.result)) (part_length _ _ l.mark (omega (arith, c.requires.2, within)))
+    ∙ tab-eq g.b (grid-row g.modulus.p g.d g.b l.r x y F g.fit.columns (c.row_values-values.ensures.1 x y F C P)))

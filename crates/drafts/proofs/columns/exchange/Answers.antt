@@ -8,12 +8,10 @@ use Rattle.grid.proofs.Answers.{column-row}
 use Rattle.drafts.proofs.columns.exchange.Goals as goal
 
 pub loop-t-preserved : goal.loop-t-preserved
-loop-t-preserved c =
+loop-t-preserved c p pos rows old =
     let l = c.loop-t in
-    let (pos, rows, _, few) = c.requires in (
-      omega arith,
-      record {
-        rows = upto_put _ (omega (arith, few)) (column-row l.t pos rows c.place_of_each-line.ensures) l.invariant.1.rows;
-        kept = λ j k. get_or-set_other l.columns l.t j c.place_of_each-line.result [] (omega arith) ∙ l.invariant.1.kept j k;
-      },
-    )
+    let R = l.invariant p pos rows old in
+    record {
+      rows = upto_put _ (omega arith) (column-row l.t pos rows c.place_of_each.ensures) R.rows;
+      kept = λ j k. get_or-set_other l.columns l.t j c.place_of_each.result [] (omega arith) ∙ R.kept j k;
+    }

@@ -6,6 +6,5 @@ use Rattle.drafts.proofs.newton.change_to_powers.Goals as goal
 
 pub loop-j-preserved : goal.loop-j-preserved
 loop-j-preserved c =
-    let l = c.loop-j in
-    let next = result_row _ (omega (arith, c.requires.0.least)) c.add_multiple-next.ensures in
-    (omega arith, omega arith, next, upto_put _ (omega (arith, c.requires.3)) next l.invariant.3)
+    let next = result_row _ (omega (arith, c.args.modulus.reciprocal.least)) c.add_multiple-next.ensures in
+    (next, upto_put _ (omega arith) next c.loop-j.invariant.1)

@@ -2,10 +2,15 @@
 use Prim.Native.Nat.{◌<◌}
 use native.Mathlib.Omega.{arith}
 use Rattle.field.proofs.Loop.{upto_put}
+use Rattle.field.proofs.Row.{result_row}
 use Rattle.drafts.proofs.newton.divide_differences.Goals as goal
+
+pub scale-requires : goal.scale-requires
+scale-requires c =
+    (result_row _ (omega (arith, c.args.modulus.reciprocal.least)) c.subtract.ensures, omega arith)
 
 pub loop-j-preserved : goal.loop-j-preserved
 loop-j-preserved c =
-    let (_, _, base, rows) = c.loop-j.invariant in
-    let small : c.loop-j.j < 16 = omega (arith, c.requires.4) in
-    (omega arith, omega arith, base, upto_put _ small c.quotient-next.ensures rows)
+    let small : c.loop-j.j < 16 = omega arith in
+    let row = result_row _ (omega (arith, c.args.modulus.reciprocal.least)) c.scale.ensures in
+    upto_put _ small row c.loop-j.invariant

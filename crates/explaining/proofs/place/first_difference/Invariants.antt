@@ -1,14 +1,9 @@
 -- `explaining::place::first_difference` meets its contract: none of the first c places differs. Assumes nothing.
 use mathlib.Core.Path.{◌≡◌}
 use mathlib.Core.Bool.{false, not}
-use Prim.Native.Nat.{◌-◌, ◌≤◌}
 use lib.Dec.{eqb}
-use lib.ListN.{length}
 use Rattle.bounded.specs.Bounded.{at, any}
 use Rattle.explaining.proofs.place.first_difference.Given as goal
 
 abbrev pub invariant-loop-c : goal.invariant-loop-c
-invariant-loop-c l = (l.c ≤ length l.a) × (any l.c (λ i. not (eqb (at l.a i) (at l.b i))) ≡ false)
-
-abbrev pub decreases-loop-c : goal.decreases-loop-c
-decreases-loop-c l = length l.a - l.c
+invariant-loop-c l = any l.c (λ i. not (eqb (at l.a i) (at l.b i))) ≡ false

@@ -1,6 +1,6 @@
 -- `grid::lines::carry` meets its contract: the places below r hold what is kept. Assumes nothing.
 use mathlib.Core.Path.{◌≡◌}
-use Prim.Native.Nat.{◌-◌, ◌≤◌}
+use Rattle.std.specs.Prelude.{None}
 use Rattle.bounded.specs.Bounded.{at}
 use Rattle.field.specs.Loop.{Upto}
 use Rattle.grid.specs.Answers.{kept}
@@ -8,7 +8,4 @@ use Rattle.grid.proofs.lines.carry.Given as goal
 
 abbrev pub invariant-loop-r : goal.invariant-loop-r
 invariant-loop-r l =
-    (l.r ≤ 16) × Upto 16 0 (λ j v. v ≡ kept (at l.leading j) (at l.found j) (at l.costs j) l.radius) l.out l.r
-
-abbrev pub decreases-loop-r : goal.decreases-loop-r
-decreases-loop-r l = 16 - l.r
+    Upto 16 None (λ j v. v ≡ kept (at l.leading j) (at l.found j) (at l.costs j) l.radius) l.out l.r

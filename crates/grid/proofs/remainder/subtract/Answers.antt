@@ -25,13 +25,14 @@ unchanged {p} {z} {l} w R b e = tab-is 16 _ l R.size λ c _.
 
 pub loop-r-preserved : goal.loop-r-preserved
 loop-r-preserved c =
-    let (f, sq, _, _) = c.requires in
-    let (_, rows, passed) = c.loop-r.invariant in
-    let h : c.loop-r.r < 16 = omega (arith, f.rows) in
+    let g = c.args.g in
+    let (sq, _, _) = c.requires in
+    let (rows, passed) = c.loop-r.invariant in
+    let h : c.loop-r.r < 16 = omega (arith, g.fit.rows) in
     let old = passed.todo _ (omega arith) c.loop-r-test.true in
     elim c.if-v-r-ne0.branch [
-      | then-v-r-ne0 w ↦ let row = result_row _ (positive f) w.add_multiple-next.ensures in
-          rw w.left-is (omega arith, upto_put _ h row rows, passed_step _ h (rw old at w.add_multiple-next.ensures) passed)
-      | else-v-r-ne0 w ↦ let is = unchanged c.args.power (sq.done _ h) (positive f) w.if-v-r-ne0.false in
-          rw w.left-is (omega arith, rows, passed_over (rw old is) passed)
+      | then-v-r-ne0 w ↦ let row = result_row _ (positive g) w.add_multiple.ensures in
+          rw w.left-is (upto_put _ h row rows, passed_step _ h (rw old at w.add_multiple.ensures) passed)
+      | else-v-r-ne0 w ↦ let is = unchanged c.args.power (sq.done _ h) (positive g) w.if-v-r-ne0.false in
+          rw w.left-is (rows, passed_over (rw old is) passed)
     ]

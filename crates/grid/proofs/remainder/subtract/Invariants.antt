@@ -2,7 +2,7 @@
 -- they were. Assumes nothing.
 use mathlib.Core.Path.{◌≡◌}
 use mathlib.Core.List.{[]}
-use Prim.Native.Nat.{◌+◌, ◌*◌, ◌-◌, ◌%◌, ◌≤◌}
+use Prim.Native.Nat.{◌+◌, ◌*◌, ◌-◌, ◌%◌}
 use Rattle.bounded.specs.Bounded.{at}
 use Rattle.field.specs.Loop.{Passed}
 use Rattle.field.specs.Row.{row}
@@ -12,8 +12,5 @@ use Rattle.grid.proofs.remainder.subtract.Given as goal
 
 abbrev pub invariant-loop-r : goal.invariant-loop-r
 invariant-loop-r l =
-    (l.r ≤ l.g.a) × Rows l.g.p l.left × Passed l.g.a [] (λ r k. k ≡ line l.initial.left r)
-    (λ r k. k ≡ row λ c. (cell_at l.initial.left r c + (l.g.p - at l.v r) * at l.power c) % l.g.p) l.left l.r
-
-abbrev pub decreases-loop-r : goal.decreases-loop-r
-decreases-loop-r l = l.a - l.r
+    Rows l.g.modulus.p l.left × Passed l.g.a [] (λ r k. k ≡ line l.initial.left r)
+    (λ r k. k ≡ row λ c. (cell_at l.initial.left r c + (l.g.modulus.p - at l.v r) * at l.power c) % l.g.modulus.p) l.left l.r

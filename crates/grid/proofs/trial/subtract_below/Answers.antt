@@ -10,17 +10,18 @@ use Rattle.grid.proofs.trial.subtract_below.Goals as goal
 pub loop-j-preserved : goal.loop-j-preserved
 loop-j-preserved c =
     let l = c.loop-j in
-    let (f, _, xs, ys, _, _, _) = c.requires in
     let g = c.args.g in
+    let (_, xs, ys, _, _, _) = c.requires in
+    let (rows, drawn) = l.invariant in
     let e : l.j ≡ suc (l.j - 1) = omega arith in
-    let values = c.values-v.ensures.1 g.x (powers-less g.p g.x (omega arith) xs) in
+    let values = c.values-v.ensures.1 g.x (powers-less g.modulus.p g.x (omega arith) xs) in
     let W = c.subtract.ensures in
-    let lessened = without_subtracted (l.j - 1) f _ _ (line c.args.columns.now (l.j - 1)) l.invariant.1 values
+    let lessened = without_subtracted (l.j - 1) _ _ (line c.args.columns.now (l.j - 1)) rows values
     (ys.powers.done (l.j - 1) (omega arith)) W in
-    (omega arith, W.rows, λ s u D. drawn_next (omega arith) (rw e at (l.invariant.2 s u D)) W.rows lessened)
+    (W.rows, λ s u D. drawn_next (omega arith) (rw e at (drawn s u D)) W.rows lessened)
 
 pub returns : goal.returns
 returns c =
     let l = c.loop-j in
     let e : l.j ≡ 0 = omega arith in
-    λ s u D. rw e at (l.invariant.2 s u D)
+    λ s u D. rw e at (l.invariant.1 s u D)

@@ -1,32 +1,23 @@
--- `planwiden::answer::answer_input` meets its contract: by the number of the call. Assumes nothing.
-use mathlib.Core.Path.{◌≡◌, sym, ap, ◌∙◌}
-use Prim.Native.Nat.{ℕ, ◌*◌, ◌/◌}
-use native.Mathlib.Omega.{arith}
-use lib.ListN.{length, take, length-take, take-append-drop}
-use Rattle.definitions.proofs.Widening.{widen-refused, widen-filled, print_widened, print_refused, widened_in_order}
+-- `planwiden::answer::answer_input` meets its contract: by the outcome of the call. Assumes nothing.
+use Rattle.std.proofs.Common.{◌≡◌, ℕ, ◌*◌, ◌/◌, ◌≤◌, length, take, replicate, sym, ap, ◌∙◌, length-take, arith}
+use Rattle.definitions.specs.Printed.{refused_line}
+use Rattle.definitions.proofs.Numbers.{number-some}
+use Rattle.definitions.proofs.Widening.{widen-filled, print_widened, print_refused}
 use Rattle.planwiden.proofs.answer.answer_input.Goals as goal
-use Rattle.planwiden.proofs.answer.answer_input.Goals.{Start}
 
--- the bytes that the plans need, and the front of the text, which has as many
-abbrev size : Start → ℕ
-size s = length s.args.old.now / 24 * 40
+-- the room for the plans has as many bytes as they need
+front : (n : ℕ) → n ≤ 40000 → length {A = ℕ} (take n (replicate 40000 0)) ≡ n
+front n l = simp length-take (omega arith)
 
-front : (s : Start) → length (take (size s) s.args.text.now) ≡ size s
-front s = simp length-take (omega (arith, s.requires))
-
-pub returns-then-number-ne0 : goal.returns-then-number-ne0
-returns-then-number-ne0 c =
-    let e = c.widen-number.ensures in
-    let kept = e.buffer ∙ widen-refused _ _ (λ z. c.if-number-ne0.true (e.number ∙ z)) in
-    let print = print_refused _ _ (front (goal.at.returns-then-number-ne0 c).Start) _ e.number c.if-number-ne0.true in
-    rw (print, kept, take-append-drop) at c.put_refused.ensures
+pub returns-in-Err : goal.returns-in-Err
+returns-in-Err c =
+    let room = front (length c.args.old.now / 24 * 40) (omega (arith, c.requires)) in
+    c.refused.ensures ∙ ap refused_line c.number.ensures
+    ∙ print_refused _ _ room _ c.in-Err.ensures.number (number-some c.in-Err.refusal)
 
 pub returns : goal.returns
 returns c =
-    let e = c.widen-number.ensures in
-    let z = sym c.if-number-ne0.false ∙ e.number in
-    let all = print_widened _ _ (front (goal.at.returns c).Start) z in record {
-      fits = omega (arith, c.requires);
-      end = omega (arith, ap length all, (widened_in_order c.args.old.now).whole);
-      text = rw (e.buffer, ← widen-filled _ _ z, all);
-    }
+    let e = c.in_default.ensures in
+    let room = front (length c.args.old.now / 24 * 40) (omega (arith, c.requires)) in
+    rw (c.put_bytes.ensures, c.new-text.ensures)
+    (e.buffer ∙ sym (widen-filled _ _ e.number) ∙ print_widened _ _ room e.number)

@@ -7,16 +7,13 @@ use Rattle.field.proofs.Row.{filled_row}
 use Rattle.polynomial.proofs.Record.{place-below}
 use Rattle.polynomial.proofs.bivariate.coefficient_of_y.Goals as goal
 
-pub bounds-message-at : goal.bounds-message-at
-bounds-message-at c = omega (arith, place-below c.loop-i.i c.args.t (suc c.args.d) (omega arith), c.place-at.ensures)
+pub bounds-message-place : goal.bounds-message-place
+bounds-message-place c = omega (arith, place-below c.loop-i.i c.args.t (suc c.args.d) (omega arith), c.place.ensures)
 
 pub loop-i-preserved : goal.loop-i-preserved
 loop-i-preserved c =
-    let a = c.args in
-    let e = le-leb (c.loop-i.i + a.t) a.d (omega arith) in
-    (omega arith, passed_step _ (omega arith) (rw (e, c.place-at.ensures)) c.loop-i.invariant.1)
+    let e = le-leb (c.loop-i.i + c.args.t) c.args.d (omega arith) in
+    passed_step _ (omega arith) (rw (e, c.from.ensures, c.place.ensures)) c.loop-i.invariant
 
 pub returns : goal.returns
-returns c =
-    let a = c.args in
-    filled_row (λ k l. rw (lt-leb (k + a.t) a.d (omega arith))) c.loop-i.invariant.1
+returns c = filled_row (λ k l. rw (lt-leb (k + c.args.t) c.args.d (omega arith))) c.loop-i.invariant

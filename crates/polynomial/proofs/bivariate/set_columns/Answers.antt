@@ -9,29 +9,25 @@ use Rattle.polynomial.proofs.bivariate.set_columns.Goals as goal
 
 pub values-requires : goal.values-requires
 values-requires c =
-    let t = c.loop-t.t in (
-      c.requires.0,
-      c.requires.1,
-      coefficients-row c.args.d t c.args.message.now (omega (arith, c.requires.0.least)) c.requires.3 (omega arith)
-          c.coefficient_of_y-w.ensures c.requires.2,
-      omega arith,
-    )
+    let (P, F, d, _) = c.requires in
+    let z : 0 < c.args.modulus.p = omega (arith, c.args.modulus.reciprocal.least) in
+    let w = c.coefficient_of_y-w.ensures in
+    (P, coefficients-row c.args.d c.loop-t.t c.args.message.now z d (omega arith) w F, omega arith)
 
 pub loop-t-preserved : goal.loop-t-preserved
 loop-t-preserved c =
     let l = c.loop-t in
-    let z : 0 < c.args.p = omega (arith, c.requires.0.least) in
+    let z : 0 < c.args.modulus.p = omega (arith, c.args.modulus.reciprocal.least) in
     let F = c.args.message.now in
     let w = c.coefficient_of_y-w.ensures in (
-      omega arith,
-      upto_put _ (omega arith) c.values.ensures.0 l.invariant.1,
+      upto_put _ (omega arith) c.values.ensures.0 l.invariant.0,
       λ x P.
-          let v = c.values.ensures.1 x (powers-less c.args.p x (omega arith) P) in
-          upto_step _ (omega arith) (column-values c.args.d l.t F z c.requires.3 (omega arith) w x v) (l.invariant.2 x P),
+          let v = c.values.ensures.1 x (powers-less c.args.modulus.p x (omega arith) P) in
+          upto_step _ (omega arith) (column-values c.args.d l.t F z c.requires.2 (omega arith) w x v) (l.invariant.1 x P),
     )
 
 pub returns : goal.returns
 returns c =
     let l = c.loop-t in
     let e : l.t ≡ suc c.args.d = omega arith in
-    (l.invariant.1, λ x P. rw e at (l.invariant.2 x P))
+    (l.invariant.0, λ x P. rw e at (l.invariant.1 x P))

@@ -4,4 +4,4 @@ use Rattle.polynomial.proofs.Powers.{zero-rows}
 use Rattle.polynomial.proofs.evaluation.powers.Goals as goal
 
 pub set_powers-requires : goal.set_powers-requires
-set_powers-requires c = let (m, x, d) = c.requires in (m, x, d, zero-rows (omega (arith, m.least)))
+set_powers-requires c = let (x, d) = c.requires in (x, d, zero-rows (omega (arith, c.args.modulus.reciprocal.least)))

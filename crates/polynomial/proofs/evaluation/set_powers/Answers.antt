@@ -11,31 +11,30 @@ use Rattle.polynomial.proofs.evaluation.set_powers.Goals as goal
 
 pub loop-t-init : goal.loop-t-init
 loop-t-init c =
-    let (m, X, _, R) = c.requires in
-    let x = c.args.x in (
-      omega arith,
-      omega arith,
-      start-rows x m.least X R,
-      rw (start-points x m.least X R) (powers-start x m.least X R),
-    )
+    let (X, _, R) = c.requires in
+    let x = c.args.x in
+    let m = c.args.modulus.reciprocal.least in
+    (start-rows x m X R, rw (start-points x m X R) (powers-start x m X R))
+
+pub multiply-requires : goal.multiply-requires
+multiply-requires c =
+    let R = c.loop-t.invariant.0 in
+    (R.done (c.loop-t.t / 2) (omega arith), R.done (c.loop-t.t - c.loop-t.t / 2) (omega arith))
 
 pub loop-t-preserved : goal.loop-t-preserved
 loop-t-preserved c =
     let l = c.loop-t in
     let t = l.t in
-    let z : 0 < c.args.p = omega (arith, c.requires.0.least) in
+    let z : 0 < c.args.modulus.p = omega (arith, c.args.modulus.reciprocal.least) in
     let e : t / 2 + (t - t / 2) ≡ t = omega arith in
     let x = get_or (set (set c.args.rows.now 0 (replicate 16 1)) 1 c.args.x) 1 [] in
-    let next = rw e at (powers_step (t / 2) (t - t / 2) x z (l.invariant.3.done (t / 2) (omega arith))
-    (l.invariant.3.done (t - t / 2) (omega arith)) c.multiply.ensures) in (
-      omega arith,
-      omega arith,
-      upto_put _ (omega arith) (result_row _ z next) l.invariant.2,
-      upto_step _ (omega arith) next l.invariant.3,
-    )
+    let next = rw e at (powers_step (t / 2) (t - t / 2) x z (l.invariant.1.done (t / 2) (omega arith))
+    (l.invariant.1.done (t - t / 2) (omega arith)) c.multiply.ensures) in
+    (upto_put _ (omega arith) (result_row _ z next) l.invariant.0, upto_step _ (omega arith) next l.invariant.1)
 
 pub returns : goal.returns
 returns c =
     let l = c.loop-t in
-    let (m, X, _, R) = c.requires in
-    (l.invariant.2, upto_less (omega arith) (rw (start-points c.args.x m.least X R) at l.invariant.3))
+    let (X, _, R) = c.requires in
+    let e = start-points c.args.x c.args.modulus.reciprocal.least X R in
+    (l.invariant.0, upto_less (omega arith) (rw e at l.invariant.1))

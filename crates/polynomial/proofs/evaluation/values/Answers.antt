@@ -1,38 +1,52 @@
--- `polynomial::evaluation::values` meets its contract: the sums have the first i terms at each point. Assumes nothing.
+-- `polynomial::evaluation::values` meets its contract: the sums have as many terms at each point as coefficients were taken.
+-- Assumes nothing.
 use mathlib.Core.Path.{◌≡◌}
-use Prim.Native.Nat.{suc, ◌<◌}
+use Prim.Native.Nat.{suc, ◌+◌, ◌<◌}
 use native.Mathlib.Omega.{arith}
+use lib.ListN.{length}
+use borrow.Author.Rules.{rules}
+use Rattle.std.proofs.lemmas.List.{length-append}
 use Rattle.bounded.specs.Bounded.{at}
 use Rattle.field.proofs.Row.{result_row}
+use Rattle.polynomial.proofs.Beside.{term_taken, terms_taken}
 use Rattle.polynomial.proofs.Powers.{terms_first, terms_more, terms_row, term_fits, terms_values}
 use Rattle.polynomial.proofs.evaluation.values.Goals as goal
 
-pub loop-i-init : goal.loop-i-init
-loop-i-init c = let a = c.args in (omega arith, omega arith, terms_first a.powers.now (at a.w))
+pub loop-c-init : goal.loop-c-init
+loop-c-init c = terms_first c.args.powers.now (at c.args.w) c.from-sum.ensures
 
 pub add_product-requires : goal.add_product-requires
 add_product-requires c =
-    let b = c.requires in
-    let l = c.loop-i in
-    term_fits b.0.most b.1 (λ t _. b.2.small t) l.i (omega arith) l.invariant.2
+    let (R, W, _) = c.requires in
+    let l = c.loop-c in
+    let t = term_taken c.args.k c.args.w c.args.powers.now l.yielded c.into_iter-c-iterator.result l.c-iterator c.next.new.self
+    c.next.result (search rules) (search rules) l.yielded_by c.next.ensures.steps (c.in-Some.c, c.in-Some.v) c.in-Some.is in
+    term_fits c.args.modulus.reciprocal.most R (λ t _. W.small t) (length l.yielded + 1) (omega arith) l.invariant (t.1 0) t.2
 
-pub loop-i-preserved : goal.loop-i-preserved
-loop-i-preserved c =
-    let a = c.args in
-    let l = c.loop-i in
-    let w = at a.w in
-    (omega arith, omega arith, terms_more a.powers.now w l.i (omega arith) l.invariant.2 c.add_product.ensures)
+pub loop-c-preserved : goal.loop-c-preserved
+loop-c-preserved c =
+    let l = c.loop-c in
+    let t = term_taken c.args.k c.args.w c.args.powers.now l.yielded c.into_iter-c-iterator.result l.c-iterator c.next.new.self
+    c.next.result (search rules) (search rules) l.yielded_by c.next.ensures.steps (c.in-Some.c, c.in-Some.v) c.in-Some.is in
+    simp length-append (terms_more c.args.powers.now (at c.args.w) (length l.yielded + 1) (omega arith) l.invariant (t.1 0) t.2
+    c.add_product.ensures)
 
 pub fold_row-requires : goal.fold_row-requires
 fold_row-requires c =
-    let b = c.requires in
-    let l = c.loop-i in
-    (b.0, λ j k. (terms_row b.0.most b.1 (λ t _. b.2.small t) l.i (omega arith) l.invariant.2).small j)
+    let (R, W, d) = c.requires in
+    let l = c.loop-c in
+    let all = terms_taken c.args.k c.args.w c.args.powers.now l.yielded c.into_iter-c-iterator.result l.c-iterator c.next.new.self
+    c.next.result (search rules) (search rules) l.yielded_by c.next.ensures.steps c.in-None.is W.size R.size d in
+    let rows = terms_row c.args.modulus.reciprocal.most R (λ t _. W.small t) (length l.yielded + 1) (omega arith) l.invariant in
+    λ j k. rows.small j
 
 pub returns : goal.returns
 returns c =
-    let l = c.loop-i in
-    let z : 0 < c.args.p = omega (arith, c.requires.0.least) in
-    let e : l.i ≡ suc c.args.k = omega arith in
+    let (R, W, d) = c.requires in
+    let l = c.loop-c in
+    let all = terms_taken c.args.k c.args.w c.args.powers.now l.yielded c.into_iter-c-iterator.result l.c-iterator c.next.new.self
+    c.next.result (search rules) (search rules) l.yielded_by c.next.ensures.steps c.in-None.is W.size R.size d in
+    let e : length l.yielded + 1 ≡ suc c.args.k = omega arith in
+    let z : 0 < c.args.modulus.p = omega (arith, c.args.modulus.reciprocal.least) in
     let f = c.fold_row.ensures in
-    (result_row _ z f, λ x P. terms_values (at c.args.w) x z P (rw e at l.invariant.2) f)
+    (result_row _ z f, λ x P. terms_values (at c.args.w) x z P (rw e at l.invariant) f)

@@ -1,19 +1,18 @@
--- `reading::load::doubt_rows` meets its contract: the rows before r are set. Assumes nothing.
-use mathlib.Core.Path.{◌≡◌}
+-- `reading::load::doubt_rows` meets its contract: the rows are the grid's, and below it there is nothing. Assumes nothing.
 use native.Mathlib.Omega.{arith}
-use Rattle.field.proofs.Loop.{passed_step, passed_rest}
-use Rattle.reading.proofs.Cells.{no_line}
+use Rattle.std.proofs.Common.{rules}
+use Rattle.field.proofs.Loop.{passed_rest}
+use Rattle.bounded.proofs.Part.{row_in}
+use Rattle.reading.proofs.Cells.{no_line, part_line}
 use Rattle.reading.proofs.load.doubt_rows.Goals as goal
-
-pub loop-r-preserved : goal.loop-r-preserved
-loop-r-preserved c = (
-  omega arith,
-  passed_step _ (omega (arith, c.requires.0)) c.doubt_line-next.ensures
-      c.loop-r.invariant.1,
-)
 
 pub returns : goal.returns
 returns c =
-    let given = c.args in
-    let e : c.loop-r.r ≡ given.a = omega arith in
-    passed_rest (rw e at c.loop-r.invariant.1) λ r l. no_line given.a given.b r given.doubts.now l c.requires.2
+    let g = c.args.g in
+    let u = c.args.doubts.now in
+    let p = c.rows.ensures in
+    passed_rest (record {
+      size = p.size;
+      done = λ r l. let h = p.done r l in part_line g.b r u (search rules) (omega (arith, c.requires, row_in r g.a g.b l));
+      todo = p.todo;
+    }) λ r l. no_line g.a g.b r u l c.requires

@@ -1,14 +1,9 @@
--- `reading::mark::total` meets its contract: the doubts before i are summed, each a byte. Assumes nothing.
+-- `reading::mark::total` meets its contract: the doubts so far are summed, each a byte. Assumes nothing.
 use mathlib.Core.Path.{◌≡◌}
-use Prim.Native.Nat.{◌*◌, ◌-◌, ◌≤◌}
-use lib.ListN.{length}
+use Prim.Native.Nat.{◌*◌, ◌≤◌}
 use Rattle.bounded.specs.Bounded as bounded
 use Rattle.bounded.specs.Bounded.{at}
 use Rattle.reading.proofs.mark.total.Given as goal
 
-abbrev pub invariant-loop-i : goal.invariant-loop-i
-invariant-loop-i l = (l.i ≤ length l.doubts) × (l.i-end ≡ length l.doubts) × (l.sum ≡ bounded.sum l.i (at l.doubts))
-    × (l.sum ≤ 255 * l.i)
-
-abbrev pub decreases-loop-i : goal.decreases-loop-i
-decreases-loop-i l = length l.doubts - l.i
+abbrev pub invariant-loop-doubt : goal.invariant-loop-doubt
+invariant-loop-doubt l = (l.sum ≡ bounded.sum l.doubt-index (at l.doubts)) × (l.sum ≤ 255 * l.doubt-index)

@@ -1,14 +1,10 @@
 -- `reed_muller::solver::solve_by_degrees` meets its contract: the coefficients of Y^t and higher are found and subtracted.
 -- Assumes nothing.
-use Prim.Native.Nat.{◌+◌, ◌≤◌}
+use Prim.Native.Nat.{◌≤◌}
 use Rattle.grid.specs.Axes.{ColumnPowers}
 use Rattle.reed_muller.specs.Steps.{Solving}
 use Rattle.reed_muller.proofs.solver.solve_by_degrees.Given as goal
 
 abbrev pub invariant-loop-t : goal.invariant-loop-t
 invariant-loop-t l =
-    (l.t ≤ l.g.d + 1) × Solving l.g l.t l.initial.left l.doubts l.left l.columns l.messages l.known ×
-    (l.t ≤ l.g.d → ColumnPowers l.g l.ys)
-
-abbrev pub decreases-loop-t : goal.decreases-loop-t
-decreases-loop-t l = l.t
+    Solving l.g l.t l.initial.left l.doubts l.left l.columns l.messages l.known × (l.t ≤ l.g.d → ColumnPowers l.g l.ys)

@@ -3,4 +3,4 @@ use Rattle.reed_muller.proofs.Drafts.{drawn_drafted}
 use Rattle.reed_muller.proofs.solver.try_cells.Goals as goal
 
 pub returns : goal.returns
-returns c = drawn_drafted c.requires.2 c.from_cells.ensures c.complete.ensures
+returns c = drawn_drafted c.requires.1 c.from_cells.ensures c.complete.ensures

@@ -7,16 +7,16 @@ use Rattle.reed_solomon.proofs.decoder.attempt.Goals.{After-marked}
 
 -- the usable cells are enough
 enough : (c : After-marked) → let g = c.args.g in
-    Enough g.p g.n g.k g.x c.marked.result
+    Enough g.modulus.p g.n g.k g.x c.marked.result
 enough c =
     let (R, _, K, C) = c.requires in
-    enough-usable R C.holds c.usable_cells-v.ensures K c.marked.ensures C.hoped
+    enough-usable R C.holds c.chosen-usable.ensures K c.marked.ensures C.hoped
 
 pub through-f-requires : goal.through-f-requires
 through-f-requires c =
     let (R, I, _, _) = c.requires in
     let e = enough (goal.at.through-f-requires c).After-marked in
-    (R.axis.reciprocal, I, R.axis.points, R.symbols, record { n = _; enough = e })
+    (I, R.axis.points, R.symbols, record { n = _; enough = e })
 
 pub measured-requires : goal.measured-requires
 measured-requires c =
@@ -25,5 +25,5 @@ measured-requires c =
 pub returns : goal.returns
 returns c =
     let (R, _, K, C) = c.requires in
-    tried_usable R C.holds c.usable_cells-v.ensures K c.marked.ensures
+    tried_usable R C.holds c.chosen-usable.ensures K c.marked.ensures
     (c.through-f.ensures _ (enough (goal.at.returns c).After-marked)) c.measured.ensures

@@ -1,11 +1,8 @@
 -- `reed_solomon::decoder::doubt_sum` meets its contract: the sum of the first j doubts. Assumes nothing.
 use mathlib.Core.Path.{◌≡◌}
-use Prim.Native.Nat.{◌*◌, ◌-◌, ◌≤◌}
+use Prim.Native.Nat.{◌*◌, ◌≤◌}
 use Rattle.bounded.specs.Bounded.{at, sum}
 use Rattle.reed_solomon.proofs.decoder.doubt_sum.Given as goal
 
 abbrev pub invariant-loop-j : goal.invariant-loop-j
-invariant-loop-j l = (l.j ≤ l.n) × (l.doubts ≡ sum l.j (at l.u)) × (l.doubts ≤ 65535 * l.j)
-
-abbrev pub decreases-loop-j : goal.decreases-loop-j
-decreases-loop-j l = l.n - l.j
+invariant-loop-j l = (l.doubts ≡ sum l.j (at l.u)) × (l.doubts ≤ 65535 * l.j)

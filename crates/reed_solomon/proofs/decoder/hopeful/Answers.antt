@@ -11,32 +11,33 @@ use Rattle.reed_solomon.proofs.decoder.hopeful.Goals as goal
 use Rattle.reed_solomon.proofs.decoder.hopeful.Goals.{After-count}
 
 -- the usable cells were counted
-counted : (c : After-count) → let args = c.args in
-    c.count.result ≡ sum 16 (usable (at args.entered) (at args.e))
+counted : (c : After-count) → let t = c.args.pairs.now in
+    c.count.result ≡ sum 16 (usable (at t.entered) (at t.second.e))
 counted c =
-    c.count.ensures ∙ usable-sum (at c.args.entered) (at c.args.e) c.usable_cells.ensures
+    let t = c.args.pairs.now in
+    c.count.ensures ∙ usable-sum (at t.entered) (at t.second.e) c.chosen.ensures
 
-pub returns-then-a-b : goal.returns-then-a-b
-returns-then-a-b c = λ d1 e1. record { yes = λ e. absurd (false≢true e); no = λ _ s R H. refuted_low R H c.if-a-b.true }
+pub returns-then-pairs-g : goal.returns-then-pairs-g
+returns-then-pairs-g c = record { yes = λ e. absurd (false≢true e); no = λ _ s R H. refuted_low R H c.if-pairs-g.true }
 
 pub count-requires : goal.count-requires
-count-requires c = usable_bits (at c.args.entered) (at c.args.e) c.usable_cells.ensures c.requires.3
+count-requires c =
+    let t = c.args.pairs.now in
+    usable_bits (at t.entered) (at t.second.e) c.chosen.ensures c.requires.3
 
-pub returns-then-count-a : goal.returns-then-count-a
-returns-then-count-a c = λ d1 e1. record {
+pub returns-then-count-pairs : goal.returns-then-count-pairs
+returns-then-count-pairs c = record {
   yes = λ e. absurd (false≢true e);
-  no = λ _ s R H. refuted_count R H λ e. c.if-count-a.true (counted (goal.at.returns-then-count-a c).After-count ∙ e);
+  no = λ _ s R H. refuted_count R H λ e. c.if-count-pairs.true (counted (goal.at.returns-then-count-pairs c).After-count ∙ e);
 }
 
 pub returns : goal.returns
-returns c =
-    λ d1 e1. record {
-      yes = λ e. record {
-        high = c.if-a-b.false;
-        count = sym (counted (goal.at.returns c).After-count) ∙ c.if-count-a.false;
-      };
-      no = λ e s R H.
-          let over = ltb-false c.word_cost-cost.result c.radius.result e in
-          refuted_suspect R H c.suspect_cells.ensures
-          (omega (arith, c.word_cost-cost.ensures.0, c.radius.ensures.0, over));
-    }
+returns c = record {
+  yes = λ e. record {
+    high = c.if-pairs-g.false;
+    count = sym (counted (goal.at.returns c).After-count) ∙ c.if-count-pairs.false;
+  };
+  no = λ e s R H.
+      let over = ltb-false c.word_cost-cost.result c.radius.result e in
+      refuted_suspect R H c.chosen-suspect.ensures (omega (arith, c.word_cost-cost.ensures.0, c.radius.ensures.0, over));
+}

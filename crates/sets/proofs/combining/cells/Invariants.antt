@@ -1,7 +1,6 @@
 -- `sets::combining::cells` meets its contract: the cells before c are combined. Assumes nothing.
 use mathlib.Core.Path.{◌≡◌}
 use mathlib.Core.List.{◌++◌}
-use Prim.Native.Nat.{◌-◌, ◌≤◌}
 use lib.ListN.{length, drop}
 use Rattle.bounded.specs.Bounded.{tab}
 use Rattle.votes.specs.Votes.{symbol_of, doubt_of}
@@ -10,10 +9,6 @@ use Rattle.sets.proofs.combining.cells.Given as goal
 
 abbrev pub invariant-loop-c : goal.invariant-loop-c
 invariant-loop-c l =
-    (l.c ≤ length l.initial.symbols) × (l.c-end ≡ length l.initial.symbols) × (length l.symbols ≡ length l.initial.symbols)
-    × (length l.doubts ≡ length l.initial.symbols)
+    (length l.doubts ≡ length l.initial.symbols)
     × (l.symbols ≡ tab l.c (λ c. symbol_of (column l.set c) 9) ++ drop l.c l.initial.symbols)
     × (l.doubts ≡ tab l.c (λ c. doubt_of l.full (column l.set c) 9) ++ drop l.c l.initial.doubts)
-
-abbrev pub decreases-loop-c : goal.decreases-loop-c
-decreases-loop-c l = length l.initial.symbols - l.c

@@ -1,25 +1,9 @@
--- `sets::combining::column` meets its contract: the symbols of the photographs before k are there. Assumes nothing.
-use mathlib.Core.Path.{◌≡◌, refl, ◌∙◌}
-use Prim.Native.Nat.{◌+◌, ◌<◌}
-use native.Mathlib.Omega.{arith}
-use lib.ListN.{replicate}
-use Rattle.bounded.specs.Bounded.{at, tab}
-use Rattle.bounded.proofs.Tab.{tab-more, tab-whole}
-use Rattle.definitions.specs.Sets.{place, column}
+-- `sets::combining::column` meets its contract: each call of the closure reads one photograph's symbol. Assumes nothing.
+use borrow.Author.Rules.{rules}
+use Rattle.definitions.specs.Sets.{column}
+use Rattle.sets.proofs.Made.{made}
 use Rattle.sets.proofs.combining.column.Goals as goal
-
-pub loop-k-init : goal.loop-k-init
-unfolding tab
-loop-k-init c = (omega arith, refl)
-
-pub loop-k-preserved : goal.loop-k-preserved
-loop-k-preserved c =
-    let l = c.loop-k in
-    let h : l.k < 9 = omega arith in
-    (omega arith, rw l.invariant.1 (tab-more l.k (λ k. at c.args.set.now (place k + c.args.c)) (replicate 9 0) h))
 
 pub returns : goal.returns
 unfolding column
-returns c =
-    let e : c.loop-k.k ≡ 9 = omega arith in
-    rw e at c.loop-k.invariant.1 ∙ tab-whole 9 _ (replicate 9 0) refl
+returns c = made _ _ _ c.from_fn.result (λ i y q k. (search rules, search rules)) 9 c.from_fn.ensures.items

@@ -1,13 +1,8 @@
 -- `trayread::lines::put_counts` meets its contract: the four numbers one after the other, each of at most 10 digits. Assumes
 -- nothing.
-use mathlib.Core.Path.{◌≡◌}
-use mathlib.Core.List.{[], ◌∷◌, ◌++◌}
-use Prim.Native.Nat.{ℕ, ◌≤◌}
-use native.Mathlib.Omega.{arith}
-use lib.ListN.{length, length-append}
+use Rattle.std.proofs.Common.{◌≡◌, [], ◌∷◌, ◌++◌, ℕ, ◌≤◌, length, ap, ◌∙◌, append_assoc, length-append, arith}
 use Rattle.definitions.specs.Printed.{spaced}
 use Rattle.definitions.proofs.Printed.{spaced-append, number-length}
-use Rattle.text.proofs.Put.{put_then, put-length}
 use Rattle.trayread.proofs.lines.put_counts.Goals as goal
 use Rattle.trayread.proofs.lines.put_counts.Goals.{Start}
 
@@ -31,29 +26,31 @@ lengths s = (
   number-length s.args.reading.class (omega arith),
 )
 
-pub put_spaced-at-requires : goal.put_spaced-at-requires
-put_spaced-at-requires c = omega (arith, c.requires, lengths (goal.at.put_spaced-at-requires c).Start)
-
-pub put_spaced-at-requires-2 : goal.put_spaced-at-requires-2
-put_spaced-at-requires-2 c =
-    let p = c.put_spaced-at.ensures in
-    omega (arith, c.requires, p.end, put-length p, lengths (goal.at.put_spaced-at-requires-2 c).Start)
-
-pub put_spaced-at-requires-3 : goal.put_spaced-at-requires-3
-put_spaced-at-requires-3 c =
-    let p = put_then c.put_spaced-at.ensures c.put_spaced-at-2.ensures in
-    omega (arith, c.requires, simp length-append at p.end, put-length p, lengths (goal.at.put_spaced-at-requires-3 c).Start)
-
 pub put_spaced-requires : goal.put_spaced-requires
-put_spaced-requires c =
-    let p = put_then (put_then c.put_spaced-at.ensures c.put_spaced-at-2.ensures) c.put_spaced-at-3.ensures in
-    omega (arith, c.requires, simp length-append at p.end, put-length p, lengths (goal.at.put_spaced-requires c).Start)
+put_spaced-requires c = omega (arith, c.requires, lengths (goal.at.put_spaced-requires c).Start)
+
+pub put_spaced-requires-2 : goal.put_spaced-requires-2
+put_spaced-requires-2 c =
+    let l = lengths (goal.at.put_spaced-requires-2 c).Start in
+    omega (arith, c.requires, l, simp length-append at (ap length c.put_spaced.ensures))
+
+pub put_spaced-requires-3 : goal.put_spaced-requires-3
+put_spaced-requires-3 c =
+    let l = lengths (goal.at.put_spaced-requires-3 c).Start in
+    let e = rw c.put_spaced.ensures at c.put_spaced-2.ensures in
+    omega (arith, c.requires, l, simp length-append at (ap length e))
+
+pub put_spaced-requires-4 : goal.put_spaced-requires-4
+put_spaced-requires-4 c =
+    let l = lengths (goal.at.put_spaced-requires-4 c).Start in
+    let e = rw (c.put_spaced-2.ensures, c.put_spaced.ensures) at c.put_spaced-3.ensures in
+    omega (arith, c.requires, l, simp length-append at (ap length e))
 
 pub returns : goal.returns
 returns c =
-    let three = put_then (put_then c.put_spaced-at.ensures c.put_spaced-at-2.ensures) c.put_spaced-at-3.ensures in
-    let p = put_then three c.put_spaced.ensures in
+    let l = lengths (goal.at.returns c).Start in
+    let e = rw (c.put_spaced-3.ensures, c.put_spaced-2.ensures, c.put_spaced.ensures) at c.put_spaced-4.ensures in
     record {
-      numbers = rw (four _ _ _ _) p;
-      most = omega (arith, simp length-append at p.end, lengths (goal.at.returns c).Start);
+      numbers = e ∙ rw (four _ _ _ _) (simp append_assoc);
+      most = omega (arith, l, simp length-append at (ap length e));
     }

@@ -1,11 +1,6 @@
 -- `trayseason::answer::answer` meets its contract: the room has one byte more than 64 windows. Assumes nothing.
-use mathlib.Core.Path.{◌≡◌, sym, ◌∙◌}
-use mathlib.Core.Bool.{true}
-use Prim.Native.Nat.{◌*◌, ◌<◌}
-use native.Mathlib.Omega.{arith}
-use lib.ListN.{length, take}
+use Rattle.std.proofs.Common.{◌≡◌, true, ◌*◌, ◌<◌, length, take, sym, ◌∙◌, arith}
 use Rattle.definitions.specs.Dated.{dated}
-use Rattle.text.proofs.Put.{put-none}
 use Rattle.definitions.proofs.Dated.{dated-length, dated-text, undated_text, room-season}
 use Rattle.trayseason.proofs.answer.answer.Goals as goal
 use Rattle.trayseason.proofs.answer.answer.Goals.{Else-not-is_dated}
@@ -16,13 +11,8 @@ form c = sym c.is_dated.ensures ∙ c.if-not-is_dated.false
 
 pub returns-then-not-is_dated : goal.returns-then-not-is_dated
 returns-then-not-is_dated c =
-    let s = c.args in
-    let e = sym c.is_dated.ensures ∙ c.if-not-is_dated.true in
-    let none = undated_text s.word.now e in
-    record {
-      decided = rw (none (take s.came s.space.now)) (put-none _ _ (omega arith));
-      whole = λ input h. none _ ∙ sym (none input);
-    }
+    let none = undated_text c.args.word.now (sym c.is_dated.ensures ∙ c.if-not-is_dated.true) in
+    record { decided = c.new.ensures ∙ sym (none _); whole = λ input h. none _ ∙ sym (none input) }
 
 pub asked_date-requires : goal.asked_date-requires
 asked_date-requires c = dated-length _ (form (goal.at.asked_date-requires c).Else-not-is_dated)

@@ -7,4 +7,4 @@ use Rattle.welch_berlekamp.proofs.interpolation.ratio.Goals as goal
 pub returns : goal.returns
 returns c =
     ratio_is _ c.args.a _ (omega arith) (omega arith)
-    (c.requires.1.each c.args.b c.requires.3 c.requires.4) c.reduce.ensures.0 c.reduce.ensures.1
+    (c.requires.0.each c.args.b c.requires.2 c.requires.3) (rw c.from.ensures at c.reduce.ensures.0) c.reduce.ensures.1

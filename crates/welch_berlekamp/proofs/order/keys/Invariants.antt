@@ -1,13 +1,9 @@
 -- `welch_berlekamp::order::keys` meets its contract: the keys are those of j cells. Assumes nothing.
 use mathlib.Core.Path.{◌≡◌}
-use Prim.Native.Nat.{◌-◌, ◌≤◌}
 use Rattle.bounded.specs.Bounded.{at}
 use Rattle.field.specs.Loop.{Upto}
 use Rattle.welch_berlekamp.specs.Order.{key}
 use Rattle.welch_berlekamp.proofs.order.keys.Given as goal
 
 abbrev pub invariant-loop-j : goal.invariant-loop-j
-invariant-loop-j l = (l.j ≤ l.n) × Upto 16 0 (λ i v. v ≡ key l.j (at l.u i) i) l.out 16
-
-abbrev pub decreases-loop-j : goal.decreases-loop-j
-decreases-loop-j l = l.n - l.j
+invariant-loop-j l = Upto 16 0 (λ i v. v ≡ key l.j (at l.u i) i) l.out 16

@@ -1,6 +1,5 @@
 -- `welch_berlekamp::order::marked` meets its contract: the places below j hold the keys that are wanted. Assumes nothing.
 use mathlib.Core.Bool.{cond}
-use Prim.Native.Nat.{◌-◌}
 use lib.Dec.{eqb}
 use Rattle.bounded.specs.Bounded.{at}
 use Rattle.field.proofs.Row.{Making}
@@ -9,6 +8,3 @@ use Rattle.welch_berlekamp.proofs.order.marked.Given as goal
 
 abbrev pub invariant-loop-j : goal.invariant-loop-j
 invariant-loop-j l = Making (λ k. cond (eqb (at l.w k) 0) taken (at l.keys k)) l.out l.j
-
-abbrev pub decreases-loop-j : goal.decreases-loop-j
-decreases-loop-j l = 16 - l.j

@@ -1,2 +1,0 @@
--- What the contracts of the checks need beside the definitions.
-pub mod Kind

@@ -1,2 +1,0 @@
--- What the crate's contracts say.
-pub mod Put
