@@ -4,4 +4,5 @@
 pub mod bytes;
 pub mod inverse;
 pub mod modulus;
+pub mod rows;
 pub mod scalar;

@@ -7,6 +7,7 @@ ghost use Rattle.std.specs.Prelude.{◌≡◌, ℕ, ◌+◌, ◌*◌, ◌-◌, �
 ghost use Rattle.bounded.specs.Bounded.{at};
 ghost use Rattle.field.specs.Row.{row, Row, Reciprocal};
 
+use crate::rows;
 use std::array;
 
 // p, and m = 65536 / p, by which a product is divided by p.
@@ -78,23 +79,12 @@ impl Modulus {
         array::from_fn(|j| self.reduce(c * a[j]))
     }
 
-    // t modulo p, for t below 2 p.
-    fn less(self, t: u16) -> u16
-        requires { t < self.p + self.p }
-        ensures { (result ≡ t % self.p) × (result < self.p) }
-    {
-        if t >= self.p {
-            return t - self.p;
-        }
-        t
-    }
-
     // a + c in each place. A c of p - v subtracts v.
     pub fn shift(self, a: [u16; 16], c: u16) -> [u16; 16]
         requires { Row self.p a × (c ≤ self.p) }
         ensures { result ≡ row (λ j. (at a j + c) % self.p) }
     {
-        array::from_fn(|j| self.less(a[j] + c))
+        rows::shift(a, c, self.p)
     }
 
     // a - b.
@@ -102,7 +92,7 @@ impl Modulus {
         requires { Row self.p a × Row self.p b }
         ensures { result ≡ row (λ j. (at a j + (self.p - at b j)) % self.p) }
     {
-        array::from_fn(|j| self.less(a[j] + (self.p - b[j])))
+        rows::subtract(a, b, self.p)
     }
 
     // t modulo p, with c = 256 modulo p: what stands above the low eight bits counts c for each 256. Below 2^24 = 16777216 that

@@ -1,7 +1,7 @@
--- `field::modulus::Modulus::shift` meets its contract: each place holds a + c. Assumes nothing.
+-- `field::rows::shift` meets its contract: each place holds a + c. Assumes nothing.
 use borrow.Author.Rules.{rules}
 use Rattle.field.proofs.Row.{row_from_fn}
-use Rattle.field.proofs.modulus.Modulus.shift.Goals as goal
+use Rattle.field.proofs.rows.shift.Goals as goal
 
 pub returns : goal.returns
 returns c = row_from_fn _ (λ j v g i k. search rules) c.from_fn.ensures.items
