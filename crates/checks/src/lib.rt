@@ -84,8 +84,9 @@ pub fn explain<K: Kind>(
 
 // Refusals 6, 17, 7 and 8, those of photograph k that arrives in the set under whose own plan it is.
 pub fn add(plan: Plan, set: &[u8], k: u32, symbols: &[u8], doubts: &[u8]) -> Result<(), Refusal>
-    requires { (bytes_of plan ≡ set_plan set.now) × (length set.now ≡ set_bytes) }
-    ensures { number_of result ≡ add_number set.now k symbols.now doubts.now }
+    requires { length set.now ≡ set_bytes }
+    ensures { bytes_of plan ≡ set_plan set.now →
+        number_of result ≡ add_number set.now k symbols.now doubts.now }
 {
     let n = Mark::cell_count(plan);
     Refusal::Length.when(symbols.len() != n)?;

@@ -1,4 +1,4 @@
-// Lent bytes of a photograph as rows of sixteen; what is beyond their end is 0.
+// Lent bytes of a photograph as rows of sixteen; what is beyond their end is 0. A grid has a rows of b cells each.
 ghost use Rattle.std.specs.Prelude.{◌≡◌, [], ◌*◌, ◌≤◌, length, replicate};
 ghost use Rattle.std.specs.Fn.{FnReturnsAt};
 ghost use Rattle.bounded.specs.Bounded.{at};
@@ -8,7 +8,6 @@ ghost use Rattle.reading.specs.Loading.{residue, line, SymbolRows, DoubtLines};
 
 use definitions::UNREAD;
 use field::bytes;
-use polynomial::Grid;
 
 // The residue that stands for a symbol.
 fn symbol_residue(symbol: u8) -> u16
@@ -33,32 +32,38 @@ pub fn residue_row(symbols: &[u8]) -> [u16; 16]
 }
 
 // The rows of a grid, each loaded from its own part of the bytes.
-fn rows<T: Copy, F: Fn(&[u8]) -> [T; 16]>(bytes: &[u8], g: Grid, zero: T, load: F) -> [[T; 16]; 16]
-    requires whole { length bytes.now ≡ g.a * g.b }
+fn rows<T: Copy, F: Fn(&[u8]) -> [T; 16]>(
+    bytes: &[u8],
+    a: usize,
+    b: usize,
+    zero: T,
+    load: F,
+) -> [[T; 16]; 16]
+    requires whole { (a ≤ 16) × (b ≤ 16) × (length bytes.now ≡ a * b) }
     requires loads { (part : _) → length part.now ≤ 16 → F.pre load part }
     ensures { Passed 16 [] (λ _ l. l ≡ replicate 16 zero)
-        (λ r l. FnReturnsAt F.Fn load (line g.b r bytes.now) l) result g.a }
+        (λ r l. FnReturnsAt F.Fn load (line b r bytes.now) l) result a }
 {
     let mut rows = [[zero; 16]; 16];
-    for r in 0..g.a {
-        let at = r * g.b;
-        rows[r] = load(&bytes[at..at + g.b]);
+    for r in 0..a {
+        let at = r * b;
+        rows[r] = load(&bytes[at..at + b]);
     }
     rows
 }
 
 // The symbols of a grid as residues.
-pub fn residue_rows(symbols: &[u8], g: Grid) -> [[u16; 16]; 16]
-    requires { length symbols.now ≡ g.a * g.b }
-    ensures { SymbolRows g.b symbols.now result }
+pub fn residue_rows(symbols: &[u8], a: usize, b: usize) -> [[u16; 16]; 16]
+    requires { (a ≤ 16) × (b ≤ 16) × (length symbols.now ≡ a * b) }
+    ensures { SymbolRows b symbols.now result }
 {
-    rows(symbols, g, 0, residue_row)
+    rows(symbols, a, b, 0, residue_row)
 }
 
 // The doubts of a grid.
-pub fn doubt_rows(doubts: &[u8], g: Grid) -> [[u32; 16]; 16]
-    requires { length doubts.now ≡ g.a * g.b }
-    ensures { DoubtLines g.b doubts.now result }
+pub fn doubt_rows(doubts: &[u8], a: usize, b: usize) -> [[u32; 16]; 16]
+    requires { (a ≤ 16) × (b ≤ 16) × (length doubts.now ≡ a * b) }
+    ensures { DoubtLines b doubts.now result }
 {
-    rows(doubts, g, 0, bytes::wide_row)
+    rows(doubts, a, b, 0, bytes::wide_row)
 }

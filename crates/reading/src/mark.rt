@@ -77,9 +77,9 @@ fn decoded(plan: Plan, symbols: &[u8], doubts: &[u8], record: &mut [u8]) -> Resu
     ensures only { MatchResult result (λ r. r.number ≡ 0) (λ e. e ≡ NoneNear) }
 {
     let g = plan.grid;
-    let u = load::doubt_rows(doubts, g);
+    let u = load::doubt_rows(doubts, g.a, g.b);
     let table = inverses(g.modulus);
-    let s = load::residue_rows(symbols, g);
+    let s = load::residue_rows(symbols, g.a, g.b);
     let mut message = [0; LONGEST];
     let Some(found) = decode(g, &table, s, u, &mut message) else {
         return Err(Refusal::NoneNear);

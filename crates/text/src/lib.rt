@@ -107,7 +107,8 @@ impl<const N: usize> Text<N> {
     // The end of a line: the cost, of at most 10 digits, and the margin, of at most 11 characters, each after a space.
     pub fn put_costs(&mut self, reading: Reading)
         requires { length self.old + 24 ≤ N }
-        ensures { self.new ≡ self.old ++ costs reading }
+        ensures line { self.new ≡ self.old ++ costs reading }
+        ensures most { length self.new ≤ length self.old + 24 }
     {
         self.put_spaced(reading.cost);
         self.put_byte(b' ');
@@ -128,7 +129,8 @@ impl<const N: usize> Text<N> {
     // A line of a word and a number of at most 10 digits.
     pub fn put_line(&mut self, word: &[u8], number: u32)
         requires { length self.old + (length word.now + 12) ≤ N }
-        ensures { self.new ≡ self.old ++ number_line word.now number }
+        ensures line { self.new ≡ self.old ++ number_line word.now number }
+        ensures most { length self.new ≤ length self.old + (length word.now + 12) }
     {
         self.put_bytes(word);
         self.put_spaced(number);

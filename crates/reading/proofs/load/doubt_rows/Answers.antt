@@ -8,11 +8,12 @@ use Rattle.reading.proofs.load.doubt_rows.Goals as goal
 
 pub returns : goal.returns
 returns c =
-    let g = c.args.g in
+    let a = c.args.a in
+    let b = c.args.b in
     let u = c.args.doubts.now in
     let p = c.rows.ensures in
     passed_rest (record {
       size = p.size;
-      done = λ r l. let h = p.done r l in part_line g.b r u (search rules) (omega (arith, c.requires, row_in r g.a g.b l));
+      done = λ r l. let h = p.done r l in part_line b r u (search rules) (omega (arith, c.requires.2, row_in r a b l));
       todo = p.todo;
-    }) λ r l. no_line g.a g.b r u l c.requires
+    }) λ r l. no_line a b r u l c.requires.2

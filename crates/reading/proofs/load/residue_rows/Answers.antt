@@ -8,11 +8,12 @@ use Rattle.reading.proofs.load.residue_rows.Goals as goal
 
 pub returns : goal.returns
 returns c =
-    let g = c.args.g in
+    let a = c.args.a in
+    let b = c.args.b in
     let s = c.args.symbols.now in
     let p = c.rows.ensures in
     passed_rest (record {
       size = p.size;
-      done = λ r l. let h = p.done r l in residues_part g.b r s (search rules) (omega (arith, c.requires, row_in r g.a g.b l));
+      done = λ r l. let h = p.done r l in residues_part b r s (search rules) (omega (arith, c.requires.2, row_in r a b l));
       todo = p.todo;
-    }) λ r l. no_residues g.a g.b r s l c.requires
+    }) λ r l. no_residues a b r s l c.requires.2

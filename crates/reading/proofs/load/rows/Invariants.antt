@@ -9,4 +9,4 @@ use Rattle.reading.proofs.load.rows.Given as goal
 
 abbrev pub invariant-loop-r : goal.invariant-loop-r
 invariant-loop-r g l =
-    Passed 16 [] (λ _ x. x ≡ replicate 16 l.fn.zero) (λ r x. FnReturnsAt g.F.Fn l.load (line l.g.b r l.bytes) x) l.rows l.r
+    Passed 16 [] (λ _ x. x ≡ replicate 16 l.fn.zero) (λ r x. FnReturnsAt g.F.Fn l.load (line l.b r l.bytes) x) l.rows l.r

@@ -10,10 +10,14 @@ use Rattle.reading.proofs.MarkLoaded.{mark_received, mark-refused, mark-under, m
 use Rattle.reading.proofs.mark.decoded.Goals as goal
 
 pub doubt_rows-u-requires : goal.doubt_rows-u-requires
-doubt_rows-u-requires c = c.requires.photo.doubts ∙ mark_cells_lem (says c.args.plan)
+doubt_rows-u-requires c =
+    let g = c.args.plan.grid in
+    (g.fit.rows, g.fit.columns, c.requires.photo.doubts ∙ mark_cells_lem (says c.args.plan))
 
 pub residue_rows-s-requires : goal.residue_rows-s-requires
-residue_rows-s-requires c = c.requires.photo.symbols ∙ mark_cells_lem (says c.args.plan)
+residue_rows-s-requires c =
+    let g = c.args.plan.grid in
+    (g.fit.rows, g.fit.columns, c.requires.photo.symbols ∙ mark_cells_lem (says c.args.plan))
 
 pub decode-requires : goal.decode-requires
 decode-requires c =

@@ -1,6 +1,6 @@
 -- `text::Text::put_costs` meets its contract: the line's end is at most 24 bytes, since the numbers have 32 bits. Assumes
 -- nothing.
-use Rattle.std.proofs.Common.{◌≤◌, length, length-append, arith, ap, append_assoc}
+use Rattle.std.proofs.Common.{◌≡◌, ◌++◌, ◌≤◌, length, length-append, arith, ap, append_assoc}
 use mir.Syntax.{w32}
 use mir.Val.{SFits}
 use mir.Facts.{to_z-of_z}
@@ -47,5 +47,8 @@ put_byte-requires-2 g c =
 pub returns : goal.returns
 unfolding costs
 returns g c =
+    let l = simp length-append at (line g (goal.at.returns g c).Start) in
     let q = rw (to_z-of_z (margin-fits g (goal.at.returns g c).Start)) at c.put_signed.ensures in
-    rw (c.put_byte-2.ensures, q, c.put_byte.ensures, c.put_spaced.ensures) (simp append_assoc)
+    let e : c.put_byte-2.new.self ≡ c.args.self.now ++ costs c.args.reading =
+    rw (c.put_byte-2.ensures, q, c.put_byte.ensures, c.put_spaced.ensures) (simp append_assoc) in
+    record { line = e; most = omega (arith, l, simp length-append at (ap length e)) }

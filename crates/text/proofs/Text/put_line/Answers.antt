@@ -1,5 +1,5 @@
 -- `text::Text::put_line` meets its contract. Assumes nothing.
-use Rattle.std.proofs.Common.{length-append, arith, length, ap, append_assoc}
+use Rattle.std.proofs.Common.{◌≡◌, ◌++◌, length-append, arith, length, ap, append_assoc}
 use Rattle.definitions.specs.Printed.{number_line}
 use Rattle.definitions.proofs.Printed.{line-length}
 use Rattle.text.proofs.Text.put_line.Goals as goal
@@ -20,4 +20,8 @@ put_byte-requires g c =
 
 pub returns : goal.returns
 unfolding number_line
-returns g c = rw (c.put_byte.ensures, c.put_spaced.ensures, c.put_bytes.ensures) (simp append_assoc)
+returns g c =
+    let l = simp length-append at (line-length c.args.word.now c.args.number c.ranges.number.fits) in
+    let e : c.put_byte.new.self ≡ c.args.self.now ++ number_line c.args.word.now c.args.number =
+    rw (c.put_byte.ensures, c.put_spaced.ensures, c.put_bytes.ensures) (simp append_assoc) in
+    record { line = e; most = omega (arith, l, simp length-append at (ap length e)) }

@@ -8,4 +8,4 @@ put_costs-requires c = rw (c.put_bytes.ensures, c.new-text.ensures) (omega arith
 
 pub returns : goal.returns
 unfolding answer_line
-returns c = rw (c.put_bytes.ensures, c.new-text.ensures) at c.put_costs.ensures
+returns c = rw (c.put_bytes.ensures, c.new-text.ensures) at c.put_costs.ensures.line
