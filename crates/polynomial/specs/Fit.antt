@@ -1,6 +1,6 @@
--- A grid as the laws name it.
+-- A grid as a whole.
 --
---   Fit g           the numbers of the grid fit together (Fits.antt)
+--   Fit g           the numbers of the grid fit together, which each holds of itself (Fits.antt)
 --   grid_radius g   the full doubt times the distance of two records on it: at most one record costs less
 --
 -- What this file is for: the radius of a grid, for those who write and measure marks and for those who decode them.

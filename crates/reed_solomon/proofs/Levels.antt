@@ -4,10 +4,12 @@
 --   Going g s u l r c t       the decoder before the cell of the key c: l are the keys of all cells, r those of the cells that
 --                             have not entered, and t its pairs
 --   Within n u level t        no cell over the level has entered
+--   going_within              no cell over the level of the next key has entered
 --   going_passed              after a level nothing up to it is under the radius
 --   first-keys, going_first   the state after the first k + 1 cells
 --   going_keys, going_holds   what the state says of the keys that are left and of the pairs after an entry
---   going_enter               a cell enters, and the trial after its entry failed
+--   going_entered, going_enter
+--                             a cell enters, and the trial after its entry failed
 --   doubtful_decoded          where the doubts come to the radius there is no answer
 --   none-decoded              after the last level there is none
 --   found-decoded             what was measured under the radius is the only answer
@@ -136,7 +138,7 @@ pub record Going (g : Axis) (s u l r : List ℕ) (c : ℕ) (t : Pairs) : Type 0 
   pub now : Refuted g s u t.entered
 
 -- no cell over the level has entered
-abbrev Within : (n : ℕ) (u : List ℕ) (level : ℕ) (t : Pairs) → Type 0
+abbrev pub Within : (n : ℕ) (u : List ℕ) (level : ℕ) (t : Pairs) → Type 0
 Within n u level t = (j : ℕ) → j < n → at t.entered j ≢ 0 → at u j ≤ level
 
 module _ {g : Axis} {s u l : List ℕ} (R : Received g s u) (K : l ≡ row λ j. key g.n (at u j) j) where
@@ -163,7 +165,7 @@ module _ {g : Axis} {s u l r : List ℕ} {c : ℕ} {t : Pairs} (G : Going g s u 
       let above = left-above G.entering (placed G.received G.keys) G.next j (omega (arith, most)) z in
       omega (arith, key-at G.received G.keys j i, above)
 
-  going_within : Within g.n u (c / 16) t
+  pub going_within : Within g.n u (c / 16) t
   going_within j i z = omega (arith, entered-key j i z)
 
   -- the keys that are left, without the next one, are small
@@ -171,7 +173,7 @@ module _ {g : Axis} {s u l r : List ℕ} {c : ℕ} {t : Pairs} (G : Going g s u 
   going_keys e = without_most c r (left-most G.entering (placed G.received G.keys)) e
 
   -- after a level its cells and those below have entered
-  going_passed : {level : ℕ} → Within g.n u level t → level < c / 16 → RefutedBelow g s u level →
+  pub going_passed : {level : ℕ} → Within g.n u level t → level < c / 16 → RefutedBelow g s u level →
       RefutedBelow g s u (c / 16)
   going_passed {level} W h P = record {
     far = λ h j i o w. elim (dec_lt (at u j) level) [
@@ -239,17 +241,17 @@ module _ {g : Axis} {s u l r : List ℕ} {c : ℕ} {t : Pairs} (G : Going g s u 
         ap (λ w. at w (c % 16)) E.marks
         ∙ get_or-set_same t.entered (c % 16) 1 0 (omega (arith, i, G.holds.shaped.size))
 
-    within_enter : Within g.n u (c / 16) t'
-    within_enter j i z = elim (ℕ_discrete j (c % 16)) [
+    within_enter : {level : ℕ} → c / 16 ≡ level → Within g.n u level t → Within g.n u level t'
+    within_enter e W j i z = elim (ℕ_discrete j (c % 16)) [
       | yes o ↦ omega (arith, ap (at u) o, going_cell.2)
-      | no o ↦ going_within G j i λ a. z (entered-other j o ∙ a)
+      | no o ↦ W j i λ a. z (entered-other j o ∙ a)
     ]
 
     -- it enters, and the trial after its entry failed; the next key is a later one
-    pub going_enter : {r' : List ℕ} {c' : ℕ} → r' ≡ row (λ j. cond (eqb (at r j) c) taken (at r j)) → Least 16 r' c' →
-        RefutedBelow g s u (c / 16) → Refuted g s u t'.entered →
-        Going g s u l r' c' t' × RefutedBelow g s u (c' / 16) × (taken - c' < taken - c)
-    going_enter {r'} {c'} d L P now = (G', passed, omega (arith, small, later))
+    pub going_entered : {r' : List ℕ} {c' level : ℕ} → r' ≡ row (λ j. cond (eqb (at r j) c) taken (at r j)) → Least 16 r' c' →
+        c / 16 ≡ level → Within g.n u level t → Refuted g s u t'.entered →
+        Going g s u l r' c' t' × Within g.n u level t' × (c < c') × (c < taken)
+    going_entered {r'} {c'} d L e W now = (G', within_enter e W, later, small)
       where
         Q : Placed l
         Q = placed G.received G.keys
@@ -270,9 +272,17 @@ module _ {g : Axis} {s u l r : List ℕ} {c : ℕ} {t : Pairs} (G : Going g s u 
             let k = next-cell G.entering Q G.next small in
             omega (arith, k.1, entered_below G'.entering Q G'.next (c % 16) i λ z. omega (arith, entered-cell, z))
 
-        passed : RefutedBelow g s u (c' / 16)
-        passed = elim (dec_lt (c / 16) (c' / 16)) [
-          | yes o ↦ going_passed G' within_enter o P
+    -- then nothing below the level of the next one is under the radius
+    pub going_enter : {r' : List ℕ} {c' : ℕ} → r' ≡ row (λ j. cond (eqb (at r j) c) taken (at r j)) → Least 16 r' c' →
+        RefutedBelow g s u (c / 16) → Refuted g s u t'.entered →
+        Going g s u l r' c' t' × RefutedBelow g s u (c' / 16) × (taken - c' < taken - c)
+    going_enter {r'} {c'} d L P now =
+        let (G', W, later, _) = going_entered d L refl (going_within G) now in
+        (G', passed G' W later, omega (arith, small, later))
+      where
+        passed : Going g s u l r' c' t' → Within g.n u (c / 16) t' → c < c' → RefutedBelow g s u (c' / 16)
+        passed G' W later = elim (dec_lt (c / 16) (c' / 16)) [
+          | yes o ↦ going_passed G' W o P
           | no o ↦ let e : c' / 16 ≡ c / 16 = omega (arith, later) in rw e P
         ]
 

@@ -5,6 +5,7 @@
 --   reduced, plus, times            what the rows of remainders stand for: the numbers, a mixed row, a shifted one
 --   ones_at, zeros-row, ones_row    rows of ones and of zeros
 --   entered_of                      the marks with that of a cell set
+--   first_kept, second_kept         the first pair is 0 at the cell, or the second, and the other one is multiplied
 --   first_used, second_used         the first pair is used, or the second
 --
 -- What this file is for: the contract of `enter` from those of the functions on rows. Assumes nothing.
@@ -97,21 +98,30 @@ enters_of {r} {t} h e first second v = record {
 
 -- the two ways to use the pairs
 module _ {p k r : ℕ} {x w : List ℕ} {t : Pairs} (z : 0 < p) (i : at x r ≤ p) (d : w ≡ row (λ j. (at x j + (p - at x r)) % p))
-    (h : Shaped p t) {f g : Pair} where
-  pub first_used : t.first.degree ≤ t.second.degree + k → Lifts p w r t.first t.second f g →
-      Enters p k x r t (record { first = f; second = g; entered = set t.entered r 1 })
-  first_used low (kept o e M) = enters_of h.size refl (rw e h.first) (multiplied_formed z M) λ n y b l m v.
-      rw (e, M.degree, add-one t.second.degree) (kept1 v m l (same o) (times z b r x i d t.second.d M.d)
+    (h : Shaped p t) where
+  pub first_kept : {g : Pair} → at t.first.d r ≡ 0 → Multiplied p w t.second g →
+      Enters p k x r t (record { first = t.first; second = g; entered = set t.entered r 1 })
+  first_kept o M = enters_of h.size refl h.first (multiplied_formed z M) λ n y b l m v.
+      rw (M.degree, add-one t.second.degree) (kept1 v m l (same o) (times z b r x i d t.second.d M.d)
       (times z b r x i d t.second.e M.e))
-  first_used low (freed c R M F) = enters_of h.size refl (multiplied_formed z M) (freed_formed z F) λ n y b l m v.
-      rw (M.degree, F.degree, add-one t.first.degree) (freed1 v m l c low R.zero (times z b r x i d t.first.d M.d)
-      (times z b r x i d t.first.e M.e) (plus z b c t.second.d t.first.d F.d) (plus z b c t.second.e t.first.e F.e))
 
-  pub second_used : t.second.degree + k < t.first.degree → Lifts p w r t.second t.first f g →
-      Enters p k x r t (record { first = g; second = f; entered = set t.entered r 1 })
-  second_used high (kept o e M) = enters_of h.size refl (multiplied_formed z M) (rw e h.second) λ n y b l m v.
-      rw (e, M.degree, add-one t.first.degree) (kept2 v m l (same o) (times z b r x i d t.first.d M.d)
+  pub second_kept : {g : Pair} → at t.second.d r ≡ 0 → Multiplied p w t.first g →
+      Enters p k x r t (record { first = g; second = t.second; entered = set t.entered r 1 })
+  second_kept o M = enters_of h.size refl (multiplied_formed z M) h.second λ n y b l m v.
+      rw (M.degree, add-one t.first.degree) (kept2 v m l (same o) (times z b r x i d t.first.d M.d)
       (times z b r x i d t.first.e M.e))
-  second_used high (freed c R M F) = enters_of h.size refl (freed_formed z F) (multiplied_formed z M) λ n y b l m v.
-      rw (M.degree, F.degree, add-one t.second.degree) (freed2 v m l c high R.zero (times z b r x i d t.second.d M.d)
-      (times z b r x i d t.second.e M.e) (plus z b c t.first.d t.second.d F.d) (plus z b c t.first.e t.second.e F.e))
+
+  module _ {f g : Pair} where
+    pub first_used : t.first.degree ≤ t.second.degree + k → Lifts p w r t.first t.second f g →
+        Enters p k x r t (record { first = f; second = g; entered = set t.entered r 1 })
+    first_used low (kept o e M) = rw e (first_kept o M)
+    first_used low (freed c R M F) = enters_of h.size refl (multiplied_formed z M) (freed_formed z F) λ n y b l m v.
+        rw (M.degree, F.degree, add-one t.first.degree) (freed1 v m l c low R.zero (times z b r x i d t.first.d M.d)
+        (times z b r x i d t.first.e M.e) (plus z b c t.second.d t.first.d F.d) (plus z b c t.second.e t.first.e F.e))
+
+    pub second_used : t.second.degree + k < t.first.degree → Lifts p w r t.second t.first f g →
+        Enters p k x r t (record { first = g; second = f; entered = set t.entered r 1 })
+    second_used high (kept o e M) = rw e (second_kept o M)
+    second_used high (freed c R M F) = enters_of h.size refl (freed_formed z F) (multiplied_formed z M) λ n y b l m v.
+        rw (M.degree, F.degree, add-one t.second.degree) (freed2 v m l c high R.zero (times z b r x i d t.second.d M.d)
+        (times z b r x i d t.second.e M.e) (plus z b c t.first.d t.second.d F.d) (plus z b c t.first.e t.second.e F.e))
