@@ -5,6 +5,7 @@ ghost use Rattle.definitions.specs.Plan.{check_number};
 ghost use Rattle.definitions.specs.Sets.{set_bytes, start_memory, add_number, add_memory, withdraw_number, withdraw_memory};
 
 use definitions::{FLAGS, PLACE_BYTES, PLACES, PLAN_BYTES, Refusal, SET_BYTES, UNREAD};
+use lent::fill;
 use plan::Plan;
 
 // Starts a set from a plan, with no photograph held. The plan's refusals.
@@ -15,8 +16,8 @@ pub fn start(set: &mut [u8], plan: &[u8]) -> Result<(), Refusal>
 {
     plan::check(plan)?;
     set[0..FLAGS].copy_from_slice(plan);
-    set[FLAGS..PLACES].fill(0);
-    set[PLACES..SET_BYTES].fill(UNREAD);
+    fill(&mut set[FLAGS..PLACES], 0);
+    fill(&mut set[PLACES..SET_BYTES], UNREAD);
     Ok(())
 }
 
@@ -52,7 +53,7 @@ pub fn withdraw(set: &mut [u8], k: u32) -> Result<(), Refusal>
     Refusal::NotHeld.when(8 < k)?;
     Refusal::NotHeld.when(set[FLAGS + k as usize] == 0)?;
     let at = PLACES + k as usize * PLACE_BYTES;
-    set[at..at + PLACE_BYTES].fill(UNREAD);
+    fill(&mut set[at..at + PLACE_BYTES], UNREAD);
     set[FLAGS + k as usize] = 0;
     Ok(())
 }

@@ -18,8 +18,8 @@ unfolding start_memory
 returns-clause-memory c =
     let e = c.in_ok-check.ensures in
     put-started c.args.set.now c.args.plan.now _ _ _ _ _ c.requires (sound _ (sym e)).whole
-    c.copy_from_slice.ensures.after (omega arith) (c.fill.ensures.after (λ y h. h)) (omega arith)
-    (c.fill-2.ensures.after (λ y h. h)) ∙ gives _ _ _ e refl
+    c.copy_from_slice.ensures.after (omega arith) c.fill.ensures (omega arith)
+    c.fill-2.ensures ∙ gives _ _ _ e refl
 
 pub copy_from_slice-requires : goal.copy_from_slice-requires
 copy_from_slice-requires c =

@@ -32,5 +32,5 @@ unfolding withdraw_memory
 returns c =
     let e = withdraw-at c.args.set.now c.args.k 2 (c.in_ok-when.ensures & (rw c.in_ok-when-2.ensures) & tt) in record {
       number = e;
-      memory = put-blank c.args.set.now _ c.args.k _ (omega arith) (c.fill.ensures.after (λ y h. h)) ∙ gives _ _ _ e refl;
+      memory = put-blank c.args.set.now _ c.args.k _ (omega arith) c.fill.ensures ∙ gives _ _ _ e refl;
     }
