@@ -5,7 +5,7 @@
 
 mod answer;
 
-use answer::{ROOM, answer};
+use answer::{ROOM, TEXT, answer};
 use text::program::{deliver, fill, has_argument};
 
 fn main(rt: HostRuntime) {
@@ -17,5 +17,7 @@ fn main(rt: HostRuntime) {
     }
     let mut space = [0; ROOM];
     let came = fill(&mut rt.stdin(), &mut space);
-    deliver(&rt, "planwiden", answer(&space, came).as_bytes());
+    let mut text = [0; TEXT];
+    let n = answer(&space, came, &mut text);
+    deliver(&rt, "planwiden", &text[..n]);
 }

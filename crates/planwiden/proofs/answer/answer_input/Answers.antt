@@ -1,23 +1,35 @@
 -- `planwiden::answer::answer_input` meets its contract: by the outcome of the call. Assumes nothing.
-use Rattle.std.proofs.Common.{◌≡◌, ℕ, ◌*◌, ◌/◌, ◌≤◌, length, take, replicate, sym, ap, ◌∙◌, length-take, arith}
+use Rattle.std.proofs.Common.{◌≡◌, ℕ, List, ◌≤◌, length, take, ap, ◌∙◌, length-take, take-append-drop, arith}
 use Rattle.definitions.specs.Printed.{refused_line}
 use Rattle.definitions.proofs.Numbers.{number-some}
-use Rattle.definitions.proofs.Widening.{widen-filled, print_widened, print_refused}
+use Rattle.definitions.proofs.Widening.{widen-refused, widen-filled, print_widened, print_refused, widened_in_order}
 use Rattle.planwiden.proofs.answer.answer_input.Goals as goal
 
--- the room for the plans has as many bytes as they need
-front : (n : ℕ) → n ≤ 40000 → length {A = ℕ} (take n (replicate 40000 0)) ≡ n
-front n l = simp length-take (omega arith)
+-- the front of the text has as many bytes as the plans need
+front : (n : ℕ) (text : List ℕ) → n ≤ length text → length (take n text) ≡ n
+front n text l = simp length-take (omega arith)
 
-pub returns-in-Err : goal.returns-in-Err
-returns-in-Err c =
-    let room = front (length c.args.old.now / 24 * 40) (omega (arith, c.requires)) in
-    c.refused.ensures ∙ ap refused_line c.number.ensures
-    ∙ print_refused _ _ room _ c.in-Err.ensures.number (number-some c.in-Err.refusal)
+pub returns-in-Ok-clause-length : goal.returns-in-Ok-clause-length
+returns-in-Ok-clause-length c =
+    let all = print_widened _ _ (front _ _ c.requires.0) c.in-Ok.ensures.number in
+    omega (arith, ap length all, (widened_in_order c.args.old.now).whole)
 
-pub returns : goal.returns
-returns c =
-    let e = c.in_default.ensures in
-    let room = front (length c.args.old.now / 24 * 40) (omega (arith, c.requires)) in
-    rw (c.put_bytes.ensures, c.new-text.ensures)
-    (e.buffer ∙ sym (widen-filled _ _ e.number) ∙ print_widened _ _ room e.number)
+pub returns-in-Ok-clause-decided : goal.returns-in-Ok-clause-decided
+returns-in-Ok-clause-decided c =
+    let e = c.in-Ok.ensures in
+    let all = print_widened _ _ (front _ _ c.requires.0) e.number in
+    rw (e.buffer, ← widen-filled _ _ e.number, all)
+
+pub returns-in-Err-clause-length : goal.returns-in-Err-clause-length
+returns-in-Err-clause-length c =
+    let line = print_refused _ _ (front _ _ c.requires.0) _ c.in-Err.ensures.number (number-some c.in-Err.refusal) in
+    c.put.ensures.length ∙ ap length (c.as_bytes.ensures ∙ c.refused.ensures ∙ ap refused_line c.number.ensures ∙ line)
+
+pub returns-in-Err-clause-decided : goal.returns-in-Err-clause-decided
+returns-in-Err-clause-decided c =
+    let e = c.in-Err.ensures in
+    let refused = number-some c.in-Err.refusal in
+    let line = print_refused _ _ (front _ _ c.requires.0) _ e.number refused in
+    let kept = e.buffer ∙ widen-refused _ _ (λ z. refused (e.number ∙ z)) in
+    rw (kept, take-append-drop) at (rw (c.as_bytes.ensures ∙ c.refused.ensures ∙ ap refused_line c.number.ensures ∙ line)
+    at c.put.ensures.line)
